@@ -1,0 +1,352 @@
+-- The portable heap dump, as 01 lays it out: the header, the record layouts, the class cache, the tables, and what a
+-- reading of any bytes gives. Every promise about reading cites these definitions, and a reader must believe them.
+-- A dump and the tables are lists of numbers, a byte being one below 256. A reply is 01's number.
+use Prim.Native.Nat.{ℕ, zero, suc, _+_, _-_, _/_, _%_, _^_}
+use mathlib.Core.Bool.{Bool, true, false, not}
+use mathlib.Core.List.{List, [], _∷_, _++_}
+use lib.ListN.{length, getD, set}
+use lib.Dec.{leb, ltb, eqb}
+use Rattle.layout.specs.Numbers.{pick, both, either}
+use Rattle.layout.specs.Layout.{Layout, yield, refuse, Outcome, whole, stops, run, _>>=_, _>>_, position, raw, field, check, need, reply-of, missing-of}
+use Rattle.layout.specs.Fields.{exactly, below, address, reference, count, string, no-text}
+use Rattle.layout.specs.declared.Stop.{Stop}
+use Rattle.layout.specs.declared.Text.{Text}
+use Rattle.layout.specs.declared.Maybe.{Maybe}
+use Rattle.layout.specs.declared.Maybe.the-variants.{Just, Nothing}
+use Rattle.phd.specs.declared.classes.Cache.{Cache}
+use Rattle.phd.specs.declared.Facts.{Facts}
+use Rattle.phd.specs.declared.Form.{Form}
+use Rattle.phd.specs.declared.Form.the-variants.{Short, Medium, Long, Class, ObjectArray, Primitive, LongPrimitive}
+use Rattle.phd.specs.declared.Tagged.{Tagged}
+use Rattle.phd.specs.declared.Tagged.the-variants.{Begins, Other}
+use Rattle.phd.specs.declared.Shape.{Shape}
+use Rattle.phd.specs.declared.Front.{Front}
+use Rattle.phd.specs.declared.Span.{Span}
+use Rattle.phd.specs.declared.Tail.{Tail}
+
+-- a dump is at most this many bytes
+unfoldable pub limit : ℕ
+limit = 0x40000000
+
+-- the numbers of a row
+abbrev pub row-width : ℕ
+row-width = 12
+
+-- whether the bit of the value m (1, 2, 4, 8 ..) is set
+unfoldable pub bit : ℕ → ℕ → Bool
+bit m x = eqb (x / m % 2) 1
+
+-- addresses, class words and references lie in 0 to 2^W - 1
+unfoldable pub highest : ℕ → ℕ
+highest word = 2 ^ word - 1
+
+-- ---- the header
+
+unfoldable pub same : List ℕ → List ℕ → Bool
+same [] [] = true
+same [] (y ∷ ys) = false
+same (x ∷ xs) [] = false
+same (x ∷ xs) (y ∷ ys) = both (eqb x y) (same xs ys)
+
+-- `portable heap dump`
+unfoldable pub opening : List ℕ
+opening =
+    0x70 ∷ 0x6F ∷ 0x72 ∷ 0x74 ∷ 0x61 ∷ 0x62 ∷ 0x6C ∷ 0x65 ∷ 0x20 ∷ 0x68 ∷ 0x65 ∷ 0x61 ∷ 0x70 ∷ 0x20 ∷ 0x64 ∷ 0x75 ∷ 0x6D ∷ 0x70 ∷ []
+
+-- its bytes, without the length before them
+unfoldable pub opening-bytes : Layout (Unit {0})
+opening-bytes = do
+  text ← raw 18
+  check 3 (same text opening)
+
+-- the opening string, the version, the flags and the byte 1; the flags are what is handed on
+unfoldable pub preamble : Layout ℕ
+preamble = do
+  exactly 2 18 3
+  opening-bytes
+  exactly 4 6 4
+  flags ← below 4 8 5
+  exactly 1 1 6
+  yield flags
+
+-- the tag after the VM string: 2 ends the header, and a second VM string is refused
+unfoldable pub after-vm : Layout (Unit {0})
+after-vm = do
+  tag ← field 1
+  check 7 (not (eqb tag 4))
+  check 6 (eqb tag 2)
+
+-- the header records and the byte 2 that ends them: none, or one VM string
+unfoldable pub header-records : Layout Text
+header-records = do
+  tag ← field 1
+  pick (eqb tag 2) (yield no-text) (pick (eqb tag 4) (do
+    vm ← string 0x20 0
+    after-vm
+    yield vm) (refuse 6))
+
+unfoldable pub header-facts : ℕ → Text → Facts
+header-facts flags vm = record { word = pick (bit 1 flags) 64 32; hashed = bit 2 flags; openj9 = bit 4 flags; vm = vm }
+
+unfoldable pub header : Layout Facts
+header = do
+  flags ← preamble
+  vm ← header-records
+  exactly 1 2 6
+  yield (header-facts flags vm)
+
+-- the facts before both bytes 2 are read
+unfoldable pub no-facts : Facts
+no-facts = record { word = 0; hashed = false; openj9 = false; vm = no-text }
+
+-- ---- the cache of classes: four slots, filled in turn, 0, 1, 2, 3, 0 and on
+
+unfoldable pub empty : Cache
+empty = record { words = 0 ∷ 0 ∷ 0 ∷ 0 ∷ []; puts = 0 }
+
+-- `puts` counts what was put, up to 7 and then 4 to 7 over and over: the next slot is puts % 4.
+unfoldable pub put : Cache → ℕ → Cache
+put c w = record { words = set (c .words) (c .puts % 4) w; puts = pick (ltb (c .puts) 7) (c .puts + 1) 4 }
+
+-- the class word in a slot, if it was filled
+unfoldable pub slot : Cache → ℕ → Maybe
+slot c i = pick (ltb i (c .puts)) (Just (getD (c .words) i 0)) Nothing
+
+-- ---- tags and flag bytes
+
+unfoldable pub tagged : ℕ → Tagged
+tagged t =
+    pick (leb 0x80 t) (Begins Short)
+    (pick (leb 0x40 t) (Begins Medium)
+    (pick (leb 0x20 t) (Begins Primitive)
+    (pick (eqb t 4) (Begins Long)
+    (pick (eqb t 6) (Begins Class)
+    (pick (eqb t 7) (Begins LongPrimitive)
+    (pick (eqb t 8) (Begins ObjectArray) Other))))))
+
+-- a tag that begins no record is refused
+unfoldable pub formed : Tagged → Layout Form
+formed (Begins fm) = yield fm
+formed Other = refuse 6
+
+-- the class of a short record, out of the slot that its tag names; other forms ask for none
+unfoldable pub known-class : Cache → ℕ → Maybe
+known-class c t = pick (leb 0x80 t) (slot c (t / 0x20 % 4)) (Just 0)
+
+-- The moved bit is 0x02, in a class record 0x08; the hashed bit is 0x01, and a class record has none.
+unfoldable pub moved-bit : ℕ → ℕ → Bool
+moved-bit t f = pick (eqb t 6) (bit 0x08 f) (bit 0x02 f)
+
+unfoldable pub hashed-bit : ℕ → ℕ → Bool
+hashed-bit t f = pick (eqb t 6) false (bit 0x01 f)
+
+-- the flag byte, where the form has one, else 0: in an all-hashed dump its bits for hashing are clear
+unfoldable pub flag-byte : Facts → ℕ → Layout ℕ
+flag-byte h t = do
+  f ← field (pick (ltb t 0x20) 1 0)
+  check 11 (not (both (h .hashed) (either (moved-bit t f) (hashed-bit t f))))
+  yield f
+
+-- hash kinds: 0 none, 1 hashed with no stored hash, 2 a stored 32-bit hash, 3 a 16-bit hash
+unfoldable pub hash-kind : Facts → ℕ → ℕ → ℕ
+hash-kind h t f = pick (h .hashed) 3 (pick (moved-bit t f) 2 (pick (hashed-bit t f) 1 0))
+
+unfoldable pub hash-bytes : ℕ → ℕ
+hash-bytes k = pick (eqb k 2) 4 (pick (eqb k 3) 2 0)
+
+-- ---- the seven record layouts: all have one order of fields, and what a form lacks has no bytes and reads as 0
+
+-- a width code: 0 byte, 1 short, 2 int, 3 long
+unfoldable pub width : ℕ → ℕ
+width c = 2 ^ c
+
+-- the numbers of a shape in their order, for the table below
+abbrev pub shaped : ℕ → ℕ → ℕ → ℕ → ℕ → ℕ → ℕ → ℕ → ℕ → ℕ → ℕ → ℕ → Bool → ℕ → Shape
+shaped kind gap word len inst superclass name counted count link size truelen cached prim = record {
+  kind = kind;
+  gap = gap;
+  word = word;
+  len = len;
+  inst = inst;
+  superclass = superclass;
+  name = name;
+  counted = counted;
+  count = count;
+  link = link;
+  size = size;
+  truelen = truelen;
+  cached = cached;
+  prim = prim;
+}
+
+-- 01's "Record layouts", from W in bytes, the form, the tag t and the flag byte f. The bits are found by 01's masks:
+-- t / 0x20 % 4 is the two bits 0x60. The columns: kind; bytes of gap, class word, array length, instance size,
+-- superclass word, name length, count; the count in the tag; bytes of a reference, of size and true length; cached; type.
+unfoldable pub shape : ℕ → Form → ℕ → ℕ → Shape
+shape w Short t f = shaped 2 (width (t / 0x04 % 2)) 0 0 0 0 0 0 (t / 0x08 % 4) (width (t % 4)) 0 0 false 0
+shape w Medium t f = shaped 2 (width (t / 0x04 % 2)) w 0 0 0 0 0 (t / 0x08 % 8) (width (t % 4)) 0 0 true 0
+shape w Long t f = shaped 2 (width (f / 0x40 % 4)) w 0 0 0 0 4 0 (width (f / 0x10 % 4)) 0 0 true 0
+shape w Class t f = shaped 1 (width (f / 0x40 % 4)) 0 0 4 w 2 4 0 (width (f / 0x10 % 4)) 0 0 false 0
+shape w ObjectArray t f = shaped 3 (width (f / 0x40 % 4)) w 0 0 0 0 4 0 (width (f / 0x10 % 4)) 4 4 false 0
+shape w Primitive t f = shaped 4 (width (t % 4)) 0 (width (t % 4)) 0 0 0 0 0 0 4 0 false (t / 0x04 % 8)
+shape w LongPrimitive t f =
+    shaped 4 (pick (bit 0x10 f) w 1) 0 (pick (bit 0x10 f) w 1) 0 0 0 0 0 0 4 0 false (f / 0x20 % 8)
+
+-- ---- one record
+
+-- the numbers before the name: `before` is the address of the record before, top the highest, and the hash has hb bytes
+unfoldable pub front : ℕ → ℕ → Shape → ℕ → Layout Front
+front top before sh hb = do
+  a ← address (sh .gap) before top
+  word ← field (sh .word)
+  len ← count (sh .len)
+  inst ← count (sh .inst)
+  hash ← field hb
+  superclass ← field (sh .superclass)
+  yield (record { address = a; word = word; len = len; inst = inst; hash = hash; superclass = superclass })
+
+-- a class's name, 1 to 65,535 bytes, each 0x21 to 0x7E
+unfoldable pub class-name : ℕ → Layout Text
+class-name n = pick (eqb n 0) (yield no-text) (string 0x21 1)
+
+-- how many references: in the tag, or counted in a field of its own
+unfoldable pub link-count : ℕ → ℕ → Layout ℕ
+link-count n known = pick (eqb n 0) (yield known) (count n)
+
+-- n references of w bytes each, of a record at the address a
+unfoldable pub references : ℕ → ℕ → ℕ → ℕ → Layout (List ℕ)
+references w a top zero = yield []
+references w a top (suc n) = do
+  r ← reference w a top
+  rs ← references w a top n
+  yield (r ∷ rs)
+
+-- references with where they stand
+pub record Links : Type 0 where
+  pub span : Span
+  pub list : List ℕ
+
+unfoldable pub links : ℕ → ℕ → ℕ → ℕ → Layout Links
+links w a top n = do
+  p ← position
+  rs ← references w a top n
+  yield (record { span = record { place = p; width = w; count = n }; list = rs })
+
+-- a true length is at least the count of references
+unfoldable pub true-length : ℕ → ℕ → Layout ℕ
+true-length w n = pick (eqb w 0) (yield 0) (do
+  t ← count w
+  check 12 (leb n t)
+  yield t)
+
+unfoldable pub tail : ℕ → ℕ → ℕ → Layout Tail
+tail size truelen n = do
+  z ← field size
+  t ← true-length truelen n
+  yield (record { size = z; truelen = t })
+
+-- the value of a field of w bytes, where there is one, else the other
+unfoldable pub there : ℕ → ℕ → ℕ → ℕ
+there w v other = pick (eqb w 0) other v
+
+-- The row: kind, address, class word, hash kind, hash, first reference's index, reference count, size, length, name
+-- place, name length, primitive type. `known` is the class of a short record.
+unfoldable pub row : ℕ → ℕ → ℕ → Shape → Front → Text → ℕ → Tail → List ℕ
+row index hk known sh v name n t =
+    sh .kind ∷ v .address ∷ there (sh .word) (v .word) (there (sh .superclass) (v .superclass) known) ∷ hk ∷ v .hash
+    ∷ index ∷ n ∷ there (sh .inst) (v .inst) (t .size) ∷ there (sh .truelen) (t .truelen) (v .len)
+    ∷ name .place ∷ name .len ∷ sh .prim ∷ []
+
+-- What comes next: the end tag, or a record with its row, its references, its address and the cache after it.
+pub data Item : Type 0 where
+  over : Item
+  item : List ℕ → Links → ℕ → Cache → Item
+
+-- the fields after the tag and the flag byte, in file order
+unfoldable pub fields : ℕ → ℕ → Cache → ℕ → ℕ → ℕ → Shape → Layout Item
+fields top before c index known hk sh = do
+  v ← front top before sh (hash-bytes hk)
+  name ← class-name (sh .name)
+  n ← link-count (sh .counted) (sh .count)
+  ls ← links (sh .link) (v .address) top n
+  t ← tail (sh .size) (sh .truelen) n
+  yield (item (row index hk known sh v name n t) ls (v .address) (pick (sh .cached) (put c (v .word)) c))
+
+-- a record behind its tag t, with `index` references before it
+unfoldable pub record-of : Facts → ℕ → Cache → ℕ → ℕ → Layout Item
+record-of h before c index t = do
+  fm ← formed (tagged t)
+  known ← need 10 (known-class c t)
+  f ← flag-byte h t
+  fields (highest (h .word)) before c index known (hash-kind h t f) (shape (h .word / 8) fm t f)
+
+-- the end tag, or a record whole
+unfoldable pub entry : Facts → ℕ → Cache → ℕ → Layout Item
+entry h before c index = do
+  t ← field 1
+  pick (eqb t 3) (yield over) (record-of h before c index t)
+
+-- ---- a reading
+
+-- What stands between records: the place of the next tag, the address before, the cache, and the tables filled so far.
+pub record State : Type 0 where
+  pub at : ℕ
+  pub address : ℕ
+  pub cache : Cache
+  pub rows : List ℕ
+  pub refs : List ℕ
+
+-- What a reading gives. `missing` is how many bytes the field lacked where it was cut, else 0.
+pub record Result : Type 0 where
+  pub reply : ℕ
+  pub place : ℕ
+  pub missing : ℕ
+  pub rows : List ℕ
+  pub refs : List ℕ
+  pub facts : Facts
+
+pub data Next : Type 0 where
+  go : State → Next
+  halt : Result → Next
+
+-- the reading ends with the tables as they are
+unfoldable pub ended : Facts → State → ℕ → ℕ → ℕ → Result
+ended h st reply place missing =
+    record { reply = reply; place = place; missing = missing; rows = st .rows; refs = st .refs; facts = h }
+
+-- What a record found does, with R numbers of room for rows and F for references. Room is asked last, rows before references.
+unfoldable pub settle : Facts → ℕ → ℕ → State → Outcome Item → Next
+settle h R F st (whole over n) = halt (ended h st 0 n 0)
+settle h R F st (whole (item r ls a c) n) =
+    pick (leb (length (st .rows) + row-width) R)
+    (pick (leb (length (st .refs) + length (ls .list)) F)
+    (go (record { at = n; address = a; cache = c; rows = st .rows ++ r; refs = st .refs ++ ls .list }))
+    (halt (ended h st 14 (st .at) 0)))
+    (halt (ended h st 13 (st .at) 0))
+settle h R F st (stops w) = halt (ended h st (reply-of w) (st .at) (missing-of w))
+
+-- one record of the dump s
+unfoldable pub step : Facts → List ℕ → ℕ → ℕ → State → Next
+step h s R F st = settle h R F st (run (entry h (st .address) (st .cache) (length (st .refs))) s (st .at))
+
+-- Record after record. The count is only so that the recursion ends: each record has a byte at least, so a count above the
+-- dump's length never runs out.
+unfoldable pub records : ℕ → Facts → List ℕ → ℕ → ℕ → State → Result
+records zero h s R F st = ended h st 0 (st .at) 0
+records (suc f) h s R F st = elim (step h s R F st) [ go st′ ↦ records f h s R F st′ | halt r ↦ r ]
+
+-- the state before the first record, whose tag stands at n
+unfoldable pub first : ℕ → State
+first n = record { at = n; address = 0; cache = empty; rows = []; refs = [] }
+
+-- the reading stops before the records
+unfoldable pub nothing : ℕ → ℕ → Result
+nothing reply missing = record { reply = reply; place = 0; missing = missing; rows = []; refs = []; facts = no-facts }
+
+unfoldable pub opened : List ℕ → ℕ → ℕ → Outcome Facts → Result
+opened s R F (whole h n) = records (suc limit) h s R F (first n)
+opened s R F (stops w) = nothing (reply-of w) (missing-of w)
+
+-- What reading the bytes s gives, with R numbers of room for rows and F for references.
+unfoldable pub reading : List ℕ → ℕ → ℕ → Result
+reading s R F = elim (leb (length s) limit) [ true ↦ opened s R F (run header s 0) | false ↦ nothing 2 0 ]
