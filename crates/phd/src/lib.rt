@@ -4,7 +4,6 @@ use layout::Text;
 
 mod classes;
 mod forms;
-mod header;
 
 pub use classes::Cache;
 
