@@ -10,7 +10,7 @@ use lib.Dec.{leb}
 use native.Mathlib.Omega.{arith}
 use native.Mathlib.Decide.{decLe}
 use borrow.Author.Tests.{le-leb, lt-leb}
-use Rattle.layout.specs.Numbers.{value}
+use Rattle.layout.specs.Numbers.{value, value-after}
 use Rattle.layout.specs.declared.Stop.{Stop}
 use Rattle.layout.specs.declared.Stop.the-variants.{Cut, Refused}
 use Rattle.layout.specs.declared.Maybe.{Maybe}
@@ -173,6 +173,11 @@ run-field n s at h = run-enough n (λ b. yield (value b)) s at h
 pub run-field-short : (n : ℕ) (s : List ℕ) (at : ℕ) → length s < at + n → run (field n) s at ≡ stops (Cut (at + n - length s))
 unfolding field
 run-field-short n s at h = run-short n (λ b. yield (value b)) s at h
+
+-- a field of no bytes is 0, wherever it stands
+pub run-none : (s : List ℕ) (at : ℕ) → at ≤ length s → run (field 0) s at ≡ whole 0 at
+unfolding value-after
+run-none s at h = let e : at + 0 ≡ at = omega arith in let l : at + 0 ≤ length s = omega arith in rw (run-field 0 s at l, e)
 
 pub run-raw : (n : ℕ) (s : List ℕ) (at : ℕ) → at + n ≤ length s → run (raw n) s at ≡ whole (take n (drop at s)) (at + n)
 unfolding run raw

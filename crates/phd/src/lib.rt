@@ -2,8 +2,8 @@
 // The definition of the format is specs/Phd.antt; the functions here are proved equal to its parts.
 use layout::Text;
 
-mod classes;
-mod forms;
+pub mod classes;
+pub mod forms;
 
 pub use classes::Cache;
 
