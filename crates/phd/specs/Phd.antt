@@ -21,6 +21,7 @@ use Rattle.phd.specs.declared.Tagged.{Tagged}
 use Rattle.phd.specs.declared.Tagged.the-variants.{Begins, Other}
 use Rattle.phd.specs.declared.Shape.{Shape}
 use Rattle.phd.specs.declared.Front.{Front}
+use Rattle.phd.specs.declared.Middle.{Middle}
 use Rattle.phd.specs.declared.Span.{Span}
 use Rattle.phd.specs.declared.Tail.{Tail}
 
@@ -194,16 +195,21 @@ shape w LongPrimitive t f =
 
 -- ---- one record
 
--- the numbers before the name: `before` is the address of the record before, top the highest, and the hash has hb bytes
-unfoldable pub front : ℕ → ℕ → Shape → ℕ → Layout Front
-front top before sh hb = do
+-- gap, class word and array length: `before` is the address of the record before, top the highest
+unfoldable pub front : ℕ → ℕ → Shape → Layout Front
+front top before sh = do
   a ← address (sh .gap) before top
   word ← field (sh .word)
   len ← count (sh .len)
+  yield (record { address = a; word = word; len = len })
+
+-- a class's instance size, the hash of hb bytes and the superclass word
+unfoldable pub middle : Shape → ℕ → Layout Middle
+middle sh hb = do
   inst ← count (sh .inst)
   hash ← field hb
   superclass ← field (sh .superclass)
-  yield (record { address = a; word = word; len = len; inst = inst; hash = hash; superclass = superclass })
+  yield (record { inst = inst; hash = hash; superclass = superclass })
 
 -- a class's name, 1 to 65,535 bytes, each 0x21 to 0x7E
 unfoldable pub class-name : ℕ → Layout Text
@@ -251,10 +257,10 @@ there w v other = pick (eqb w 0) other v
 
 -- The row: kind, address, class word, hash kind, hash, first reference's index, reference count, size, length, name
 -- place, name length, primitive type. `known` is the class of a short record.
-unfoldable pub row : ℕ → ℕ → ℕ → Shape → Front → Text → ℕ → Tail → List ℕ
-row index hk known sh v name n t =
-    sh .kind ∷ v .address ∷ there (sh .word) (v .word) (there (sh .superclass) (v .superclass) known) ∷ hk ∷ v .hash
-    ∷ index ∷ n ∷ there (sh .inst) (v .inst) (t .size) ∷ there (sh .truelen) (t .truelen) (v .len)
+unfoldable pub row : ℕ → ℕ → ℕ → Shape → Front → Middle → Text → ℕ → Tail → List ℕ
+row index hk known sh v m name n t =
+    sh .kind ∷ v .address ∷ there (sh .word) (v .word) (there (sh .superclass) (m .superclass) known) ∷ hk ∷ m .hash
+    ∷ index ∷ n ∷ there (sh .inst) (m .inst) (t .size) ∷ there (sh .truelen) (t .truelen) (v .len)
     ∷ name .place ∷ name .len ∷ sh .prim ∷ []
 
 -- What comes next: the end tag, or a record with its row, its references, its address and the cache after it.
@@ -262,15 +268,21 @@ pub data Item : Type 0 where
   over : Item
   item : List ℕ → Links → ℕ → Cache → Item
 
--- the fields after the tag and the flag byte, in file order
-unfoldable pub fields : ℕ → ℕ → Cache → ℕ → ℕ → ℕ → Shape → Layout Item
-fields top before c index known hk sh = do
-  v ← front top before sh (hash-bytes hk)
-  name ← class-name (sh .name)
+-- the fields from the reference count on, and the record whole
+unfoldable pub linked : ℕ → Cache → ℕ → ℕ → ℕ → Shape → Front → Middle → Text → Layout Item
+linked top c index known hk sh v m name = do
   n ← link-count (sh .counted) (sh .count)
   ls ← links (sh .link) (v .address) top n
   t ← tail (sh .size) (sh .truelen) n
-  yield (item (row index hk known sh v name n t) ls (v .address) (pick (sh .cached) (put c (v .word)) c))
+  yield (item (row index hk known sh v m name n t) ls (v .address) (pick (sh .cached) (put c (v .word)) c))
+
+-- the fields after the tag and the flag byte, in file order
+unfoldable pub fields : ℕ → ℕ → Cache → ℕ → ℕ → ℕ → Shape → Layout Item
+fields top before c index known hk sh = do
+  v ← front top before sh
+  m ← middle sh (hash-bytes hk)
+  name ← class-name (sh .name)
+  linked top c index known hk sh v m name
 
 -- a record behind its tag t, with `index` references before it
 unfoldable pub record-of : Facts → ℕ → Cache → ℕ → ℕ → Layout Item

@@ -7,6 +7,11 @@ pub mod forms;
 
 pub use classes::Cache;
 
+// The numbers of a row, and the bytes of the largest dump.
+pub const ROW: usize = 12;
+
+pub const LIMIT: usize = 0x4000_0000;
+
 // What the header says: W (32 or 64), all objects hashed, from OpenJ9, and the VM string.
 pub struct Facts {
     pub word: u64,
@@ -55,11 +60,15 @@ pub struct Shape {
     pub prim: u64,
 }
 
-// The numbers of a record before its name.
+// The first numbers of a record: its address, class word and array length.
 pub struct Front {
     pub address: u64,
     pub word: u64,
     pub len: u64,
+}
+
+// Those up to its name: a class's instance size, the hash and the superclass word.
+pub struct Middle {
     pub inst: u64,
     pub hash: u64,
     pub superclass: u64,

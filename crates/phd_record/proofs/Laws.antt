@@ -1,0 +1,34 @@
+-- References that are judged one at a time.
+use mathlib.Core.Path.{_≡_, refl, sym, ap, _∙_}
+use Prim.Native.Nat.{ℕ, _-_, _<_}
+use mathlib.Core.List.{List}
+use Rattle.layout.specs.Layout.{Outcome, whole, stops, onward, run}
+use Rattle.layout.specs.Fields.{outcome, reference}
+use Rattle.layout.specs.declared.Piece.{Piece}
+use Rattle.layout.specs.declared.Piece.the-variants.{Is, Stops}
+use Rattle.phd.specs.Phd.{references}
+use Rattle.phd.specs.References.{in-front, references-more}
+use Rattle.phd_record.specs.Found.{checked-of}
+use Rattle.phd_record.specs.declared.links.Checked.{Checked}
+use Rattle.phd_record.specs.declared.links.Checked.the-variants.{Fine, Broken}
+
+-- how a turn goes on from what it read
+abbrev pub on-from : Piece → (ℕ → Checked) → Checked
+on-from (Is a next) k = k next
+on-from (Stops w) k = Broken w
+
+-- the answer does not depend on the values
+forget : (r : ℕ) (o : Outcome (List ℕ)) → checked-of (in-front r o) ≡ checked-of o
+forget r (whole rs n) = refl
+forget r (stops w) = refl
+
+module _ (w base top : ℕ) (s : List ℕ) where
+  by-piece : (n : ℕ) (p : Piece)
+      → checked-of (onward (outcome p) (λ r q. in-front r (run (references w base top n) s q))) ≡ on-from p (λ next. checked-of (run (references w base top n) s next))
+  by-piece n (Is a next) = forget a (run (references w base top n) s next)
+  by-piece n (Stops x) = refl
+
+  -- a turn: what is left, from here, is what is left after the reference that was read
+  pub turn : (at left : ℕ) (p : Piece) → outcome p ≡ run (reference w base top) s at → 0 < left
+      → checked-of (run (references w base top left) s at) ≡ on-from p (λ next. checked-of (run (references w base top (left - 1)) s next))
+  turn at left p e h = rw (references-more w base top s left at h, ← e) (by-piece (left - 1) p)

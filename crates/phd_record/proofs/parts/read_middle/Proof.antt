@@ -1,0 +1,96 @@
+-- `read_middle` meets its contract: its three fields, one after another.
+use borrow.Author.Needs.{needs}
+use mathlib.Core.Path.{_≡_, sym, ap, _∙_}
+use Prim.Native.Nat.{_≤_}
+use native.Mathlib.Omega.{arith}
+use lib.ListN.{length}
+use Rattle.layout.specs.Layout.{whole, run, inside, field, run-then, run-yield}
+use Rattle.layout.specs.Fields.{outcome, count}
+use Rattle.phd.specs.Phd.{middle}
+use Rattle.phd_record.proofs.parts.read_middle.Statement.{statement}
+use Rattle.phd_record.proofs.parts.read_middle.Tie as tie
+
+-- the instance size
+module _ (c : tie.After-i) where
+  got-inst : let a = c .before .before .before .before .args in run (count (a .sh .inst)) (a .s .now) (a .at) ≡ whole (c .i .given .0 .0) (c .i .given .0 .1 .0)
+  got-inst = sym (c .before .before .count .ensures) ∙ ap outcome (c .i .given .1)
+
+  in-inst : let a = c .before .before .before .before .args in c .i .given .0 .1 .0 ≤ length (a .s .now)
+  in-inst = let a = c .before .before .before .before .args in inside (count (a .sh .inst)) (a .s .now) (a .at) _ _ (omega arith) got-inst
+
+-- the hash
+module _ (c : tie.After-h) where
+  got-hash : let a = c .before .before .before .before .before .before .before .before .args in run (field (a .hb)) (a .s .now) (c .before .before .before .before .i .given .0 .1 .0) ≡ whole (c .h .given .0 .0) (c .h .given .0 .1 .0)
+  got-hash = sym (c .before .before .field .ensures .0) ∙ ap outcome (c .h .given .1)
+
+  in-hash : let a = c .before .before .before .before .before .before .before .before .args in c .h .given .0 .1 .0 ≤ length (a .s .now)
+  in-hash = let a = c .before .before .before .before .before .before .before .before .args in inside (field (a .hb)) (a .s .now) (c .before .before .before .before .i .given .0 .1 .0) _ _ (in-inst (c .before .before .before .before)) got-hash
+
+-- the superclass word
+module _ (c : tie.After-superclass) where
+  got-superclass : let a = c .before .before .before .before .before .before .before .before .before .before .before .before .args in run (field (a .sh .superclass)) (a .s .now) (c .before .before .before .before .h .given .0 .1 .0) ≡ whole (c .superclass .given .0 .0) (c .superclass .given .0 .1 .0)
+  got-superclass = sym (c .before .before .field2 .ensures .0) ∙ ap outcome (c .superclass .given .1)
+
+  in-superclass : let a = c .before .before .before .before .before .before .before .before .before .before .before .before .args in c .superclass .given .0 .1 .0 ≤ length (a .s .now)
+  in-superclass = let a = c .before .before .before .before .before .before .before .before .before .before .before .before .args in inside (field (a .sh .superclass)) (a .s .now) (c .before .before .before .before .h .given .0 .1 .0) _ _ (in-hash (c .before .before .before .before)) got-superclass
+
+count-requires : tie.Need-count-requires
+count-requires c κs = search needs
+
+enum-known-i : tie.Need-enum-known-i
+enum-known-i c = search needs
+
+enum-known-w : tie.Need-enum-known-w
+enum-known-w c = search needs
+
+returns : tie.Need-returns
+unfolding middle
+returns c = rw (run-then, ← c .before .before .before .count .ensures, c .before .w .given .1)
+
+field-requires : tie.Need-field-requires
+field-requires c κs = (omega arith, in-inst (c .before))
+
+enum-known-h : tie.Need-enum-known-h
+enum-known-h c = search needs
+
+enum-known-w-2 : tie.Need-enum-known-w-2
+enum-known-w-2 c = search needs
+
+returns-2 : tie.Need-returns-2
+unfolding middle
+returns-2 c = rw (run-then, got-inst (c .before .before .before .before .before), run-then, ← c .before .before .before .field .ensures .0, c .before .w2 .given .1)
+
+field-requires-2 : tie.Need-field-requires-2
+field-requires-2 c κs = (omega arith, in-hash (c .before))
+
+enum-known-superclass : tie.Need-enum-known-superclass
+enum-known-superclass c = search needs
+
+enum-known-w-3 : tie.Need-enum-known-w-3
+enum-known-w-3 c = search needs
+
+returns-3 : tie.Need-returns-3
+unfolding middle
+returns-3 c = rw (run-then, got-inst (c .before .before .before .before .before .before .before .before .before), run-then, got-hash (c .before .before .before .before .before), run-then, got-superclass (c .before), run-yield)
+
+returns-4 : tie.Need-returns-4
+unfolding middle
+returns-4 c = rw (run-then, got-inst (c .before .before .before .before .before .before .before .before .before), run-then, got-hash (c .before .before .before .before .before), run-then, ← c .before .before .before .field2 .ensures .0, c .before .w3 .given .1)
+
+pub read-middle-spec : {M : Type 1} → statement M
+read-middle-spec =
+    tie.close
+    (tie.spec
+    count-requires
+    enum-known-i
+    enum-known-w
+    returns
+    field-requires
+    enum-known-h
+    enum-known-w-2
+    returns-2
+    field-requires-2
+    enum-known-superclass
+    enum-known-w-3
+    returns-3
+    returns-4)

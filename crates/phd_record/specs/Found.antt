@@ -1,0 +1,51 @@
+-- The functions' answers, as outcomes of layouts.
+-- Assumes nothing.
+use Prim.Native.Nat.{ℕ}
+use mathlib.Core.List.{List}
+use lib.ListN.{replicate}
+use Rattle.layout.specs.Layout.{Outcome, whole, stops}
+use Rattle.layout.specs.declared.Stop.{Stop}
+use Rattle.phd.specs.Phd.{Item, over, item, Links, row-width}
+use Rattle.phd.specs.declared.classes.Cache.{Cache}
+use Rattle.phd.specs.declared.Front.{Front}
+use Rattle.phd.specs.declared.Middle.{Middle}
+use Rattle.phd.specs.declared.Tail.{Tail}
+use Rattle.phd.specs.declared.Span.{Span}
+use Rattle.phd_record.specs.declared.parts.FrontRead.{FrontRead}
+use Rattle.phd_record.specs.declared.parts.FrontRead.the-variants.{Begun, Barred}
+use Rattle.phd_record.specs.declared.parts.MiddleRead.{MiddleRead}
+use Rattle.phd_record.specs.declared.parts.MiddleRead.the-variants.{Goes, Ceases}
+use Rattle.phd_record.specs.declared.parts.TailRead.{TailRead}
+use Rattle.phd_record.specs.declared.parts.TailRead.the-variants.{Ended, Short}
+use Rattle.phd_record.specs.declared.links.Checked.{Checked}
+use Rattle.phd_record.specs.declared.links.Checked.the-variants.{Fine, Broken}
+use Rattle.phd_record.specs.declared.What.{What}
+use Rattle.phd_record.specs.declared.What.the-variants.{Over, Record, Halts}
+use Rattle.phd_record.specs.declared.Found.{Found}
+
+abbrev pub front-outcome : FrontRead → Outcome Front
+front-outcome (Begun v next) = whole v next
+front-outcome (Barred w) = stops w
+
+abbrev pub middle-outcome : MiddleRead → Outcome Middle
+middle-outcome (Goes v next) = whole v next
+middle-outcome (Ceases w) = stops w
+
+abbrev pub tail-outcome : TailRead → Outcome Tail
+tail-outcome (Ended v next) = whole v next
+tail-outcome (Short w) = stops w
+
+-- references that were judged, by what reading them finds
+abbrev pub checked-of : Outcome (List ℕ) → Checked
+checked-of (whole rs next) = Fine next
+checked-of (stops w) = Broken w
+
+-- no record: the cache stays as it is
+unfoldable pub halted : What → Cache → Found
+halted w c = record { what = w; row = replicate row-width 0; span = record { place = 0; width = 0; count = 0 }; address = 0; cache = c }
+
+-- what stands at a tag, by what reading it with the cache c finds
+unfoldable pub found-of : Cache → Outcome Item → Found
+found-of c (whole over n) = halted (Over n) c
+found-of c (whole (item r ls a k) n) = record { what = Record n; row = r; span = ls .span; address = a; cache = k }
+found-of c (stops w) = halted (Halts w) c

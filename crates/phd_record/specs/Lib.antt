@@ -1,0 +1,2 @@
+-- Found: what the answers of this crate's functions say.
+pub mod Found
