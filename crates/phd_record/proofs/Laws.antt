@@ -1,9 +1,11 @@
 -- References that are judged one at a time.
 use mathlib.Core.Path.{_≡_, refl, sym, ap, _∙_}
 use Prim.Native.Nat.{ℕ, _-_, _<_}
+use native.Mathlib.Omega.{arith}
 use mathlib.Core.List.{List}
 use Rattle.layout.specs.Layout.{Outcome, whole, stops, onward, run}
 use Rattle.layout.specs.Fields.{outcome, reference}
+use Rattle.layout.specs.declared.Stop.{Stop}
 use Rattle.layout.specs.declared.Piece.{Piece}
 use Rattle.layout.specs.declared.Piece.the-variants.{Is, Stops}
 use Rattle.phd.specs.Phd.{references}
@@ -32,3 +34,12 @@ module _ (w base top : ℕ) (s : List ℕ) where
   pub turn : (at left : ℕ) (p : Piece) → outcome p ≡ run (reference w base top) s at → 0 < left
       → checked-of (run (references w base top left) s at) ≡ on-from p (λ next. checked-of (run (references w base top (left - 1)) s next))
   turn at left p e h = rw (references-more w base top s left at h, ← e) (by-piece (left - 1) p)
+
+-- what was read where references were judged
+pub checked-fine : (o : Outcome (List ℕ)) (n : ℕ) → checked-of o ≡ Fine n → (rs : List ℕ) × (o ≡ whole rs n)
+checked-fine (whole rs m) n e = (rs, ap (whole rs) cc)
+checked-fine (stops w) n e = let z : _≡_ {A = ℕ} 0 1 = cc in absurd (omega arith)
+
+pub checked-broken : (o : Outcome (List ℕ)) (w : Stop) → checked-of o ≡ Broken w → o ≡ stops w
+checked-broken (whole rs m) w e = let z : _≡_ {A = ℕ} 0 1 = cc in absurd (omega arith)
+checked-broken (stops x) w e = ap stops cc

@@ -5,7 +5,10 @@ use mathlib.Core.List.{List}
 use lib.ListN.{replicate}
 use Rattle.layout.specs.Layout.{Outcome, whole, stops}
 use Rattle.layout.specs.declared.Stop.{Stop}
-use Rattle.phd.specs.Phd.{Item, over, item, Links, row-width}
+use Rattle.layout.specs.Numbers.{pick}
+use Rattle.layout.specs.declared.Text.{Text}
+use Rattle.phd.specs.Phd.{Item, over, item, Links, row-width, row, put}
+use Rattle.phd.specs.declared.Shape.{Shape}
 use Rattle.phd.specs.declared.classes.Cache.{Cache}
 use Rattle.phd.specs.declared.Front.{Front}
 use Rattle.phd.specs.declared.Middle.{Middle}
@@ -49,3 +52,13 @@ unfoldable pub found-of : Cache → Outcome Item → Found
 found-of c (whole over n) = halted (Over n) c
 found-of c (whole (item r ls a k) n) = record { what = Record n; row = r; span = ls .span; address = a; cache = k }
 found-of c (stops w) = halted (Halts w) c
+
+-- a record whole, whose n references stand at a place
+unfoldable pub recorded : ℕ → ℕ → ℕ → Tail → Cache → ℕ → ℕ → ℕ → Shape → Front → Middle → Text → Found
+recorded next place n t c index known hk sh v m name = record {
+  what = Record next;
+  row = row index hk known sh v m name n t;
+  span = record { place = place; width = sh .link; count = n };
+  address = v .address;
+  cache = pick (sh .cached) (put c (v .word)) c;
+}

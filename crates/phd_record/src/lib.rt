@@ -15,6 +15,7 @@ use phd::Facts;
 use phd::Span;
 use phd::Tagged;
 
+pub mod fields;
 mod links;
 mod parts;
 
@@ -48,5 +49,59 @@ pub fn halted(what: What, cache: Cache) -> Found
         },
         address: 0,
         cache: cache,
+    }
+}
+
+// A record behind its tag.
+fn behind_tag(
+    s: &[u8],
+    at: usize,
+    facts: Facts,
+    before: u64,
+    cache: Cache,
+    index: u64,
+    tag: u64,
+) -> Found
+    requires { ⌜ (at ≤ length (now s)) × Word (facts .word) ⌝ }
+    ensures { λ r. ⌜ r ≡ found-of cache (run (record-of facts before cache index tag) (now (s .entry)) at) ⌝ }
+{
+    let Tagged::Begins(form) = phd::forms::tagged(tag) else {
+        return halted(What::Halts(Stop::Refused(6)), cache);
+    };
+    let Maybe::Just(class) = phd::forms::known(cache, tag) else {
+        return halted(What::Halts(Stop::Refused(10)), cache);
+    };
+    match phd::forms::flags(s, at, facts, tag) {
+        Piece::Is(f, next) => {
+            let hk = phd::forms::hash_kind_of(facts, tag, f);
+            let top = phd::forms::highest_of(facts.word);
+            let word = (facts.word / 8) as usize;
+            let sh = phd::forms::shape_of(word, form, tag, f);
+            fields::read_fields(s, next, top, before, cache, index, class, hk, sh)
+        }
+        Piece::Stops(w) => halted(What::Halts(w), cache),
+    }
+}
+
+// The end tag, or a record whole. `before` is the address of the record before, `index` the count of references so far.
+pub fn read_record(
+    s: &[u8],
+    at: usize,
+    facts: Facts,
+    before: u64,
+    cache: Cache,
+    index: u64,
+) -> Found
+    requires { ⌜ (at ≤ length (now s)) × Word (facts .word) ⌝ }
+    ensures { λ r. ⌜ r ≡ found-of cache (run (entry facts before cache index) (now (s .entry)) at) ⌝ }
+{
+    match layout::field(s, at, 1) {
+        Piece::Is(tag, next) => {
+            if tag == 3 {
+                return halted(What::Over(next), cache);
+            }
+            behind_tag(s, next, facts, before, cache, index, tag)
+        }
+        Piece::Stops(w) => halted(What::Halts(w), cache),
     }
 }

@@ -1,0 +1,124 @@
+-- `read_fields` meets its contract: its parts, one after another.
+use borrow.Author.Needs.{needs}
+use mathlib.Core.Path.{_≡_, sym, ap, _∙_}
+use Prim.Native.Nat.{_≤_}
+use native.Mathlib.Omega.{arith}
+use lib.ListN.{length}
+use Rattle.layout.specs.Layout.{whole, run, inside, run-then}
+use Rattle.layout.specs.Fields.{text-outcome}
+use Rattle.phd.specs.Phd.{front, middle, class-name, hash-bytes, fields}
+use Rattle.phd.specs.Shapes.{hash-narrow}
+use Rattle.phd_record.specs.Found.{found-of, front-outcome, middle-outcome}
+use Rattle.phd_record.proofs.fields.read_fields.Statement.{statement}
+use Rattle.phd_record.proofs.fields.read_fields.Tie as tie
+
+-- the front
+module _ (c : tie.After-f) where
+  got-front : let a = c .before .before .before .before .args in run (front (a .top) (a .before) (a .sh)) (a .s .now) (a .at) ≡ whole (c .f .given .0 .0) (c .f .given .0 .1 .0)
+  got-front = sym (c .before .before .read-front .ensures) ∙ ap front-outcome (c .f .given .1)
+
+  in-front : let a = c .before .before .before .before .args in (c .f .given .0 .1 .0) ≤ length (a .s .now)
+  in-front = let a = c .before .before .before .before .args in inside (front (a .top) (a .before) (a .sh)) (a .s .now) (a .at) _ _ (omega arith) got-front
+
+-- the bytes of the hash are those of its kind
+hashed : (c : tie.After-read-middle) → let a = c .before .before .before .before .before .before .before .args in
+    run (middle (a .sh) (hash-bytes (a .hk))) (a .s .now) (c .before .before .before .f .given .0 .1 .0)
+    ≡ run (middle (a .sh) (c .before .hash-bytes-of .result)) (a .s .now) (c .before .before .before .f .given .0 .1 .0)
+hashed c = rw (c .before .hash-bytes-of .ensures)
+
+-- the middle
+module _ (c : tie.After-q) where
+  got-middle : let a = c .before .before .before .before .before .before .before .before .before .args in run (middle (a .sh) (hash-bytes (a .hk))) (a .s .now) (c .before .before .before .before .before .f .given .0 .1 .0) ≡ whole (c .q .given .0 .0) (c .q .given .0 .1 .0)
+  got-middle = hashed (c .before .before) ∙ sym (c .before .before .read-middle .ensures) ∙ ap middle-outcome (c .q .given .1)
+
+  in-middle : let a = c .before .before .before .before .before .before .before .before .before .args in (c .q .given .0 .1 .0) ≤ length (a .s .now)
+  in-middle = let a = c .before .before .before .before .before .before .before .before .before .args in inside (middle (a .sh) (hash-bytes (a .hk))) (a .s .now) (c .before .before .before .before .before .f .given .0 .1 .0) _ _ (in-front (c .before .before .before .before .before)) got-middle
+
+-- the name
+module _ (c : tie.After-name) where
+  got-name : let a = c .before .before .before .before .before .before .before .before .before .before .before .before .before .args in run (class-name (a .sh .name)) (a .s .now) (c .before .before .before .before .q .given .0 .1 .0) ≡ whole (c .name .given .0 .0) (c .name .given .0 .1 .0)
+  got-name = sym (c .before .before .class-name .ensures) ∙ ap text-outcome (c .name .given .1)
+
+  in-name : let a = c .before .before .before .before .before .before .before .before .before .before .before .before .before .args in (c .name .given .0 .1 .0) ≤ length (a .s .now)
+  in-name = let a = c .before .before .before .before .before .before .before .before .before .before .before .before .before .args in inside (class-name (a .sh .name)) (a .s .now) (c .before .before .before .before .q .given .0 .1 .0) _ _ (in-middle (c .before .before .before .before)) got-name
+
+read-front-requires : tie.Need-read-front-requires
+read-front-requires c κs = search needs
+
+enum-known-f : tie.Need-enum-known-f
+enum-known-f c = search needs
+
+enum-known-w : tie.Need-enum-known-w
+enum-known-w c = search needs
+
+halted-requires : tie.Need-halted-requires
+halted-requires c κs = search needs
+
+returns : tie.Need-returns
+unfolding fields found-of
+returns c = rw (c .halted .ensures, run-then, ← c .before .before .before .before .read-front .ensures, c .before .before .w .given .1)
+
+hash-bytes-of-requires : tie.Need-hash-bytes-of-requires
+hash-bytes-of-requires c κs = search needs
+
+read-middle-requires : tie.Need-read-middle-requires
+read-middle-requires c κs = (in-front (c .before .before), c .before .before .before .before .before .before .pre .1, rw (c .hash-bytes-of .ensures) (hash-narrow _))
+
+enum-known-q : tie.Need-enum-known-q
+enum-known-q c = search needs
+
+enum-known-w-2 : tie.Need-enum-known-w-2
+enum-known-w-2 c = search needs
+
+halted-requires-2 : tie.Need-halted-requires-2
+halted-requires-2 c κs = search needs
+
+returns-2 : tie.Need-returns-2
+unfolding fields found-of
+returns-2 c = rw (c .halted2 .ensures, run-then, got-front (c .before .before .before .before .before .before .before), run-then, hashed (c .before .before .before .before), ← c .before .before .before .before .read-middle .ensures, c .before .before .w2 .given .1)
+
+class-name-requires : tie.Need-class-name-requires
+class-name-requires c κs = in-middle (c .before)
+
+enum-known-name : tie.Need-enum-known-name
+enum-known-name c = search needs
+
+read-linked-requires : tie.Need-read-linked-requires
+read-linked-requires c κs = (in-name (c .before), c .before .before .before .before .before .before .before .before .before .before .before .before .before .before .pre .1)
+
+enum-known-w-3 : tie.Need-enum-known-w-3
+enum-known-w-3 c = search needs
+
+halted-requires-3 : tie.Need-halted-requires-3
+halted-requires-3 c κs = search needs
+
+returns-3 : tie.Need-returns-3
+unfolding fields found-of
+returns-3 c = rw (c .read-linked .ensures, run-then, got-front (c .before .before .before .before .before .before .before .before .before .before .before), run-then, got-middle (c .before .before .before .before .before .before), run-then, got-name (c .before .before))
+
+returns-4 : tie.Need-returns-4
+unfolding fields found-of
+returns-4 c = rw (c .halted3 .ensures, run-then, got-front (c .before .before .before .before .before .before .before .before .before .before .before), run-then, got-middle (c .before .before .before .before .before .before), run-then, ← c .before .before .before .before .class-name .ensures, c .before .before .w3 .given .1)
+
+pub read-fields-spec : {M : Type 1} → statement M
+read-fields-spec =
+    tie.close
+    (tie.spec
+    read-front-requires
+    enum-known-f
+    enum-known-w
+    halted-requires
+    returns
+    hash-bytes-of-requires
+    read-middle-requires
+    enum-known-q
+    enum-known-w-2
+    halted-requires-2
+    returns-2
+    class-name-requires
+    enum-known-name
+    read-linked-requires
+    enum-known-w-3
+    halted-requires-3
+    returns-3
+    returns-4)

@@ -1,0 +1,65 @@
+-- `read_record` meets its contract: the tag, and then the end or a record.
+use borrow.Author.Needs.{needs}
+use mathlib.Core.Path.{_≡_, sym, ap, _∙_}
+use Prim.Native.Nat.{_≤_}
+use native.Mathlib.Omega.{arith}
+use lib.ListN.{length}
+use borrow.Author.Tests.{eq-eqb, ne-eqb}
+use Rattle.layout.specs.Layout.{whole, run, inside, field, run-then, run-yield}
+use Rattle.layout.specs.Fields.{outcome}
+use Rattle.phd.specs.Phd.{entry}
+use Rattle.phd_record.specs.Found.{found-of}
+use Rattle.phd_record.proofs.read_record.Statement.{statement}
+use Rattle.phd_record.proofs.read_record.Tie as tie
+
+-- the tag
+module _ (c : tie.After-tag) where
+  got-tag : let a = c .before .before .before .before .args in run (field 1) (a .s .now) (a .at) ≡ whole (c .tag .given .0 .0) (c .tag .given .0 .1 .0)
+  got-tag = sym (c .before .before .field .ensures .0) ∙ ap outcome (c .tag .given .1)
+
+  in-tag : let a = c .before .before .before .before .args in (c .tag .given .0 .1 .0) ≤ length (a .s .now)
+  in-tag = let a = c .before .before .before .before .args in inside (field 1) (a .s .now) (a .at) _ _ (omega arith) got-tag
+
+field-requires : tie.Need-field-requires
+field-requires c κs = search needs
+
+enum-known-tag : tie.Need-enum-known-tag
+enum-known-tag c = search needs
+
+halted-requires : tie.Need-halted-requires
+halted-requires c κs = search needs
+
+returns : tie.Need-returns
+unfolding entry found-of
+returns c = rw (c .halted .ensures, run-then, got-tag (c .before .before .before), eq-eqb _ _ (c .before .if1 .taken), run-yield)
+
+behind-tag-requires : tie.Need-behind-tag-requires
+behind-tag-requires c κs = (in-tag (c .before .before), c .before .before .before .before .before .before .pre .1)
+
+enum-known-w : tie.Need-enum-known-w
+enum-known-w c = search needs
+
+halted-requires-2 : tie.Need-halted-requires-2
+halted-requires-2 c κs = search needs
+
+returns-2 : tie.Need-returns-2
+unfolding entry found-of
+returns-2 c = rw (c .behind-tag .ensures, run-then, got-tag (c .before .before .before), ne-eqb _ _ (c .before .if1 .left))
+
+returns-3 : tie.Need-returns-3
+unfolding entry found-of
+returns-3 c = rw (c .halted2 .ensures, run-then, ← c .before .before .before .before .field .ensures .0, c .before .before .w .given .1)
+
+pub read-record-spec : {M : Type 1} → statement M
+read-record-spec =
+    tie.close
+    (tie.spec
+    field-requires
+    enum-known-tag
+    halted-requires
+    returns
+    behind-tag-requires
+    enum-known-w
+    halted-requires-2
+    returns-2
+    returns-3)

@@ -1,0 +1,143 @@
+// The fields of a record behind its tag and flag byte, in file order.
+ghost use mathlib.Core.Path.{_≡_};
+ghost use Prim.Native.Nat.{_≤_};
+ghost use lib.ListN.{length};
+ghost use Rattle.layout.specs.Layout.{run};
+ghost use Rattle.layout.specs.Numbers.{pick};
+ghost use Rattle.phd.specs.Phd.{fields, linked, put};
+ghost use Rattle.phd.specs.Shapes.{Narrow};
+ghost use Rattle.phd_record.specs.Found.{found-of, recorded as recordedBy};
+use super::Found;
+use super::What;
+use super::halted;
+use super::links::Checked;
+use super::parts::FrontRead;
+use super::parts::MiddleRead;
+use super::parts::TailRead;
+use layout::Piece;
+use layout::Text;
+use layout::TextRead;
+use phd::Cache;
+use phd::Front;
+use phd::Middle;
+use phd::Shape;
+use phd::Span;
+use phd::Tail;
+
+// The cache after a record.
+fn cached(cache: Cache, word: u64, puts: bool) -> Cache
+    ensures { λ r. ⌜ r ≡ pick puts (put cache word) cache ⌝ }
+{
+    if puts {
+        return cache.put(word);
+    }
+    cache
+}
+
+// A record whole: its references stand at a place, n of them, and the record ends before the next place.
+fn recorded(
+    next: usize,
+    place: usize,
+    n: u64,
+    t: Tail,
+    cache: Cache,
+    index: u64,
+    known: u64,
+    hk: u64,
+    sh: Shape,
+    v: Front,
+    m: Middle,
+    name: Text,
+) -> Found
+    ensures { λ r. ⌜ r ≡ recordedBy next place n t cache index known hk sh v m name ⌝ }
+{
+    let row = super::parts::make_row(index, hk, known, sh, v, m, name, n, t);
+    let after = cached(cache, v.word, sh.cached);
+    Found {
+        what: What::Record(next),
+        row: row,
+        span: Span {
+            place: place,
+            width: sh.link,
+            count: n,
+        },
+        address: v.address,
+        cache: after,
+    }
+}
+
+// The fields from the reference count on, and the record whole.
+fn read_linked(
+    s: &[u8],
+    at: usize,
+    top: u64,
+    cache: Cache,
+    index: u64,
+    known: u64,
+    hk: u64,
+    sh: Shape,
+    v: Front,
+    m: Middle,
+    name: Text,
+) -> Found
+    requires { ⌜ (at ≤ length (now s)) × Narrow sh ⌝ }
+    ensures { λ r. ⌜ r ≡ found-of cache (run (linked top cache index known hk sh v m name) (now (s .entry)) at) ⌝ }
+{
+    let place: usize;
+    let n = match super::parts::link_count(s, at, sh.counted, sh.count) {
+        Piece::Is(k, p) => {
+            place = p;
+            k
+        }
+        Piece::Stops(w) => return halted(What::Halts(w), cache),
+    };
+    let end = match super::links::check_links(s, place, sh.link, v.address, top, n) {
+        Checked::Fine(e) => e,
+        Checked::Broken(w) => return halted(What::Halts(w), cache),
+    };
+    match super::parts::read_tail(s, end, sh.size, sh.truelen, n) {
+        TailRead::Ended(t, next) => {
+            recorded(next, place, n, t, cache, index, known, hk, sh, v, m, name)
+        }
+        TailRead::Short(w) => halted(What::Halts(w), cache),
+    }
+}
+
+// The fields after the tag and the flag byte.
+pub fn read_fields(
+    s: &[u8],
+    at: usize,
+    top: u64,
+    before: u64,
+    cache: Cache,
+    index: u64,
+    known: u64,
+    hk: u64,
+    sh: Shape,
+) -> Found
+    requires { ⌜ (at ≤ length (now s)) × Narrow sh ⌝ }
+    ensures { λ r. ⌜ r ≡ found-of cache (run (fields top before cache index known hk sh) (now (s .entry)) at) ⌝ }
+{
+    let mut here = at;
+    let v = match super::parts::read_front(s, here, top, before, sh) {
+        FrontRead::Begun(f, n) => {
+            here = n;
+            f
+        }
+        FrontRead::Barred(w) => return halted(What::Halts(w), cache),
+    };
+    let hb = phd::forms::hash_bytes_of(hk);
+    let m = match super::parts::read_middle(s, here, sh, hb) {
+        MiddleRead::Goes(q, n) => {
+            here = n;
+            q
+        }
+        MiddleRead::Ceases(w) => return halted(What::Halts(w), cache),
+    };
+    match super::parts::class_name(s, here, sh.name) {
+        TextRead::Holds(name, n) => {
+            read_linked(s, n, top, cache, index, known, hk, sh, v, m, name)
+        }
+        TextRead::Fails(w) => halted(What::Halts(w), cache),
+    }
+}
