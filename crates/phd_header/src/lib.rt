@@ -1,0 +1,203 @@
+// Reading the header of a portable heap dump.
+// Each function's contract is an equation with a definition of the format (crates/phd/specs/Phd.antt).
+ghost use mathlib.Core.Path.{_≡_};
+ghost use Prim.Native.Nat.{_+_, _≤_, _<_};
+ghost use lib.ListN.{length, take, drop, getD};
+ghost use Rattle.layout.specs.Numbers.{pick};
+ghost use Rattle.layout.specs.Layout.{run};
+ghost use Rattle.layout.specs.Fields.{outcome, text-outcome};
+ghost use Rattle.phd.specs.Phd.{bit as bitOf, same, opening, opening-bytes, preamble as preambleOf, after-vm, header-records, header-facts, header};
+ghost use Rattle.phd_header.specs.Header.{header-outcome, passed-outcome};
+use layout::Piece;
+use layout::Stop;
+use layout::Text;
+use layout::TextRead;
+use phd::Facts;
+use phd::forms::bit;
+
+// What the header says, with the place after it; or why reading stops in it.
+pub enum HeaderRead {
+    Opens(Facts, usize),
+    Refuses(Stop),
+}
+
+// A part of the header that hands on no value: the place after it, or why reading stops in it.
+enum Passed {
+    Passes(usize),
+    Blocks(Stop),
+}
+
+const OPENING: [u8; 18] = *b"portable heap dump";
+
+// A byte of the opening string.
+fn opening_byte(i: usize) -> u8
+    requires { ⌜ i < 18 ⌝ }
+    ensures { λ r. ⌜ r ≡ getD opening i 0 ⌝ }
+{
+    OPENING[i]
+}
+
+// Whether the 18 bytes at a place are the opening string.
+fn same_opening(s: &[u8], at: usize) -> bool
+    requires { ⌜ at + 18 ≤ length (now s) ⌝ }
+    ensures { λ r. ⌜ r ≡ same (take 18 (drop at (now (s .entry)))) opening ⌝ }
+{
+    let mut i: usize = 0;
+    while i < 18 {
+        if s[at + i] != opening_byte(i) {
+            return false;
+        }
+        i += 1;
+    }
+    true
+}
+
+// The bytes of the opening string, behind its length.
+fn opening_bytes(s: &[u8], at: usize) -> Passed
+    requires { ⌜ at ≤ length (now s) ⌝ }
+    ensures { λ r. ⌜ passed-outcome r ≡ run opening-bytes (now (s .entry)) at ⌝ }
+{
+    let left = s.len() - at;
+    if left < 18 {
+        return Passed::Blocks(Stop::Cut(18 - left));
+    }
+    if same_opening(s, at) {
+        return Passed::Passes(at + 18);
+    }
+    Passed::Blocks(Stop::Refused(3))
+}
+
+// The opening string, the version, the flags and the byte 1: the flags.
+fn preamble(s: &[u8]) -> Piece
+    ensures { λ r. ⌜ outcome r ≡ run preambleOf (now (s .entry)) 0 ⌝ }
+{
+    let len = layout::exactly(s, 0, 2, 18, 3);
+    let Piece::Is(_, at) = len else {
+        return len;
+    };
+    let here: usize;
+    match opening_bytes(s, at) {
+        Passed::Passes(next) => {
+            here = next;
+        }
+        Passed::Blocks(w) => {
+            return Piece::Stops(w);
+        }
+    }
+    let version = layout::exactly(s, here, 4, 6, 4);
+    let Piece::Is(_, at) = version else {
+        return version;
+    };
+    let flags = layout::below(s, at, 4, 8, 5);
+    let Piece::Is(bits, at) = flags else {
+        return flags;
+    };
+    match layout::exactly(s, at, 1, 1, 6) {
+        Piece::Is(_, end) => Piece::Is(bits, end),
+        Piece::Stops(w) => Piece::Stops(w),
+    }
+}
+
+// The byte after the VM string: 2, which ends the header records.
+fn after_vm(s: &[u8], at: usize) -> Passed
+    requires { ⌜ at ≤ length (now s) ⌝ }
+    ensures { λ r. ⌜ passed-outcome r ≡ run after-vm (now (s .entry)) at ⌝ }
+{
+    match layout::field(s, at, 1) {
+        Piece::Is(tag, next) => {
+            if tag == 4 {
+                return Passed::Blocks(Stop::Refused(7));
+            }
+            if tag == 2 {
+                return Passed::Passes(next);
+            }
+            Passed::Blocks(Stop::Refused(6))
+        }
+        Piece::Stops(w) => Passed::Blocks(w),
+    }
+}
+
+// The header records and the byte 2 that ends them: the VM string, if there is one.
+fn header_records(s: &[u8], at: usize) -> TextRead
+    requires { ⌜ at ≤ length (now s) ⌝ }
+    ensures { λ r. ⌜ text-outcome r ≡ run header-records (now (s .entry)) at ⌝ }
+{
+    let tag: u64;
+    let here: usize;
+    match layout::field(s, at, 1) {
+        Piece::Is(x, next) => {
+            tag = x;
+            here = next;
+        }
+        Piece::Stops(w) => {
+            return TextRead::Fails(w);
+        }
+    }
+    if tag == 2 {
+        return TextRead::Holds(
+            Text {
+                there: false,
+                place: 0,
+                len: 0,
+            },
+            here,
+        );
+    }
+    if tag != 4 {
+        return TextRead::Fails(Stop::Refused(6));
+    }
+    let vm = layout::string(s, here, 0x20, 0);
+    let TextRead::Holds(text, next) = vm else {
+        return vm;
+    };
+    match after_vm(s, next) {
+        Passed::Passes(end) => TextRead::Holds(text, end),
+        Passed::Blocks(w) => TextRead::Fails(w),
+    }
+}
+
+// W, by the flags.
+fn word_of(flags: u64) -> u64
+    ensures { λ r. ⌜ r ≡ pick (bitOf 1 flags) 64 32 ⌝ }
+{
+    if bit(1, flags) {
+        return 64;
+    }
+    32
+}
+
+// What the flags and the VM string say.
+fn header_facts(flags: u64, vm: Text) -> Facts
+    ensures { λ r. ⌜ r ≡ header-facts flags vm ⌝ }
+{
+    Facts {
+        word: word_of(flags),
+        hashed: bit(2, flags),
+        openj9: bit(4, flags),
+        vm: vm,
+    }
+}
+
+// The header, both bytes 2 included.
+pub fn read_header(s: &[u8]) -> HeaderRead
+    ensures { λ r. ⌜ header-outcome r ≡ run header (now (s .entry)) 0 ⌝ }
+{
+    let flags: u64;
+    let here: usize;
+    match preamble(s) {
+        Piece::Is(x, next) => {
+            flags = x;
+            here = next;
+        }
+        Piece::Stops(w) => {
+            return HeaderRead::Refuses(w);
+        }
+    }
+    match header_records(s, here) {
+        TextRead::Holds(vm, at) => match layout::exactly(s, at, 1, 2, 6) {
+            Piece::Is(_, end) => HeaderRead::Opens(header_facts(flags, vm), end),
+            Piece::Stops(w) => HeaderRead::Refuses(w),
+        },
+        TextRead::Fails(w) => HeaderRead::Refuses(w),
+    }
+}
