@@ -1,4 +1,6 @@
--- Phd is the definition of the format and of its reading; Cases are 01's own cases of it.
+-- Phd is the definition of the format and of its reading, and Cases are 01's own cases of it. Shapes and References are laws
+-- of its parts.
 pub mod Phd
+pub mod Cases
 pub mod Shapes
 pub mod References

@@ -1,0 +1,86 @@
+-- 01's dump, and its cases (a) to (j), as one table under one statement, which holds by computing.
+-- A reader must believe that the dump and the table are 01's.
+use mathlib.Core.Path.{_≡_, refl}
+use Prim.Native.Nat.{ℕ, _*_}
+use mathlib.Core.Bool.{true, false}
+use mathlib.Core.List.{List, [], _∷_, _++_, map}
+use lib.ListN.{take, set}
+use Rattle.layout.specs.Numbers.{value-after, signed, moved, counted, within}
+use Rattle.layout.specs.Layout.{run, _>>=_, position, raw, field, check, need, reply-of, missing-of}
+use Rattle.layout.specs.Fields.{exactly, below, address, reference, count, string}
+use Rattle.phd.specs.Phd.{limit, row-width, bit, highest, same, opening, opening-bytes, preamble, after-vm, header-records, header-facts, header, no-facts, empty, put, slot, tagged, formed, known-class, moved-bit, hashed-bit, flag-byte, hash-kind, hash-bytes, width, shape, front, middle, class-name, link-count, references, links, true-length, tail, there, row, linked, fields, record-of, entry, Result, ended, settle, step, records, first, nothing, opened, reading}
+use Rattle.phd.specs.declared.Facts.{Facts}
+
+-- for a proof by computing: whoever unfolds this unfolds all that a reading is made of
+unfoldable pub computing : Unit {0}
+unfolding value-after signed moved counted within run _>>=_ position raw field check need reply-of missing-of exactly below address reference count string limit bit highest same opening opening-bytes preamble after-vm header-records header-facts header no-facts empty put slot tagged formed known-class moved-bit hashed-bit flag-byte hash-kind hash-bytes width shape front middle class-name link-count references links true-length tail there row linked fields record-of entry ended settle step records first nothing opened reading
+computing = tt
+
+-- the dump of 01, 74 bytes
+unfoldable pub dump : List ℕ
+dump =
+    0x00 ∷ 0x12 ∷ opening
+    ++ 0x00 ∷ 0x00 ∷ 0x00 ∷ 0x06 ∷ 0x00 ∷ 0x00 ∷ 0x00 ∷ 0x04 ∷ 0x01 ∷ 0x04 ∷ 0x00 ∷ 0x04 ∷ 0x54 ∷ 0x65 ∷ 0x73 ∷ 0x74 ∷ 0x02 ∷ 0x02 ∷ []
+    ++ 0x06 ∷ 0x40 ∷ 0x04 ∷ 0x00 ∷ 0x00 ∷ 0x00 ∷ 0x00 ∷ 0x10 ∷ 0x00 ∷ 0x00 ∷ 0x00 ∷ 0x00 ∷ 0x00 ∷ 0x01 ∷ 0x41 ∷ 0x00 ∷ 0x00 ∷ 0x00 ∷ 0x00 ∷ []
+    ++ 0x48 ∷ 0x04 ∷ 0x00 ∷ 0x00 ∷ 0x10 ∷ 0x00 ∷ 0x04 ∷ []
+    ++ 0x80 ∷ 0x04 ∷ []
+    ++ 0x24 ∷ 0x04 ∷ 0x03 ∷ 0x00 ∷ 0x00 ∷ 0x00 ∷ 0x06 ∷ []
+    ++ 0x03 ∷ []
+
+-- its header facts
+unfoldable pub its : Facts
+its = record { word = 32; hashed = false; openj9 = true; vm = record { there = true; place = 32; len = 4 } }
+
+-- its rows, of which (i) moves all but the first
+unfoldable pub table : ℕ → ℕ → ℕ → List ℕ
+table second third fourth =
+    1 ∷ 0x1000 ∷ 0 ∷ 0 ∷ 0 ∷ 0 ∷ 0 ∷ 16 ∷ 0 ∷ 52 ∷ 1 ∷ 0
+    ∷ 2 ∷ second ∷ 0x1000 ∷ 0 ∷ 0 ∷ 0 ∷ 1 ∷ 0 ∷ 0 ∷ 0 ∷ 0 ∷ 0
+    ∷ 2 ∷ third ∷ 0x1000 ∷ 0 ∷ 0 ∷ 1 ∷ 0 ∷ 0 ∷ 0 ∷ 0 ∷ 0 ∷ 0
+    ∷ 4 ∷ fourth ∷ 0 ∷ 0 ∷ 0 ∷ 1 ∷ 0 ∷ 6 ∷ 3 ∷ 0 ∷ 0 ∷ 1 ∷ []
+
+-- bytes, rows of room, and the reading that 01 says, with room for one reference
+pub record Case : Type 0 where
+  pub bytes : List ℕ
+  pub room : ℕ
+  pub says : Result
+
+-- the columns: bytes, rows of room; reply, place, missing bytes; how many of the rows are stored, out of which; references; facts
+abbrev case : List ℕ → ℕ → ℕ → ℕ → ℕ → ℕ → List ℕ → List ℕ → Facts → Case
+case bytes room reply place missing n rows refs facts = record {
+  bytes = bytes;
+  room = room;
+  says = record { reply = reply; place = place; missing = missing; rows = take (n * row-width) rows; refs = refs; facts = facts };
+}
+
+-- (f): the whole dump and whatever follows
+unfoldable pub case-f : List ℕ → Case
+case-f more = case (dump ++ more) 4 0 74 0 4 (table 0x1010 0x1020 0x1030) (0x1020 ∷ []) its
+
+unfoldable pub cases : List Case
+cases =
+    let rows : List ℕ = table 0x1010 0x1020 0x1030 in
+    let refs : List ℕ = 0x1020 ∷ [] in
+    -- (a), none and 37 bytes; (b) to (e); (f), and (f) with a record's beginning behind it; (g)
+    case (take 0 dump) 4 1 0 2 0 [] [] no-facts
+    ∷ case (take 37 dump) 4 1 0 1 0 [] [] no-facts
+    ∷ case (take 38 dump) 4 1 38 1 0 [] [] its
+    ∷ case (take 64 dump) 4 1 64 1 2 rows refs its
+    ∷ case (take 65 dump) 4 1 64 1 2 rows refs its
+    ∷ case (take 73 dump) 4 1 73 1 4 rows refs its
+    ∷ case-f []
+    ∷ case-f (0x06 ∷ 0xFF ∷ [])
+    ∷ case dump 3 13 66 0 3 rows refs its
+    -- (h) the third record's tag as A0, (i) the second's gap as FF, (j) the first's gap as 80 00
+    ∷ case (set dump 64 0xA0) 4 10 64 0 2 rows refs its
+    ∷ case (set dump 58 0xFF) 4 0 74 0 4 (table 0x0FFC 0x100C 0x101C) (0x100C ∷ []) its
+    ∷ case (set dump 40 0x80) 4 8 38 0 0 [] [] its
+    ∷ []
+
+-- what a case's bytes are read as
+abbrev pub tried : Case → Result
+tried c = reading (c .bytes) (c .room * row-width) 1
+
+pub as-said : map tried cases ≡ map (λ c. c .says) cases
+unfolding computing dump its table case-f cases
+as-said = refl

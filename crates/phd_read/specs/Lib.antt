@@ -1,0 +1,12 @@
+-- In reading order: Answer (what a caller gets of a reading) and Promises (what holds of it).
+-- The rest are the proofs on the way: Steps (record after record, and laws for the functions), Links (a record that was read,
+-- and where its references stand), Rooms (the tables' rooms and counts), Ranges (addresses and references), Replies (0 to
+-- 14) and Cut (two cuts of any bytes).
+pub mod Answer
+pub mod Promises
+pub mod Steps
+pub mod Links
+pub mod Rooms
+pub mod Ranges
+pub mod Replies
+pub mod Cut

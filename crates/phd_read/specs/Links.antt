@@ -1,0 +1,96 @@
+-- What holds of a record that was read from a dump: its row's numbers, its address, and where its references stand.
+-- Assumes nothing.
+use mathlib.Core.Path.{_≡_, refl, subst}
+use Prim.Native.Nat.{ℕ, zero, suc, _≤_}
+use mathlib.Core.Bool.{true}
+use mathlib.Core.List.{List, [], _∷_}
+use lib.ListN.{length, getD}
+use lib.Dec.{eqb}
+use native.Mathlib.Omega.{arith}
+use borrow.Author.Tests.{le-leb}
+use Rattle.layout.specs.Numbers.{within}
+use Rattle.layout.specs.Layout.{yield, whole, run, run-then, run-position, run-yield, then-inv}
+use Rattle.layout.specs.Values.{Gives, gives-yield, gives-then, gives-last, gives-pick, gives-address, gives-reference}
+use Rattle.phd.specs.Phd.{row-width, highest, references, Links, links, front, row, Item, over, item, linked, fields, record-of, entry}
+use Rattle.phd.specs.declared.classes.Cache.{Cache}
+use Rattle.phd.specs.declared.Facts.{Facts}
+use Rattle.phd.specs.declared.Front.{Front}
+use Rattle.phd.specs.declared.Shape.{Shape}
+use Rattle.phd_read.specs.Steps.{entry-forth}
+
+-- ---- references
+
+-- n references, each in 1 to top
+pub record Proper (n top : ℕ) (rs : List ℕ) : Type 0 where
+  pub many : length rs ≡ n
+  pub range : within 1 top rs ≡ true
+
+pub gives-references : {s : List ℕ} (w a top n : ℕ) → Gives s (Proper n top) (references w a top n)
+unfolding references within
+gives-references w a top zero = gives-yield [] (record { many = refl; range = refl })
+gives-references w a top (suc n) =
+    gives-then _ _ _ (gives-reference w a top) (λ r p. gives-then _ _ _ (gives-references w a top n) (λ rs q.
+    gives-yield (r ∷ rs) (record { many = rw (q .many); range = rw (le-leb _ _ (p .0), le-leb _ _ (p .1), q .range) })))
+
+-- The references of a record at the address a stand where their span says, and are as many.
+pub record Placed (s : List ℕ) (a top : ℕ) (ls : Links) : Type 0 where
+  pub end : ℕ
+  pub read : run (references (ls .span .width) a top (ls .span .count)) s (ls .span .place) ≡ whole (ls .list) end
+  pub inside : ls .span .place ≤ length s
+  pub proper : Proper (ls .span .count) top (ls .list)
+
+gives-links : {s : List ℕ} (w a top n : ℕ) → Gives s (Placed s a top) (links w a top n)
+unfolding links
+gives-links {s} w a top n = record {
+  each = λ at ls e l h. placed at ls e l (then-inv (references w a top n) _ s at ls e (rw (run-then, run-position) at h));
+}
+  where
+    found : (p : ℕ) (rs : List ℕ) → Links
+    found p rs = record { span = record { place = p; width = w; count = n }; list = rs }
+
+    placed : (at : ℕ) (ls : Links) (e : ℕ) → at ≤ length s
+        → (rs : List ℕ) × (m : ℕ) × (run (references w a top n) s at ≡ whole rs m) × (run (yield (found at rs)) s m ≡ whole ls e) → Placed s a top ls
+    placed at ls e l v =
+        let y : whole (found at (v .0)) (v .1) ≡ whole ls e = rw run-yield at (v .3) in
+        let x : found at (v .0) ≡ ls = cc in
+        subst (Placed s a top) x (record { end = v .1; read = v .2; inside = l; proper = gives-references w a top n .each at (v .0) (v .1) l (v .2) })
+
+-- ---- the record
+
+-- What holds of a record with the row r, the references ls and the address a, read from s under the header facts h.
+pub record Stands (h : Facts) (s : List ℕ) (r : List ℕ) (ls : Links) (a : ℕ) : Type 0 where
+  pub numbers : length r ≡ row-width
+  pub address : getD r 1 0 ≡ a
+  pub most : a ≤ highest (h .word)
+  pub links : Placed s a (highest (h .word)) ls
+
+abbrev Stood : Facts → List ℕ → Item → Type 0
+Stood h s over = Unit {0}
+Stood h s (item r ls a c) = Stands h s r ls a
+
+gives-front : {s : List ℕ} (top before : ℕ) (sh : Shape) → Gives s (λ (v : Front). v .address ≤ top) (front top before sh)
+unfolding front
+gives-front top before sh =
+    gives-then _ _ _ (gives-address (sh .gap) before top) (λ a l. gives-last _ _ (λ word. gives-last _ _ (λ len. gives-yield _ l)))
+
+gives-fields : (h : Facts) (s : List ℕ) (before : ℕ) (c : Cache) (index known hk : ℕ) (sh : Shape)
+    → Gives s (Stood h s) (fields (highest (h .word)) before c index known hk sh)
+unfolding fields linked row
+gives-fields h s before c index known hk sh =
+    gives-then _ _ _ (gives-front (highest (h .word)) before sh) (λ v l. gives-last _ _ (λ m. gives-last _ _ (λ name. gives-last _ _ (λ n.
+    gives-then _ _ _ (gives-links (sh .link) (v .address) (highest (h .word)) n) (λ ls p. gives-last _ _ (λ t.
+    gives-yield _ (record { numbers = refl; address = refl; most = l; links = p })))))))
+
+gives-entry : (h : Facts) (s : List ℕ) (before : ℕ) (c : Cache) (index : ℕ) → Gives s (Stood h s) (entry h before c index)
+unfolding entry record-of
+gives-entry h s before c index =
+    gives-last _ _ (λ t. gives-pick (eqb t 3) _ _ (gives-yield over tt) (gives-last _ _ (λ fm. gives-last _ _ (λ known. gives-last _ _ (λ f.
+    gives-fields h s before c index known _ _)))))
+
+-- A record that was read stands in the dump.
+pub links-stand : (h : Facts) (s : List ℕ) (before : ℕ) (c : Cache) (index at : ℕ) (r : List ℕ) (ls : Links) (a : ℕ) (k : Cache) (n : ℕ)
+    → run (entry h before c index) s at ≡ whole (item r ls a k) n → Stands h s r ls a
+links-stand h s before c index at r ls a k n e =
+    let f = entry-forth h before c index s at (item r ls a k) n e in
+    let l : at ≤ length s = omega arith in
+    gives-entry h s before c index .each at (item r ls a k) n l e

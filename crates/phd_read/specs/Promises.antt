@@ -1,0 +1,114 @@
+-- The promises about reading, of `reading` and of what a caller sees of it, in reading order.
+-- A reader must believe the statements and their records. Assumes nothing.
+use mathlib.Core.Path.{_≡_, ap}
+use Prim.Native.Nat.{ℕ, _*_, _≤_}
+use mathlib.Core.Bool.{true}
+use mathlib.Core.List.{List, _∷_, _++_, map, append-assoc}
+use lib.ListN.{length, take, drop, length-append, length-drop}
+use lib.Seq.{take-append-seam}
+use native.Mathlib.Omega.{arith}
+use Rattle.layout.specs.Numbers.{within}
+use Rattle.phd.specs.Phd.{limit, row-width, highest, Result, reading}
+use Rattle.phd.specs.Cases.{computing, dump, its, table, case-f, cases, tried, as-said}
+use Rattle.phd_read.specs.Answer.{answer, stored}
+use Rattle.phd_read.specs.Cut.{Begins, Final, Agree, more-agree, cuts-agree}
+use Rattle.phd_read.specs.Ranges.{addresses, reading-ranged}
+use Rattle.phd_read.specs.Replies.{reading-answers}
+use Rattle.phd_read.specs.Rooms.{reading-keeps, counts}
+
+-- ---- demand 1, of reading
+
+-- What holds of a reading into tables of R numbers for rows and F for references.
+pub record Sound (r : Result) (R F : ℕ) : Type 0 where
+  -- it gives one of the replies 0 to 14
+  pub reply : r .reply ≤ 14
+  -- it stores no more than there is room for
+  pub rows-fit : length (r .rows) ≤ R
+  pub refs-fit : length (r .refs) ≤ F
+  -- the counts that are handed out are those of the whole rows and of the references stored
+  pub rows-counted : answer r .rows * row-width ≡ length (r .rows)
+  pub refs-counted : answer r .refs ≡ length (r .refs)
+  -- the address of each row lies in 0 to 2^W - 1, and each reference in 1 to 2^W - 1
+  pub rows-ranged : within 0 (highest (r .facts .word)) (addresses (r .rows)) ≡ true
+  pub refs-ranged : within 1 (highest (r .facts .word)) (r .refs) ≡ true
+
+-- So it is of any bytes, and any tables.
+pub sound : (s : List ℕ) (R F : ℕ) → Sound (reading s R F) R F
+sound s R F = record {
+  reply = reading-answers s R F;
+  rows-fit = reading-keeps s R F .rows-fit;
+  refs-fit = reading-keeps s R F .refs-fit;
+  rows-counted = counts s R F .0;
+  refs-counted = counts s R F .1;
+  rows-ranged = reading-ranged s R F .rows-in;
+  refs-ranged = reading-ranged s R F .refs-in;
+}
+
+-- A lent table keeps its length.
+pub stored-length : (table xs : List ℕ) → length xs ≤ length table → length (stored table xs) ≡ length table
+unfolding stored
+stored-length table xs h = simp (length-append, length-drop) (omega arith)
+
+-- ---- demand 3, first part
+
+-- Any bytes, and any two cuts of them, none and all included, both within the size limit, the longer read into tables at
+-- least as roomy: the rows and references stored from the shorter are the first of those stored from the longer; and where
+-- the shorter's reply is neither cut nor no room, the longer gives the same.
+pub cuts : (b : List ℕ) (m n R R′ F F′ : ℕ) → m ≤ n → length (take n b) ≤ limit → R ≤ R′ → F ≤ F′
+    → Agree (reading (take m b) R F) (reading (take n b) R′ F′)
+cuts = cuts-agree
+
+-- The same as callers see it: r is the reading of the shorter, into the tables rows and refs, and r′ that of the longer, into
+-- rows′ and refs′.
+pub record Seen (r r′ : Result) (rows rows′ refs refs′ : List ℕ) : Type 0 where
+  -- the longer stored as many at least
+  pub rows-more : answer r .rows ≤ answer r′ .rows
+  pub refs-more : answer r .refs ≤ answer r′ .refs
+  -- the first rows and references of the longer's tables are all those of the shorter's
+  pub rows-first : take (answer r .rows * row-width) (stored rows′ (r′ .rows)) ≡ take (answer r .rows * row-width) (stored rows (r .rows))
+  pub refs-first : take (answer r .refs) (stored refs′ (r′ .refs)) ≡ take (answer r .refs) (stored refs (r .refs))
+  -- a reply but 1, 13 and 14 is the longer's too, with its place, counts and header facts, and with what is stored
+  pub same : Final (answer r .reply) → answer r′ ≡ answer r
+  pub rows-same : Final (answer r .reply) → r′ .rows ≡ r .rows
+  pub refs-same : Final (answer r .reply) → r′ .refs ≡ r .refs
+
+-- what begins a list begins a table in which the list was stored
+stored-first : (table table′ xs ys : List ℕ) → Begins xs ys → take (length xs) (stored table′ ys) ≡ take (length xs) (stored table xs)
+unfolding stored
+stored-first table table′ xs ys b =
+    rw (← b .all, append-assoc, take-append-seam xs (b .more ++ drop (length (xs ++ b .more)) table′), take-append-seam xs (drop (length xs) table))
+
+begins-length : {xs ys : List ℕ} → Begins xs ys → length xs ≤ length ys
+begins-length {xs} {ys} b = omega (arith, simp length-append at (ap length (b .all)))
+
+seen : (r r′ : Result) (rows rows′ refs refs′ : List ℕ) → answer r .rows * row-width ≡ length (r .rows) → Agree r r′ → Seen r r′ rows rows′ refs refs′
+unfolding answer
+seen r r′ rows rows′ refs refs′ e a =
+    let p = begins-length (a .rows) in
+    let q = begins-length (a .refs) in
+    record {
+      rows-more = omega arith;
+      refs-more = omega arith;
+      rows-first = rw e (stored-first rows rows′ (r .rows) (r′ .rows) (a .rows));
+      refs-first = stored-first refs refs′ (r .refs) (r′ .refs) (a .refs);
+      same = λ f. ap answer (a .same f);
+      rows-same = λ f. ap (λ x. x .rows) (a .same f);
+      refs-same = λ f. ap (λ x. x .refs) (a .same f);
+    }
+
+pub cuts-seen : (b : List ℕ) (m n : ℕ) (rows rows′ refs refs′ : List ℕ) → m ≤ n → length (take n b) ≤ limit
+    → length rows ≤ length rows′ → length refs ≤ length refs′
+    → Seen (reading (take m b) (length rows) (length refs)) (reading (take n b) (length rows′) (length refs′)) rows rows′ refs refs′
+cuts-seen b m n rows rows′ refs refs′ h l p q =
+    seen _ _ rows rows′ refs refs′ (counts (take m b) (length rows) (length refs) .0) (cuts b m n (length rows) (length rows′) (length refs) (length refs′) h l p q)
+
+-- ---- 01's cases
+
+-- Case (f) in full: whatever bytes follow 01's dump, within the size limit.
+pub any-more : (more : List ℕ) → length (dump ++ more) ≤ limit → tried (case-f more) ≡ case-f more .says
+unfolding computing dump its table case-f
+any-more more l = more-agree dump more (4 * row-width) (4 * row-width) 1 1 l (omega arith) (omega arith) .same (λ e. omega arith, λ e. omega arith, λ e. omega arith)
+
+-- All cases (a) to (j) together.
+pub all-cases : (more : List ℕ) → length (dump ++ more) ≤ limit → map tried (case-f more ∷ cases) ≡ map (λ c. c .says) (case-f more ∷ cases)
+all-cases more l = rw (any-more more l, as-said)
