@@ -62,6 +62,17 @@ shape-narrow w ObjectArray t f h =
 shape-narrow w Primitive t f h = let g : width (t % 4) ≤ 8 = width-le _ (omega arith) in omega arith
 shape-narrow w LongPrimitive t f h = let g : pick (bit 0x10 f) w 1 ≤ 8 = pick-le (bit 0x10 f) w h in omega arith
 
+-- a reference has at most 8 bytes, whatever W is
+pub link-narrow : (w : ℕ) (fm : Form) (t f : ℕ) → shape w fm t f .link ≤ 8
+unfolding shape
+link-narrow w Short t f = width-le _ (omega arith)
+link-narrow w Medium t f = width-le _ (omega arith)
+link-narrow w Long t f = width-le _ (omega arith)
+link-narrow w Class t f = width-le _ (omega arith)
+link-narrow w ObjectArray t f = width-le _ (omega arith)
+link-narrow w Primitive t f = omega arith
+link-narrow w LongPrimitive t f = omega arith
+
 pick-hash : (a b : Bool) → pick a 4 (pick b 2 0) ≤ 8
 pick-hash true b = omega arith
 pick-hash false true = omega arith

@@ -3,6 +3,8 @@
 -- and where its references stand), Rooms (the tables' rooms and counts), Ranges (addresses and references), Replies (0 to
 -- 14) and Cut (two cuts of any bytes).
 pub mod Answer
+pub mod Stored
+pub mod Stepping
 pub mod Promises
 pub mod Steps
 pub mod Links

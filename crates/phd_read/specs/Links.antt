@@ -12,6 +12,7 @@ use Rattle.layout.specs.Numbers.{within}
 use Rattle.layout.specs.Layout.{yield, whole, run, run-then, run-position, run-yield, then-inv}
 use Rattle.layout.specs.Values.{Gives, gives-yield, gives-then, gives-last, gives-pick, gives-address, gives-reference}
 use Rattle.phd.specs.Phd.{row-width, highest, references, Links, links, front, row, Item, over, item, linked, fields, record-of, entry}
+use Rattle.phd.specs.Shapes.{link-narrow}
 use Rattle.phd.specs.declared.classes.Cache.{Cache}
 use Rattle.phd.specs.declared.Facts.{Facts}
 use Rattle.phd.specs.declared.Front.{Front}
@@ -37,11 +38,12 @@ pub record Placed (s : List ℕ) (a top : ℕ) (ls : Links) : Type 0 where
   pub end : ℕ
   pub read : run (references (ls .span .width) a top (ls .span .count)) s (ls .span .place) ≡ whole (ls .list) end
   pub inside : ls .span .place ≤ length s
+  pub narrow : ls .span .width ≤ 8
   pub proper : Proper (ls .span .count) top (ls .list)
 
-gives-links : {s : List ℕ} (w a top n : ℕ) → Gives s (Placed s a top) (links w a top n)
+gives-links : {s : List ℕ} (w a top n : ℕ) → w ≤ 8 → Gives s (Placed s a top) (links w a top n)
 unfolding links
-gives-links {s} w a top n = record {
+gives-links {s} w a top n small = record {
   each = λ at ls e l h. placed at ls e l (then-inv (references w a top n) _ s at ls e (rw (run-then, run-position) at h));
 }
   where
@@ -53,7 +55,7 @@ gives-links {s} w a top n = record {
     placed at ls e l v =
         let y : whole (found at (v .0)) (v .1) ≡ whole ls e = rw run-yield at (v .3) in
         let x : found at (v .0) ≡ ls = cc in
-        subst (Placed s a top) x (record { end = v .1; read = v .2; inside = l; proper = gives-references w a top n .each at (v .0) (v .1) l (v .2) })
+        subst (Placed s a top) x (record { end = v .1; read = v .2; inside = l; narrow = small; proper = gives-references w a top n .each at (v .0) (v .1) l (v .2) })
 
 -- ---- the record
 
@@ -73,19 +75,19 @@ unfolding front
 gives-front top before sh =
     gives-then _ _ _ (gives-address (sh .gap) before top) (λ a l. gives-last _ _ (λ word. gives-last _ _ (λ len. gives-yield _ l)))
 
-gives-fields : (h : Facts) (s : List ℕ) (before : ℕ) (c : Cache) (index known hk : ℕ) (sh : Shape)
+gives-fields : (h : Facts) (s : List ℕ) (before : ℕ) (c : Cache) (index known hk : ℕ) (sh : Shape) → sh .link ≤ 8
     → Gives s (Stood h s) (fields (highest (h .word)) before c index known hk sh)
 unfolding fields linked row
-gives-fields h s before c index known hk sh =
+gives-fields h s before c index known hk sh small =
     gives-then _ _ _ (gives-front (highest (h .word)) before sh) (λ v l. gives-last _ _ (λ m. gives-last _ _ (λ name. gives-last _ _ (λ n.
-    gives-then _ _ _ (gives-links (sh .link) (v .address) (highest (h .word)) n) (λ ls p. gives-last _ _ (λ t.
+    gives-then _ _ _ (gives-links (sh .link) (v .address) (highest (h .word)) n small) (λ ls p. gives-last _ _ (λ t.
     gives-yield _ (record { numbers = refl; address = refl; most = l; links = p })))))))
 
 gives-entry : (h : Facts) (s : List ℕ) (before : ℕ) (c : Cache) (index : ℕ) → Gives s (Stood h s) (entry h before c index)
 unfolding entry record-of
 gives-entry h s before c index =
     gives-last _ _ (λ t. gives-pick (eqb t 3) _ _ (gives-yield over tt) (gives-last _ _ (λ fm. gives-last _ _ (λ known. gives-last _ _ (λ f.
-    gives-fields h s before c index known _ _)))))
+    gives-fields h s before c index known _ _ (link-narrow _ fm t f))))))
 
 -- A record that was read stands in the dump.
 pub links-stand : (h : Facts) (s : List ℕ) (before : ℕ) (c : Cache) (index at : ℕ) (r : List ℕ) (ls : Links) (a : ℕ) (k : Cache) (n : ℕ)

@@ -1,12 +1,59 @@
-// Reading a portable heap dump into lent tables.
-// What a reading of any bytes gives is `reading` of phd's specs/Phd.antt; the promises about it are specs/Promises.antt.
+// Reading a portable heap dump into lent tables: the public operation `read`.
+// Its contract is one equation with the definition for the answer, and one for each table.
+ghost use mathlib.Core.Path.{_≡_};
+ghost use lib.ListN.{length};
+ghost use Rattle.phd.specs.Phd.{reading, nothing as nothingOf};
+ghost use Rattle.phd_read.specs.Answer.{answer, stored};
+use layout::Text;
 use phd::Facts;
+use phd_header::HeaderRead;
 
-// The answer of a reading: 01's reply and place, how many rows and references were stored, and the header facts.
+pub mod records;
+mod tables;
+
+// What a reading answers: the reply and its place, how many rows and references were stored, and the header facts.
 pub struct Reading {
     pub reply: u64,
     pub place: usize,
     pub rows: usize,
     pub refs: usize,
     pub facts: Facts,
+}
+
+// The answer of a reading that stops before the records.
+fn nothing(reply: u64) -> Reading
+    ensures { λ r. ⌜ r ≡ answer (nothingOf reply 0) ⌝ }
+{
+    Reading {
+        reply: reply,
+        place: 0,
+        rows: 0,
+        refs: 0,
+        facts: Facts {
+            word: 0,
+            hashed: false,
+            openj9: false,
+            vm: Text {
+                there: false,
+                place: 0,
+                len: 0,
+            },
+        },
+    }
+}
+
+// Reads a dump: its rows go to the start of `rows`, as many numbers to each as `phd::ROW` says, and its references to the
+// start of `refs`. What a table holds behind them stays as it was.
+pub fn read(dump: &[u8], rows: &mut [u64], refs: &mut [u64]) -> Reading
+    ensures is { λ r. ⌜ r ≡ answer (reading (now (dump .entry)) (length (now (rows .entry))) (length (now (refs .entry)))) ⌝ }
+    ensures rows { λ _. ⌜ now (rows .exit) ≡ stored (now (rows .entry)) (reading (now (dump .entry)) (length (now (rows .entry))) (length (now (refs .entry))) .rows) ⌝ }
+    ensures refs { λ _. ⌜ now (refs .exit) ≡ stored (now (refs .entry)) (reading (now (dump .entry)) (length (now (rows .entry))) (length (now (refs .entry))) .refs) ⌝ }
+{
+    if phd::LIMIT < dump.len() {
+        return nothing(2);
+    }
+    match phd_header::read_header(dump) {
+        HeaderRead::Opens(facts, at) => records::read_records(dump, facts, at, rows, refs),
+        HeaderRead::Refuses(w) => nothing(records::reply_of(w)),
+    }
 }

@@ -1,6 +1,8 @@
 -- The functions' answers, as outcomes of layouts.
 -- Assumes nothing.
+use mathlib.Core.Path.{_≡_, refl, sym, ap, _∙_}
 use Prim.Native.Nat.{ℕ}
+use native.Mathlib.Omega.{arith}
 use mathlib.Core.List.{List}
 use lib.ListN.{replicate}
 use Rattle.layout.specs.Layout.{Outcome, whole, stops}
@@ -62,3 +64,28 @@ recorded next place n t c index known hk sh v m name = record {
   address = v .address;
   cache = pick (sh .cached) (put c (v .word)) c;
 }
+
+-- ---- what was found, by what the answer says
+
+module _ (c : Cache) where
+  pub found-over : (o : Outcome Item) (f : Found) (n : ℕ) → f ≡ found-of c o → f .what ≡ Over n → o ≡ whole over n
+  unfolding found-of halted
+  found-over (whole over m) f n e w = let x : Over m ≡ Over n = sym (ap (λ (g : Found). g .what) e) ∙ w in ap (whole over) cc
+  found-over (whole (item r ls a k) m) f n e w = let x : Record m ≡ Over n = sym (ap (λ (g : Found). g .what) e) ∙ w in let z : _≡_ {A = ℕ} 0 1 = cc in absurd (omega arith)
+  found-over (stops y) f n e w = let x : Halts y ≡ Over n = sym (ap (λ (g : Found). g .what) e) ∙ w in let z : _≡_ {A = ℕ} 0 1 = cc in absurd (omega arith)
+
+  pub found-halts : (o : Outcome Item) (f : Found) (y : Stop) → f ≡ found-of c o → f .what ≡ Halts y → o ≡ stops y
+  unfolding found-of halted
+  found-halts (whole over m) f y e w = let x : Over m ≡ Halts y = sym (ap (λ (g : Found). g .what) e) ∙ w in let z : _≡_ {A = ℕ} 0 1 = cc in absurd (omega arith)
+  found-halts (whole (item r ls a k) m) f y e w = let x : Record m ≡ Halts y = sym (ap (λ (g : Found). g .what) e) ∙ w in let z : _≡_ {A = ℕ} 0 1 = cc in absurd (omega arith)
+  found-halts (stops u) f y e w = let x : Halts u ≡ Halts y = sym (ap (λ (g : Found). g .what) e) ∙ w in ap stops cc
+
+  pub found-item : (o : Outcome Item) (f : Found) (n : ℕ) → f ≡ found-of c o → f .what ≡ Record n
+      → (ls : Links) × (o ≡ whole (item (f .row) ls (f .address) (f .cache)) n) × (ls .span ≡ f .span)
+  unfolding found-of halted
+  found-item (whole over m) f n e w = let x : Over m ≡ Record n = sym (ap (λ (g : Found). g .what) e) ∙ w in let z : _≡_ {A = ℕ} 0 1 = cc in absurd (omega arith)
+  found-item (whole (item r ls a k) m) f n e w =
+      let x : Record m ≡ Record n = sym (ap (λ (g : Found). g .what) e) ∙ w in
+      let y : m ≡ n = cc in
+      (ls, rw (e, y), rw e)
+  found-item (stops y) f n e w = let x : Halts y ≡ Record n = sym (ap (λ (g : Found). g .what) e) ∙ w in let z : _≡_ {A = ℕ} 0 1 = cc in absurd (omega arith)

@@ -1,0 +1,13 @@
+-- `nothing` meets its contract.
+use mathlib.Core.Path.{refl}
+use Rattle.phd.specs.Phd.{nothing, no-facts}
+use Rattle.phd_read.specs.Answer.{answer}
+use Rattle.phd_read.proofs.nothing.Statement.{statement}
+use Rattle.phd_read.proofs.nothing.Tie as tie
+
+returns : tie.Need-returns
+unfolding answer nothing no-facts
+returns c = refl
+
+pub nothing-spec : {M : Type 1} → statement M
+nothing-spec = tie.close (tie.spec returns)

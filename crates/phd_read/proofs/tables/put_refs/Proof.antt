@@ -1,0 +1,110 @@
+-- `put_refs` meets its contract: storing what is left, from here, is storing all of them.
+use borrow.Author.Needs.{needs}
+use mathlib.Core.Path.{_≡_, refl, sym, ap, _∙_}
+use Prim.Native.Nat.{ℕ, _+_, _-_, _≤_, _<_}
+use native.Mathlib.Omega.{arith}
+use native.Mathlib.Numerals.{add-one}
+use lib.ListN.{length, length-set}
+use lib.Seq.{sets}
+use Rattle.layout.specs.Layout.{whole, run, inside}
+use Rattle.layout.specs.Fields.{outcome, reference}
+use Rattle.phd.specs.Phd.{references}
+use Rattle.phd.specs.References.{references-none}
+use Rattle.phd_read.specs.Stored.{Whole, values-of, one-more, none-stops}
+use Rattle.phd_read.proofs.tables.put_refs.Statement.{statement}
+use Rattle.phd_read.proofs.tables.put_refs.Tie as tie
+
+abbrev Inv-loop : tie.InvT-loop
+Inv-loop s at w base top count table₀ to here₀ left₀ place₀ table here left place =
+    (here ≤ length s) × (place + left ≤ length table) × (length table ≡ length table₀) × Whole (run (references w base top left) s here)
+    × (sets table place (values-of (run (references w base top left) s here)) ≡ sets table₀ to (values-of (run (references w base top count) s at)))
+
+abbrev μ-loop : tie.MeasureT-loop
+μ-loop s at w base top count table₀ to here₀ left₀ place₀ table here left place = left
+
+-- the reference that a turn read
+got : (c : tie.After-a Inv-loop μ-loop) → let l = c .before .before .before .before in let a = l .before .before .before .args in
+    run (reference (a .w) (a .base) (a .top)) (a .s .now) (l .loop .here) ≡ whole (c .a .given .0 .0) (c .a .given .0 .1 .0)
+got c = sym (c .before .before .reference .ensures) ∙ ap outcome (c .a .given .1)
+
+loop-holds : tie.Need-loop-holds Inv-loop μ-loop
+loop-holds c = (omega arith, omega arith, refl, c .before .before .pre .1, refl)
+
+reference-requires : tie.Need-reference-requires Inv-loop μ-loop
+reference-requires c κs = omega arith
+
+enum-known-a : tie.Need-enum-known-a Inv-loop μ-loop
+enum-known-a c = search needs
+
+mul-table : tie.Need-mul-table Inv-loop μ-loop
+mul-table c = search needs
+
+slice-write-table : tie.Need-slice-write-table Inv-loop μ-loop
+slice-write-table c = search needs
+
+enum-told : tie.Need-enum-told Inv-loop μ-loop
+enum-told c = search needs
+
+same-length : tie.Need-same-length Inv-loop μ-loop
+same-length c = search needs
+
+returns : tie.Need-returns Inv-loop μ-loop
+returns c =
+    let w = c .before .before in
+    let l = w .before .before in
+    let a = l .before .before .before .args in
+    absurd (none-stops (a .w) (a .base) (a .top) (a .s .now) (l .loop .here) (l .loop .left) (omega arith) (l .loop .inv .3) _ (sym (w .reference .ensures) ∙ ap outcome (c .enum-told .given .1)))
+
+add-place : tie.Need-add-place Inv-loop μ-loop
+add-place c = search needs
+
+sub-left : tie.Need-sub-left Inv-loop μ-loop
+sub-left c = search needs
+
+loop-less : tie.Need-loop-less Inv-loop μ-loop
+loop-less c = search needs
+
+loop-again : tie.Need-loop-again Inv-loop μ-loop
+loop-again c =
+    let w = c .before .before .before in
+    let l = w .before .before in
+    let a = l .before .before .before .args in
+    let e = got (c .before) in
+    let v = one-more (a .w) (a .base) (a .top) (a .s .now) (l .loop .here) (l .loop .left) (omega arith) (l .loop .inv .3) _ _ e in (
+      inside (reference (a .w) (a .base) (a .top)) (a .s .now) (l .loop .here) _ _ (l .loop .inv .0) e,
+      simp length-set (omega arith),
+      simp length-set (l .loop .inv .2),
+      v .0,
+      rw add-one (rw (v .1) at (l .loop .inv .4)),
+    )
+
+same-length-2 : tie.Need-same-length-2 Inv-loop μ-loop
+same-length-2 c = search needs
+
+returns-2 : tie.Need-returns-2 Inv-loop μ-loop
+returns-2 c =
+    let l = c .before in
+    let a = l .before .before .before .args in
+    let e : l .loop .left ≡ 0 = omega arith in
+    rw (e, references-none (a .w) (a .base) (a .top) (a .s .now) (l .loop .here)) at (l .loop .inv .4)
+
+pub put-refs-spec : {M : Type 1} → statement M
+put-refs-spec =
+    tie.close
+    (tie.spec
+    Inv-loop
+    μ-loop
+    loop-holds
+    reference-requires
+    enum-known-a
+    mul-table
+    slice-write-table
+    enum-told
+    same-length
+    returns
+    add-place
+    sub-left
+    loop-less
+    loop-again
+    same-length-2
+    returns-2)

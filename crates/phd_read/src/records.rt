@@ -1,0 +1,176 @@
+// Record after record: one step, and the loop over steps.
+ghost use mathlib.Core.Path.{_≡_};
+ghost use Prim.Native.Nat.{suc, _+_, _^_, _<_, _≤_};
+ghost use lib.ListN.{length};
+ghost use Rattle.layout.specs.Layout.{run, reply-of};
+ghost use Rattle.phd.specs.Phd.{limit, entry, records, first};
+ghost use Rattle.phd.specs.Shapes.{Word};
+ghost use Rattle.phd_record.specs.Found.{found-of};
+ghost use Rattle.phd_record.specs.declared.What.the-variants.{Record};
+ghost use Rattle.phd_read.specs.Answer.{answer, stored};
+ghost use Rattle.phd_read.specs.Stepping.{Fits, Does, advanced};
+use super::Reading;
+use super::tables;
+use layout::Stop;
+use phd::Cache;
+use phd::Facts;
+use phd_record::Found;
+use phd_record::What;
+
+// Where a reading stands between records: the place of the next tag, the address of the record before, the cache, and how
+// many rows and references are stored.
+pub struct Cursor {
+    pub at: usize,
+    pub address: u64,
+    pub cache: Cache,
+    pub rows: usize,
+    pub refs: usize,
+}
+
+// A step goes on, or ends the reading with a reply and its place.
+pub enum How {
+    Goes,
+    Ends(u64, usize),
+}
+
+pub struct Stepped {
+    pub how: How,
+    pub cursor: Cursor,
+}
+
+// The number of a reply, by why reading stops.
+pub fn reply_of(w: Stop) -> u64
+    ensures { λ r. ⌜ r ≡ reply-of w ⌝ }
+{
+    match w {
+        Stop::Cut(_) => 1,
+        Stop::Refused(r) => r,
+    }
+}
+
+// The cursor after a record that was found.
+fn advance(k: Cursor, next: usize, found: Found) -> Cursor
+    requires { ⌜ (k .rows + 1 < 2 ^ 64) × (k .refs + found .span .count < 2 ^ 64) ⌝ }
+    ensures { λ r. ⌜ r ≡ advanced k next found ⌝ }
+{
+    let cache = found.cache;
+    let span = found.span;
+    Cursor {
+        at: next,
+        address: found.address,
+        cache: cache,
+        rows: k.rows + 1,
+        refs: k.refs + span.count as usize,
+    }
+}
+
+// Stores a record that was found, if there is room for its row and then for its references.
+fn admit(
+    s: &[u8],
+    facts: Facts,
+    rows: &mut [u64],
+    refs: &mut [u64],
+    k: Cursor,
+    next: usize,
+    found: Found,
+) -> Stepped
+    requires { ⌜ Fits (now s) (now rows) (now refs) k × Word (facts .word) ⌝ }
+    requires { ⌜ (found ≡ found-of (k .cache) (run (entry facts (k .address) (k .cache) (k .refs)) (now s) (k .at))) × (found .what ≡ Record next) ⌝ }
+    ensures { λ r. ⌜ Does facts (now (s .entry)) k (now (rows .entry)) (now (refs .entry)) (now (rows .exit)) (now (refs .exit)) (r .cursor) (r .how) ⌝ }
+{
+    let first = k.rows * phd::ROW;
+    if rows.len() - first < phd::ROW {
+        return Stepped {
+            how: How::Ends(13, k.at),
+            cursor: k,
+        };
+    }
+    let span = found.span;
+    let to = k.refs;
+    let left = (refs.len() - to) as u64;
+    if left < span.count {
+        return Stepped {
+            how: How::Ends(14, k.at),
+            cursor: k,
+        };
+    }
+    let row = found.row;
+    tables::put_row(rows, first, row);
+    let top = phd::forms::highest_of(facts.word);
+    tables::put_refs(
+        s,
+        span.place,
+        span.width,
+        found.address,
+        top,
+        span.count,
+        refs,
+        to,
+    );
+    Stepped {
+        how: How::Goes,
+        cursor: advance(k, next, found),
+    }
+}
+
+// One record: the end of the reading, or the record stored.
+pub fn step(s: &[u8], facts: Facts, rows: &mut [u64], refs: &mut [u64], k: Cursor) -> Stepped
+    requires { ⌜ Fits (now s) (now rows) (now refs) k × Word (facts .word) ⌝ }
+    ensures { λ r. ⌜ Does facts (now (s .entry)) k (now (rows .entry)) (now (refs .entry)) (now (rows .exit)) (now (refs .exit)) (r .cursor) (r .how) ⌝ }
+{
+    let cache = k.cache;
+    let found = phd_record::read_record(s, k.at, facts, k.address, cache, k.refs as u64);
+    let what = found.what;
+    match what {
+        What::Over(n) => Stepped {
+            how: How::Ends(0, n),
+            cursor: k,
+        },
+        What::Record(next) => admit(s, facts, rows, refs, k, next, found),
+        What::Halts(w) => Stepped {
+            how: How::Ends(reply_of(w), k.at),
+            cursor: k,
+        },
+    }
+}
+
+// The records of a dump, from the place of the first tag on.
+pub fn read_records(
+    s: &[u8],
+    facts: Facts,
+    at: usize,
+    rows: &mut [u64],
+    refs: &mut [u64],
+) -> Reading
+    requires { ⌜ (at ≤ length (now s)) × (length (now s) ≤ limit) × Word (facts .word) ⌝ }
+    ensures is { λ r. ⌜ r ≡ answer (records (suc limit) facts (now (s .entry)) (length (now (rows .entry))) (length (now (refs .entry))) (first at)) ⌝ }
+    ensures rows { λ _. ⌜ now (rows .exit) ≡ stored (now (rows .entry)) (records (suc limit) facts (now (s .entry)) (length (now (rows .entry))) (length (now (refs .entry))) (first at) .rows) ⌝ }
+    ensures refs { λ _. ⌜ now (refs .exit) ≡ stored (now (refs .entry)) (records (suc limit) facts (now (s .entry)) (length (now (rows .entry))) (length (now (refs .entry))) (first at) .refs) ⌝ }
+{
+    let mut cursor = Cursor {
+        at: at,
+        address: 0,
+        cache: Cache::new(),
+        rows: 0,
+        refs: 0,
+    };
+    loop {
+        let done = step(s, facts, rows, refs, cursor);
+        let how = done.how;
+        let next = done.cursor;
+        match how {
+            How::Goes => {
+                cursor = next;
+            }
+            How::Ends(reply, place) => {
+                return Reading {
+                    reply: reply,
+                    place: place,
+                    rows: next.rows,
+                    refs: next.refs,
+                    facts: facts,
+                };
+            }
+        }
+    }
+}

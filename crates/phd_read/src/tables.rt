@@ -1,0 +1,54 @@
+// Storing a record that has room: its row and its references.
+ghost use mathlib.Core.Path.{_≡_};
+ghost use Prim.Native.Nat.{_+_, _≤_};
+ghost use lib.ListN.{length};
+ghost use lib.Seq.{sets};
+ghost use Rattle.layout.specs.Layout.{run};
+ghost use Rattle.phd.specs.Phd.{row-width, references};
+ghost use Rattle.phd_read.specs.Stored.{Whole, values-of};
+use layout::Piece;
+
+// Stores a row at a place of the table.
+pub fn put_row(table: &mut [u64], at: usize, row: [u64; phd::ROW])
+    requires { ⌜ (at + row-width ≤ length (now table)) × (length row ≡ row-width) ⌝ }
+    ensures { λ _. ⌜ now (table .exit) ≡ sets (now (table .entry)) at row ⌝ }
+{
+    let mut i: usize = 0;
+    while i < phd::ROW {
+        table[at + i] = row[i];
+        i += 1;
+    }
+}
+
+// Stores count references that were judged, w bytes each and from a place of the dump on, from a place of the table on.
+pub fn put_refs(
+    s: &[u8],
+    at: usize,
+    w: usize,
+    base: u64,
+    top: u64,
+    count: u64,
+    table: &mut [u64],
+    to: usize,
+)
+    requires { ⌜ (at ≤ length (now s)) × (w ≤ 8) × (to + count ≤ length (now table)) ⌝ }
+    requires { ⌜ Whole (run (references w base top count) (now s) at) ⌝ }
+    ensures { λ _. ⌜ now (table .exit) ≡ sets (now (table .entry)) to (values-of (run (references w base top count) (now (s .entry)) at)) ⌝ }
+{
+    let mut here = at;
+    let mut left = count;
+    let mut place = to;
+    while 0 < left {
+        match layout::reference(s, here, w, base, top) {
+            Piece::Is(a, next) => {
+                table[place] = a;
+                here = next;
+            }
+            Piece::Stops(_) => {
+                return;
+            }
+        }
+        place += 1;
+        left -= 1;
+    }
+}
