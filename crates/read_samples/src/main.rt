@@ -1,0 +1,232 @@
+// Reads the sample dumps that its arguments name, and every cut of each, and prints what the readings give.
+// samples/make.py makes the dumps and works out what is to be printed, from what it put in. For each file:
+//
+//     NAME
+//     reply R place P rows N refs N word W            the reading of the whole file
+//     hashed 0|1 openj9 0|1 vm 0|1 place P len N      the header's flags and VM string
+//     row N N N ..                                    each stored row's numbers, in their order
+//     refs N N ..                                     the references, up to eight in a line
+//     cut N reply R place P rows N refs N word W      the first N bytes, where they give another line than N - 1
+//     rest kept|changed                               the tables behind what each of these readings stored
+use libc::STDOUT_FILENO;
+use phd::Facts;
+use phd_read::Reading;
+ghost use Prim.Native.Nat.{_≤_, _<_};
+ghost use lib.ListN.{length};
+
+// Room for 48 rows, with five numbers too few for one more, and for 70 references.
+const ROWS: usize = 48 * phd::ROW + 5;
+
+const REFS: usize = 70;
+
+// What every number of the tables is before a reading.
+const UNTOUCHED: u64 = 0x5EED_5EED_5EED_5EED;
+
+// A reading, and whether it kept the tables behind what it stored.
+struct Trial {
+    reading: Reading,
+    kept: bool,
+}
+
+fn say(text: &[u8]) {
+    io::write_all(STDOUT_FILENO, text);
+}
+
+fn tell(label: &[u8], n: u64) {
+    say(label);
+    io::print_decimal(STDOUT_FILENO, n);
+}
+
+fn tell_bit(label: &[u8], b: bool) {
+    if b {
+        tell(label, 1);
+    } else {
+        tell(label, 0);
+    }
+}
+
+fn tell_reading(r: Reading) {
+    tell(b"reply ", r.reply);
+    tell(b" place ", r.place as u64);
+    tell(b" rows ", r.rows as u64);
+    tell(b" refs ", r.refs as u64);
+    let f = r.facts;
+    tell(b" word ", f.word);
+    say(b"\n");
+}
+
+fn tell_facts(f: Facts) {
+    tell_bit(b"hashed ", f.hashed);
+    tell_bit(b" openj9 ", f.openj9);
+    let vm = f.vm;
+    tell_bit(b" vm ", vm.there);
+    tell(b" place ", vm.place as u64);
+    tell(b" len ", vm.len as u64);
+    say(b"\n");
+}
+
+// The numbers of a table from one index to before another, in a line.
+fn tell_line(label: &[u8], table: &[u64], from: usize, end: usize)
+    requires { ⌜ end ≤ length (now table) ⌝ }
+{
+    say(label);
+    let mut i = from;
+    while i < end {
+        tell(b" ", table[i]);
+        i += 1;
+    }
+    say(b"\n");
+}
+
+// Where a line of `width` numbers ends that begins before `end`.
+fn line_end(at: usize, width: usize, end: usize) -> usize
+    requires { ⌜ (at < end) × (1 ≤ width) ⌝ }
+    ensures { λ r. ⌜ (at < r) × (r ≤ end) ⌝ }
+{
+    if end - at < width {
+        return end;
+    }
+    at + width
+}
+
+// The numbers of a table before an index, in lines of `width` numbers.
+fn tell_table(label: &[u8], table: &[u64], width: usize, end: usize)
+    requires { ⌜ (end ≤ length (now table)) × (1 ≤ width) ⌝ }
+{
+    let mut at: usize = 0;
+    while at < end {
+        let next = line_end(at, width, end);
+        tell_line(label, table, at, next);
+        at = next;
+    }
+}
+
+// How many numbers of a table n things of `width` numbers take; all of it, were that more.
+fn used(table: &[u64], n: usize, width: usize) -> usize
+    requires { ⌜ 1 ≤ width ⌝ }
+    ensures { λ r. ⌜ r ≤ length (now (table .entry)) ⌝ }
+{
+    if n <= table.len() / width {
+        return n * width;
+    }
+    table.len()
+}
+
+// Whether all numbers of a table from an index on are untouched.
+fn kept(table: &[u64], from: usize) -> bool {
+    let mut i = from;
+    while i < table.len() {
+        if table[i] != UNTOUCHED {
+            return false;
+        }
+        i += 1;
+    }
+    true
+}
+
+// A reading into untouched tables.
+fn tried(dump: &[u8], rows: &mut [u64], refs: &mut [u64]) -> Trial {
+    let r = phd_read::read(dump, rows, refs);
+    let rest = kept(rows, used(rows, r.rows, phd::ROW)) && kept(refs, r.refs);
+    Trial {
+        reading: r,
+        kept: rest,
+    }
+}
+
+// A reading of the first n bytes, of which only the answer is wanted.
+fn tried_cut(dump: &[u8], n: usize) -> Trial
+    requires { ⌜ n ≤ length (now dump) ⌝ }
+{
+    let mut rows = [UNTOUCHED; ROWS];
+    let mut refs = [UNTOUCHED; REFS];
+    tried(&dump[0..n], &mut rows, &mut refs)
+}
+
+fn same(a: Reading, b: Reading) -> bool {
+    let f = a.facts;
+    let g = b.facts;
+    a.reply == b.reply
+        && a.place == b.place
+        && a.rows == b.rows
+        && a.refs == b.refs
+        && f.word == g.word
+}
+
+fn tell_cut(n: usize, r: Reading) {
+    tell(b"cut ", n as u64);
+    say(b" ");
+    tell_reading(r);
+}
+
+// The first n bytes, after those of one byte less.
+fn tell_next_cut(dump: &[u8], n: usize, last: Trial) -> Trial
+    requires { ⌜ n ≤ length (now dump) ⌝ }
+{
+    let t = tried_cut(dump, n);
+    let r = t.reading;
+    if !same(r, last.reading) {
+        tell_cut(n, r);
+    }
+    Trial {
+        reading: r,
+        kept: t.kept && last.kept,
+    }
+}
+
+// Every cut of a dump, and whether all of them kept the rest of the tables.
+fn tell_cuts(dump: &[u8]) -> bool {
+    let mut last = tried_cut(dump, 0);
+    tell_cut(0, last.reading);
+    let mut n: usize = 0;
+    while n < dump.len() {
+        n += 1;
+        last = tell_next_cut(dump, n, last);
+    }
+    last.kept
+}
+
+fn show(dump: &[u8]) {
+    let mut rows = [UNTOUCHED; ROWS];
+    let mut refs = [UNTOUCHED; REFS];
+    let t = tried(dump, &mut rows, &mut refs);
+    let r = t.reading;
+    tell_reading(r);
+    tell_facts(r.facts);
+    tell_table(b"row", &rows, phd::ROW, used(&rows, r.rows, phd::ROW));
+    tell_table(b"refs", &refs, 8, used(&refs, r.refs, 1));
+    if tell_cuts(dump) && t.kept {
+        say(b"rest kept\n");
+    } else {
+        say(b"rest changed\n");
+    }
+}
+
+fn sample(name: &[u8]) {
+    let fd = os::open_read(name);
+    if fd < 0 {
+        os::fail(name);
+        return;
+    }
+    let mut dump = io::buffer();
+    let n = io::read_full(fd, &mut dump);
+    libc::close(fd);
+    say(name);
+    say(b"\n");
+    show(&dump[..n]);
+}
+
+fn argument(i: usize) {
+    let mut name = io::buffer();
+    let n = os::arg(i, &mut name);
+    sample(&name[..n]);
+}
+
+fn main() {
+    let n = os::arg_count();
+    let mut i: usize = 1;
+    while i < n {
+        argument(i);
+        i += 1;
+    }
+}

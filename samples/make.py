@@ -1,0 +1,288 @@
+#!/usr/bin/env python3
+"""Makes the sample dumps of a program crate, and what the program must print of them.
+
+usage: samples/make.py crates/read_samples
+
+Writes data/*.phd, args (their names, in order) and stdout into that folder, the same on every run. What is expected comes
+from what was put into a dump (dump.py); of a refused one this file says the reply and where the field at fault ends.
+"""
+import pathlib
+import sys
+
+from dump import ASKED, NONE, OPENING, REFS, ROWS, Dump
+
+# The dump that the paper has whole.
+PAPER = """
+00 12 70 6F 72 74 61 62 6C 65 20 68 65 61 70 20 64 75 6D 70 00 00 00 06 00 00 00 04 01 04 00 04 54 65 73 74 02 02
+06 40 04 00 00 00 00 10 00 00 00 00 00 01 41 00 00 00 00
+48 04 00 00 10 00 04
+80 04
+24 04 03 00 00 00 06
+03
+"""
+
+
+# ---- dumps that are read whole
+
+
+def example():
+    d = Dump().header().klass(0x1000, b"A", code=1).medium(0x1010, 0x1000, [0x1020])
+    return d.short(0x1020, 0).primitive(0x1030, type=1, length=3, size=6)
+
+
+def forms(turn, **header):
+    """Every form with every width of its gap and its references, from the middle of memory, up and down.
+
+    In the four turns together each form that has both width codes in its flag byte has each pair of them.
+    """
+    d = Dump().header(**header)
+    word, hashed = d.facts["word"], d.facts["hashed"]
+    middle, klass = 2 ** (word - 1), 0xC1C2C3C4C5C6C7C8 % 2**word
+    by = [0x65, 0x4321, 0x1234567, 0x123456789ABCDEF if word == 64 else 0x7654321]
+
+    def hash(i):
+        return 0xFFFF - len(d.rows) if hashed else [NONE, ASKED, 0xFFFFFFFF - len(d.rows)][i % 3]
+
+    def at(code):
+        return d.address + 4 * by[code] * (1 if d.address <= middle else -1)
+
+    def put(form, what, n, code, width, i=0, **more):
+        a = at(code)
+        refs = [a + 4 * (by[width] - k) * (-1) ** k for k in range(n)]
+        form(a, what, refs=refs, code=code, width=width, hash=hash(i), **more)
+
+    d.long(middle, klass, code=3, hash=hash(0))
+    for i in range(8):
+        put(d.medium, klass + 1 + i, i, i // 4, i % 4)
+    for i in range(8):
+        put(d.short, i * 3 % 4, (i + 1) % 4, i // 4, i % 4)
+        d.primitive(at(i % 4), i, 0x11 + i, 2**32 - 1 - i, i % 4, hash(0))
+        words = i % 2 == 1
+        d.long_primitive(at(word // 32 + 1 if words else 0), i, 0x70 + i, i, words, hash(i))
+    for i in range(4):
+        width = (i + turn) % 4
+        put(d.long, klass - i, 2, i, width, i)
+        put(d.array, klass - i, 2, i, width, i + 1, size=2**31 + i, length=2 + i)
+        put(d.klass, b"pack/C%d" % i, 2, i, width, i % 2 * 2, size=2 * i, word=klass + i)
+    return d
+
+
+def edges(word):
+    """The least and the greatest numbers of each field, and an object at the address 0."""
+    top, most = 2**word - 4, 2**31 - 1
+    widest = word // 32 + 1
+    d = Dump().header(word, vm=None)
+    d.medium(0, 0, [4, 0x1FC])
+    d.medium(0, 2**word - 1, [top], width=widest)
+    for code in range(widest):
+        half = 2 ** (8 * 2**code - 1)
+        d.long(4 * (half - 1), 1, [4], code=code, width=code, hash=0)
+        d.long(4 * half, 2, hash=2**32 - 1)
+        d.long(0, 3, [4 * (half - 1)], code=code, width=code)
+    for code in range(widest, 4):
+        d.array(top, 2**word - 1, [4, top], 2**32 - 1, most, code=code, width=code)
+        d.array(0, 0, length=most, code=code)
+    for code in range(4):
+        d.primitive(4 * code, 7, min(2 ** (8 * 2**code - 1) - 1, most), 2**32 - 1, code)
+        d.primitive(4 * code, 0, 0, 0, code)
+    for words in (False, True):
+        d.long_primitive(4, 7, most if words else 127, 2**32 - 1, words)
+        d.long_primitive(0, 0, 0, 0, words)
+    d.klass(0, bytes(range(0x21, 0x7F)) * 3, most, 2**word - 1)
+    return d.klass(0, b"~", 0, 0)
+
+
+def cache():
+    """Slots are filled in turn by medium and long objects, also with a class that another slot holds; by nothing else."""
+    d = Dump().header()
+    for i, klass in enumerate([0x100, 0x200, 0x100, 0x300, 0x400, 0x400, 0x500, 0x600, 0x700, 0x800, 0x900]):
+        (d.long if i % 2 else d.medium)(d.address + 4, klass)
+        if i % 5 == 0:
+            d.array(d.address + 4, 0xF00).klass(d.address + 4, b"K").primitive(d.address + 4, 1, 2, 3)
+        for slot in range(4) if i in (3, 8) else (i % 4, max(i - 3, 0) % 4):
+            d.short(d.address + 4, slot)
+    return d
+
+
+def flag_bits(hashed):
+    """Moved with and without hashed, and flag bits that are to be ignored."""
+    d = Dump().header(hashed=hashed, openj9=False)
+    for more in (0x00, 0x04, 0x08, 0x0C) if hashed else (0x00, 0x0C):
+        for hash, bits in [(7, 0)] if hashed else [(NONE, 0), (ASKED, 0), (0x12345678, 0), (0x12345678, 0x01)]:
+            d.long(d.address + 4, 0x100, [0x40], hash=hash, bits=more | bits)
+            d.array(d.address + 4, 0x100, [0x40], hash=hash, bits=more | bits)
+            d.long_primitive(d.address + 4, 5, 6, 7, hash=hash, bits=more | bits)
+    for bits in (0x01, 0x02, 0x04, 0x07):
+        d.klass(d.address + 4, b"K", hash=7 if hashed else NONE, bits=bits)
+        d.klass(d.address + 4, b"K", hash=8, bits=bits)
+    return d
+
+
+def full(rows, refs=0):
+    """As many rows, the last of them with as many references."""
+    d = Dump().header().medium(0, 0x100)
+    for _ in range(rows - 2):
+        d.short(d.address + 4, 0)
+    return d.long(d.address + 4, 0x100, [d.address + 8] * refs)
+
+
+def wholes():
+    paper = example().end()
+    assert paper.bytes == bytes.fromhex(PAPER)
+    yield "example", paper
+    yield "case-f", example().end(b"\x03\x80more")
+    yield "case-i", Dump().header().klass(0x1000, b"A", code=1).medium(0x0FFC, 0x1000, [0x100C]).end()
+    yield "empty", Dump().header(vm=None).end()
+    yield "forms-32", forms(0, word=32, vm=b"").end()
+    yield "forms-64", forms(1, word=64, vm=bytes(range(0x20, 0x7F))).end()
+    yield "forms-32-hashed", forms(2, word=32, hashed=True, openj9=False, vm=b"J9").end()
+    yield "forms-64-hashed", forms(3, word=64, hashed=True, openj9=False, vm=None).end()
+    yield "edges-32", edges(32).end()
+    yield "edges-64", edges(64).end()
+    yield "cache", cache().end()
+    yield "flag-bits", flag_bits(False).end()
+    yield "flag-bits-hashed", flag_bits(True).end()
+    yield "rows-full", full(ROWS).end()
+    yield "refs-full", full(3, REFS).short(0, 0).end()
+
+
+# ---- dumps that are refused: a name begins with its reply
+
+
+def headers():
+    """Each by its bytes up to the end of the field at fault, and those after it."""
+    rest = bytes.fromhex("00000006 00000004 01 02 02 03")
+    yield "03-length", Dump().bad_header(3, b"\x00\x13", OPENING[2:] + rest)
+    yield "03-length-high", Dump().bad_header(3, b"\x01\x12", OPENING[2:] + rest)
+    yield "03-byte", Dump().bad_header(3, b"\x00\x12portable heap dumP", rest)
+    yield "03-before-04", Dump().bad_header(3, b"\x00\x12Portable heap dump", b"\x00\x00\x00\x07" + rest[4:])
+
+    def bad(name, judged, rest="02 02 03"):
+        return name, Dump().bad_header(int(name[:2]), OPENING + bytes.fromhex(judged), bytes.fromhex(rest))
+
+    yield bad("04-version", "00000005", "00000004 01 02 02 03")
+    yield bad("04-version-high", "01000006", "00000004 01 02 02 03")
+    yield bad("04-before-05", "00000007", "00000008 01 02 02 03")
+    yield bad("05-flag-8", "00000006 00000008", "01 02 02 03")
+    yield bad("05-flag-high", "00000006 80000004", "01 02 02 03")
+    yield bad("05-before-06", "00000006 0000000F", "02 02 02 03")
+    yield bad("06-start", "00000006 00000004 02")
+    yield bad("06-header-tag-01", "00000006 00000004 01 01")
+    yield bad("06-header-tag-03", "00000006 00000004 01 03")
+    yield bad("06-after-vm", "00000006 00000004 01 04 0001 41 05")
+    yield bad("06-no-body", "00000006 00000004 01 02 03")
+    yield bad("06-no-body-after-vm", "00000006 00000007 01 04 0001 41 02 80")
+    yield bad("07-vm-low-byte", "00000006 00000004 01 04 0003 41 1F 42")
+    yield bad("07-vm-high-byte", "00000006 00000004 01 04 0003 7F 41 42")
+    yield bad("07-second-vm", "00000006 00000004 01 04 0001 41 04", "0001 41 02 02 03")
+
+
+def begun(**header):
+    """An object of the class 0x1000 at 0x1010."""
+    hash = 0x51DE if header.get("hashed") else NONE
+    return Dump().header(**header).medium(0x1010, 0x1000, [0x1020], code=1, hash=hash)
+
+
+def records():
+    """Each behind one good record (begun), by its bytes up to the end of the field at fault, and those after it."""
+
+    def bad(name, judged, rest="03", **header):
+        return name, begun(**header).fault(int(name[:2]), judged, rest)
+
+    for tag in ("00", "02", "05", "1F"):
+        yield bad("06-tag-" + tag, tag)
+    yield bad("07-class-empty", "06 00 04 00000010 00000000 0000", "00000000 03")
+    yield bad("07-class-space", "06 00 04 00000010 00000000 0003 41 20 42", "00000000 03")
+    yield bad("07-class-7F", "06 00 04 00000010 00000000 0001 7F", "00000000 03")
+    yield bad("07-class-C3", "06 00 04 00000010 00000000 0002 C3 A9", "00000000 03")
+    yield bad("07-before-12", "06 00 04 00000010 00000000 0000", "FFFFFFFF 03")
+
+    yield "08-case-j", Dump().header().fault(8, "06 40 8000", "00000010 00000000 0001 41 00000000 03")
+    yield bad("08-gap-below-32", "84 FBFB")
+    yield bad("08-gap-below-64", "04 C0 FFFFFFFFFFFFFBFB", "0000000000001000 00000000 03", word=64)
+    yield bad("08-gap-above-32", "04 80 3FFFFBFC", "00001000 00000000 03")
+    yield bad("08-gap-above-64", "06 C0 3FFFFFFFFFFFFBFC", "00000010 0000000000000000 0001 41 00000000 03", word=64)
+    yield bad("08-gap-wraps-32", "22 40000000", "00000001 00000001 03")
+    yield bad("08-gap-wraps-64", "07 10 4000000000000000", "0000000000000001 00000001 03", word=64)
+    yield bad("08-gap-wraps-down-64", "08 C0 C000000000000000", "0000000000001000 00000000 00000001 00000001 03", word=64)
+    yield bad("08-ref-below", "89 04 FBF7")
+    yield bad("08-ref-above-32", "4A 04 00001000 3FFFFBF8")
+    yield bad("08-ref-above-64", "04 30 04 0000000000001000 00000001 3FFFFFFFFFFFFBF8", word=64)
+    yield bad("08-ref-wraps-32", "08 20 04 00001000 00000001 40000000", "00000001 00000001 03")
+    refs = "00000002 0000000000000001 4000000000000000"
+    yield bad("08-second-ref-wraps-64", "06 30 04 00000010 0000000000000000 0001 41" + refs, word=64)
+    yield bad("08-before-09", "91 04 FBF7", "FBF8 03")
+    yield bad("08-before-12", "06 40 FBFB", "FFFFFFFF 00000000 0001 41 00000000 03")
+
+    yield bad("09-short", "89 04 FBF8")
+    yield bad("09-itself-at-0", "4C FBFC 00001000 00")
+    yield bad("09-second", "04 10 04 00001000 00000002 0001 FBF8")
+    yield bad("09-class", "06 10 04 00000010 00000000 0001 42 00000001 FBF8")
+    yield bad("09-array", "08 10 04 00001000 00000001 FBF8", "00000001 00000001 03")
+    yield bad("09-before-08", "91 04 FBF8", "FBF7 03")
+    yield bad("09-before-12", "08 10 04 00001000 00000001 FBF8", "00000001 00000000 03")
+
+    for name, judged in ("long", "04 01"), ("long-moved", "04 02"), ("array", "08 03"), ("array-moved", "08 02"):
+        yield bad("11-" + name, judged, "04 00001000 0000 00000000 00000000 00000000 03", hashed=True)
+    for name, judged in ("primitive", "07 01"), ("primitive-moved", "07 02"):
+        yield bad("11-" + name, judged, "04 01 0000 00000001 03", hashed=True)
+    yield bad("11-class", "06 08", "04 00000010 0000 00000000 0001 42 00000000 03", hashed=True)
+    yield bad("11-before-08", "04 43", "8000 00001000 0000 00000000 03", hashed=True)
+
+    yield bad("12-count", "04 00 04 00001000 80000000")
+    yield bad("12-class-count", "06 00 04 00000010 00000000 0001 42 FFFFFFFF")
+    yield bad("12-array-count", "08 00 04 00001000 FFFFFFFF", "00000001 00000001 03")
+    yield bad("12-class-size", "06 00 04 80000000", "00000000 0001 42 00000000 03")
+    yield bad("12-length-byte", "20 04 FF", "00000001 03")
+    yield bad("12-length-int", "22 00000004 FFFFFFFF", "00000001 03")
+    yield bad("12-length-long", "23 0000000000000004 0000000080000000", "00000001 03")
+    yield bad("12-length-long-wraps", "23 0000000000000004 0000000100000000", "00000001 03")
+    yield bad("12-long-primitive-byte", "07 00 04 80", "00000001 03")
+    yield bad("12-long-primitive-32", "07 10 00000004 80000000", "00000001 03")
+    yield bad("12-long-primitive-64", "07 10 0000000000000004 0000000080000000", "00000001 03", word=64)
+    yield bad("12-long-primitive-64-wraps", "07 10 0000000000000004 0000000100000000", "00000001 03", word=64)
+    yield bad("12-true-length-below", "08 00 04 00001000 00000002 01 02 00000001 00000001")
+    yield bad("12-true-length-negative", "08 00 04 00001000 00000000 00000001 FFFFFFFF")
+    yield bad("12-before-07", "06 00 04 FFFFFFFF", "00000000 0000 00000000 03")
+
+
+def rooms():
+    """A slot not yet filled; no row left, or too few references, which is asked when all else is well."""
+    yield "10-slot-0", Dump().header().klass(0x1000, b"A", code=1).fault(10, "80", "04 03")
+    yield "10-slot-0-after-array", Dump().header().array(0x100, 0x1000).fault(10, "80", "04 03")
+    d = Dump().header().klass(0x1000, b"A", code=1).medium(0x1010, 0x1000, [0x1020])
+    yield "10-case-h", d.fault(10, "A0", "04 24 04 03 00 00 00 06 03")
+    yield "10-slot-2", begun().long(0x1020, 0x1000).fault(10, "C0", "04 03")
+    yield "10-slot-3", begun().long(0x1020, 0x1000).medium(0x1030, 0x1000).fault(10, "E0", "04 03")
+    yield "10-before-08", begun().fault(10, "C4", "8000 03")
+    yield "13-rows", full(ROWS + 1).short(0, 0).end()
+    yield "13-before-14", full(ROWS + 1, REFS + 1).end()
+    yield "14-refs", full(3, REFS - 1).medium(0x10, 0x100, [0x20, 0x20]).short(0x10, 0).end()
+    yield "14-refs-at-once", full(2, REFS + 1).end()
+    yield "08-before-13", full(ROWS).fault(8, "84 8000")
+    yield "12-before-14", full(3, REFS).fault(12, "08 00 01 00000100 00000001 01 00000001 00000000")
+
+
+def samples():
+    yield from wholes()
+    for name, d in sorted([*headers(), *records(), *rooms()], key=lambda sample: sample[0]):
+        assert d.cuts[-1][1] == int(name[:2])
+        yield "reply-" + name, d
+
+
+def main():
+    crate = pathlib.Path(sys.argv[1])
+    data = crate / "data"
+    data.mkdir(exist_ok=True)
+    for old in data.glob("*.phd"):
+        old.unlink()
+    names, lines = [], []
+    for name, d in samples():
+        names.append(name + ".phd")
+        (data / names[-1]).write_bytes(d.bytes)
+        lines += d.report(names[-1])
+    (crate / "args").write_text("\n".join(names) + "\n")
+    (crate / "stdout").write_text("\n".join(lines) + "\n")
+
+
+main()
