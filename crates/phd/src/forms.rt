@@ -220,24 +220,11 @@ pub fn shape_of(word: usize, form: Form, tag: u64, flags: u64) -> Shape
     let link = width_of(flags / 0x10 % 4);
     let low = width_of(tag % 4);
     let near = width_of(tag / 4 % 2);
+    let few = tag / 8 % 4;
+    let many = tag / 8 % 8;
     match form {
-        Form::Short => shaped(2, near, 0, 0, 0, 0, 0, 0, tag / 8 % 4, low, 0, 0, false, 0),
-        Form::Medium => shaped(
-            2,
-            near,
-            word,
-            0,
-            0,
-            0,
-            0,
-            0,
-            tag / 8 % 8,
-            low,
-            0,
-            0,
-            true,
-            0,
-        ),
+        Form::Short => shaped(2, near, 0, 0, 0, 0, 0, 0, few, low, 0, 0, false, 0),
+        Form::Medium => shaped(2, near, word, 0, 0, 0, 0, 0, many, low, 0, 0, true, 0),
         Form::Long => shaped(2, gap, word, 0, 0, 0, 0, 4, 0, link, 0, 0, true, 0),
         Form::Class => shaped(1, gap, 0, 0, 4, word, 2, 4, 0, link, 0, 0, false, 0),
         Form::ObjectArray => shaped(3, gap, word, 0, 0, 0, 0, 4, 0, link, 4, 4, false, 0),

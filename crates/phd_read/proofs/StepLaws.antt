@@ -54,7 +54,7 @@ module _ (h : Facts) (s rows refs : List ℕ) (k : Cursor) (fits : Fits s rows r
   -- a record was found, which ends before the place n
   module _ (f : Found) (n : ℕ) (is : f ≡ found-of (k .cache) there) (what : f .what ≡ Record n) where
     abbrev its : (ls : Links) × (there ≡ whole (item (f .row) ls (f .address) (f .cache)) n) × (ls .span ≡ f .span)
-    its = found-item (k .cache) there f n is what
+    its = found-item (k .cache) there f is n what
 
     pub stands : Stands h s (f .row) (its .0) (f .address)
     stands = links-stand h s (k .address) (k .cache) (k .refs) (k .at) (f .row) (its .0) (f .address) (f .cache) n (its .1)

@@ -67,25 +67,44 @@ recorded next place n t c index known hk sh v m name = record {
 
 -- ---- what was found, by what the answer says
 
-module _ (c : Cache) where
-  pub found-over : (o : Outcome Item) (f : Found) (n : ℕ) → f ≡ found-of c o → f .what ≡ Over n → o ≡ whole over n
-  unfolding found-of halted
-  found-over (whole over m) f n e w = let x : Over m ≡ Over n = sym (ap (λ (g : Found). g .what) e) ∙ w in ap (whole over) cc
-  found-over (whole (item r ls a k) m) f n e w = let x : Record m ≡ Over n = sym (ap (λ (g : Found). g .what) e) ∙ w in let z : _≡_ {A = ℕ} 0 1 = cc in absurd (omega arith)
-  found-over (stops y) f n e w = let x : Halts y ≡ Over n = sym (ap (λ (g : Found). g .what) e) ∙ w in let z : _≡_ {A = ℕ} 0 1 = cc in absurd (omega arith)
+-- what an answer says stands at the tag
+abbrev what-of : Outcome Item → What
+what-of (whole over n) = Over n
+what-of (whole (item r ls a k) n) = Record n
+what-of (stops w) = Halts w
 
-  pub found-halts : (o : Outcome Item) (f : Found) (y : Stop) → f ≡ found-of c o → f .what ≡ Halts y → o ≡ stops y
-  unfolding found-of halted
-  found-halts (whole over m) f y e w = let x : Over m ≡ Halts y = sym (ap (λ (g : Found). g .what) e) ∙ w in let z : _≡_ {A = ℕ} 0 1 = cc in absurd (omega arith)
-  found-halts (whole (item r ls a k) m) f y e w = let x : Record m ≡ Halts y = sym (ap (λ (g : Found). g .what) e) ∙ w in let z : _≡_ {A = ℕ} 0 1 = cc in absurd (omega arith)
-  found-halts (stops u) f y e w = let x : Halts u ≡ Halts y = sym (ap (λ (g : Found). g .what) e) ∙ w in ap stops cc
+what-is : (c : Cache) (o : Outcome Item) → found-of c o .what ≡ what-of o
+unfolding found-of halted
+what-is c (whole over n) = refl
+what-is c (whole (item r ls a k) n) = refl
+what-is c (stops w) = refl
 
-  pub found-item : (o : Outcome Item) (f : Found) (n : ℕ) → f ≡ found-of c o → f .what ≡ Record n
-      → (ls : Links) × (o ≡ whole (item (f .row) ls (f .address) (f .cache)) n) × (ls .span ≡ f .span)
-  unfolding found-of halted
-  found-item (whole over m) f n e w = let x : Over m ≡ Record n = sym (ap (λ (g : Found). g .what) e) ∙ w in let z : _≡_ {A = ℕ} 0 1 = cc in absurd (omega arith)
-  found-item (whole (item r ls a k) m) f n e w =
-      let x : Record m ≡ Record n = sym (ap (λ (g : Found). g .what) e) ∙ w in
-      let y : m ≡ n = cc in
-      (ls, rw (e, y), rw e)
-  found-item (stops y) f n e w = let x : Halts y ≡ Record n = sym (ap (λ (g : Found). g .what) e) ∙ w in let z : _≡_ {A = ℕ} 0 1 = cc in absurd (omega arith)
+module _ (c : Cache) (o : Outcome Item) (f : Found) (is : f ≡ found-of c o) where
+  says : (w : What) → f .what ≡ w → what-of o ≡ w
+  says w e = sym (what-is c o) ∙ ap (λ (g : Found). g .what) (sym is) ∙ e
+
+  pub found-over : (n : ℕ) → f .what ≡ Over n → o ≡ whole over n
+  found-over n e = by o (says (Over n) e)
+    where
+      by : (p : Outcome Item) → what-of p ≡ Over n → p ≡ whole over n
+      by (whole over m) x = ap (whole over) cc
+      by (whole (item r ls a k) m) x = let z : _≡_ {A = ℕ} 0 1 = cc in absurd (omega arith)
+      by (stops w) x = let z : _≡_ {A = ℕ} 0 1 = cc in absurd (omega arith)
+
+  pub found-halts : (w : Stop) → f .what ≡ Halts w → o ≡ stops w
+  found-halts w e = by o (says (Halts w) e)
+    where
+      by : (p : Outcome Item) → what-of p ≡ Halts w → p ≡ stops w
+      by (whole over m) x = let z : _≡_ {A = ℕ} 0 1 = cc in absurd (omega arith)
+      by (whole (item r ls a k) m) x = let z : _≡_ {A = ℕ} 0 1 = cc in absurd (omega arith)
+      by (stops u) x = ap stops cc
+
+  pub found-item : (n : ℕ) → f .what ≡ Record n → (ls : Links) × (o ≡ whole (item (f .row) ls (f .address) (f .cache)) n) × (ls .span ≡ f .span)
+  unfolding found-of
+  found-item n e = by o is (says (Record n) e)
+    where
+      by : (p : Outcome Item) → f ≡ found-of c p → what-of p ≡ Record n
+          → (ls : Links) × (p ≡ whole (item (f .row) ls (f .address) (f .cache)) n) × (ls .span ≡ f .span)
+      by (whole over m) q x = let z : _≡_ {A = ℕ} 0 1 = cc in absurd (omega arith)
+      by (whole (item r ls a k) m) q x = let y : m ≡ n = cc in (ls, rw (q, y), rw q)
+      by (stops w) q x = let z : _≡_ {A = ℕ} 0 1 = cc in absurd (omega arith)

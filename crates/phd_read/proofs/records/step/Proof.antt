@@ -28,7 +28,7 @@ returns : tie.Need-returns
 returns c =
     let d = c .before .before .before .before .before .before .before .before in
     let a = d .args in
-    stays-end (a .facts) (a .s .now) (a .rows .now) (a .refs .now) (a .k) (d .pre .0) _ (found-over (a .k .cache) _ _ _ (c .before .before .before .read-record .ensures) (c .before .what .given .1))
+    stays-end (a .facts) (a .s .now) (a .rows .now) (a .refs .now) (a .k) (d .pre .0) _ (found-over (a .k .cache) _ _ (c .before .before .before .read-record .ensures) _ (c .before .what .given .1))
 
 same-length : tie.Need-same-length
 same-length c = search needs
@@ -43,7 +43,7 @@ returns-3 : tie.Need-returns-3
 returns-3 c =
     let d = c .before .before .before .before .before .before .before .before .before in
     let a = d .args in
-    rw (c .reply-of .ensures) (stays-stop (a .facts) (a .s .now) (a .rows .now) (a .refs .now) (a .k) (d .pre .0) _ (found-halts (a .k .cache) _ _ _ (c .before .before .before .before .read-record .ensures) (c .before .before .what3 .given .1)))
+    rw (c .reply-of .ensures) (stays-stop (a .facts) (a .s .now) (a .rows .now) (a .refs .now) (a .k) (d .pre .0) _ (found-halts (a .k .cache) _ _ (c .before .before .before .before .read-record .ensures) _ (c .before .before .what3 .given .1)))
 
 pub step-spec : {M : Type 1} → statement M
 step-spec =
