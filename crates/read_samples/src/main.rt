@@ -8,6 +8,8 @@
 //     refs N N ..                                     the references, up to eight in a line
 //     cut N reply R place P rows N refs N word W      the first N bytes, where they give another line than N - 1
 //     rest kept|changed                               the tables behind what each of these readings stored
+//
+// A file that fills the buffer of 4,096 bytes has `too large` in the place of all that.
 use libc::STDOUT_FILENO;
 use phd::Facts;
 use phd_read::Reading;
@@ -213,6 +215,10 @@ fn sample(name: &[u8]) {
     libc::close(fd);
     say(name);
     say(b"\n");
+    if 4096 <= n {
+        say(b"too large\n");
+        return;
+    }
     show(&dump[..n]);
 }
 
