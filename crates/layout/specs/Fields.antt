@@ -10,7 +10,7 @@ use Rattle.layout.specs.declared.Piece.{Piece}
 use Rattle.layout.specs.declared.Piece.the-variants.{Is, Stops}
 use Rattle.layout.specs.declared.Text.{Text}
 use Rattle.layout.specs.declared.TextRead.{TextRead}
-use Rattle.layout.specs.declared.TextRead.the-variants.{Holds, Fails}
+use Rattle.layout.specs.declared.TextRead.the-variants.{Is as IsText, Stops as StopsText}
 
 -- a field of n bytes that must be v, else the reply
 unfoldable pub exactly : ℕ → ℕ → ℕ → Layout ℕ
@@ -66,8 +66,8 @@ outcome (Is a next) = whole a next
 outcome (Stops w) = stops w
 
 abbrev pub text-outcome : TextRead → Outcome Text
-text-outcome (Holds t next) = whole t next
-text-outcome (Fails w) = stops w
+text-outcome (IsText t next) = whole t next
+text-outcome (StopsText w) = stops w
 
 -- a number of n bytes is below 256 ^ n
 abbrev pub Small : ℕ → Piece → Type 0

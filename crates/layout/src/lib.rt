@@ -40,8 +40,8 @@ pub struct Text {
 
 // A string that was read, with the place after it.
 pub enum TextRead {
-    Holds(Text, usize),
-    Fails(Stop),
+    Is(Text, usize),
+    Stops(Stop),
 }
 
 fn wide(x: u8) -> u64
@@ -262,15 +262,15 @@ pub fn string(s: &[u8], at: usize, low: u8, least: u64) -> TextRead
     match field(s, at, 2) {
         Piece::Is(len, place) => {
             if len < least {
-                return TextRead::Fails(Stop::Refused(7));
+                return TextRead::Stops(Stop::Refused(7));
             }
             let n = len as usize;
             let left = s.len() - place;
             if left < n {
-                return TextRead::Fails(Stop::Cut(n - left));
+                return TextRead::Stops(Stop::Cut(n - left));
             }
             if all_within(s, place, n, low, 0x7E) {
-                return TextRead::Holds(
+                return TextRead::Is(
                     Text {
                         there: true,
                         place: place,
@@ -279,8 +279,8 @@ pub fn string(s: &[u8], at: usize, low: u8, least: u64) -> TextRead
                     place + n,
                 );
             }
-            TextRead::Fails(Stop::Refused(7))
+            TextRead::Stops(Stop::Refused(7))
         }
-        Piece::Stops(w) => TextRead::Fails(w),
+        Piece::Stops(w) => TextRead::Stops(w),
     }
 }

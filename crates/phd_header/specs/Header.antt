@@ -12,19 +12,19 @@ use Rattle.phd.specs.Phd.{bit, header, header-facts}
 use Rattle.phd.specs.Shapes.{Word}
 use Rattle.phd.specs.declared.Facts.{Facts}
 use Rattle.phd_header.specs.declared.HeaderRead.{HeaderRead}
-use Rattle.phd_header.specs.declared.HeaderRead.the-variants.{Opens, Refuses}
+use Rattle.phd_header.specs.declared.HeaderRead.the-variants.{Is, Stops}
 use Rattle.phd_header.specs.declared.Passed.{Passed}
-use Rattle.phd_header.specs.declared.Passed.the-variants.{Passes, Blocks}
+use Rattle.phd_header.specs.declared.Passed.the-variants.{Is as IsPassed, Stops as StopsPassed}
 
 -- the facts with the place after the header, or why reading stops
 abbrev pub header-outcome : HeaderRead → Outcome Facts
-header-outcome (Opens h next) = whole h next
-header-outcome (Refuses w) = stops w
+header-outcome (Is h next) = whole h next
+header-outcome (Stops w) = stops w
 
 -- a part that hands on no value
 abbrev pub passed-outcome : Passed → Outcome (Unit {0})
-passed-outcome (Passes next) = whole tt next
-passed-outcome (Blocks w) = stops w
+passed-outcome (IsPassed next) = whole tt next
+passed-outcome (StopsPassed w) = stops w
 
 -- ---- W is 32 or 64
 

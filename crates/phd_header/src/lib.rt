@@ -17,14 +17,14 @@ use phd::forms::bit;
 
 // What the header says, with the place after it; or why reading stops in it.
 pub enum HeaderRead {
-    Opens(Facts, usize),
-    Refuses(Stop),
+    Is(Facts, usize),
+    Stops(Stop),
 }
 
 // A part of the header that hands on no value: the place after it, or why reading stops in it.
 enum Passed {
-    Passes(usize),
-    Blocks(Stop),
+    Is(usize),
+    Stops(Stop),
 }
 
 const OPENING: [u8; 18] = *b"portable heap dump";
@@ -59,12 +59,12 @@ fn opening_bytes(s: &[u8], at: usize) -> Passed
 {
     let left = s.len() - at;
     if left < 18 {
-        return Passed::Blocks(Stop::Cut(18 - left));
+        return Passed::Stops(Stop::Cut(18 - left));
     }
     if same_opening(s, at) {
-        return Passed::Passes(at + 18);
+        return Passed::Is(at + 18);
     }
-    Passed::Blocks(Stop::Refused(3))
+    Passed::Stops(Stop::Refused(3))
 }
 
 // The opening string, the version, the flags and the byte 1: the flags.
@@ -77,10 +77,10 @@ fn preamble(s: &[u8]) -> Piece
     };
     let here: usize;
     match opening_bytes(s, at) {
-        Passed::Passes(next) => {
+        Passed::Is(next) => {
             here = next;
         }
-        Passed::Blocks(w) => {
+        Passed::Stops(w) => {
             return Piece::Stops(w);
         }
     }
@@ -106,14 +106,14 @@ fn after_vm(s: &[u8], at: usize) -> Passed
     match layout::field(s, at, 1) {
         Piece::Is(tag, next) => {
             if tag == 4 {
-                return Passed::Blocks(Stop::Refused(7));
+                return Passed::Stops(Stop::Refused(7));
             }
             if tag == 2 {
-                return Passed::Passes(next);
+                return Passed::Is(next);
             }
-            Passed::Blocks(Stop::Refused(6))
+            Passed::Stops(Stop::Refused(6))
         }
-        Piece::Stops(w) => Passed::Blocks(w),
+        Piece::Stops(w) => Passed::Stops(w),
     }
 }
 
@@ -130,11 +130,11 @@ fn header_records(s: &[u8], at: usize) -> TextRead
             here = next;
         }
         Piece::Stops(w) => {
-            return TextRead::Fails(w);
+            return TextRead::Stops(w);
         }
     }
     if tag == 2 {
-        return TextRead::Holds(
+        return TextRead::Is(
             Text {
                 there: false,
                 place: 0,
@@ -144,15 +144,15 @@ fn header_records(s: &[u8], at: usize) -> TextRead
         );
     }
     if tag != 4 {
-        return TextRead::Fails(Stop::Refused(6));
+        return TextRead::Stops(Stop::Refused(6));
     }
     let vm = layout::string(s, here, 0x20, 0);
-    let TextRead::Holds(text, next) = vm else {
+    let TextRead::Is(text, next) = vm else {
         return vm;
     };
     match after_vm(s, next) {
-        Passed::Passes(end) => TextRead::Holds(text, end),
-        Passed::Blocks(w) => TextRead::Fails(w),
+        Passed::Is(end) => TextRead::Is(text, end),
+        Passed::Stops(w) => TextRead::Stops(w),
     }
 }
 
@@ -190,14 +190,14 @@ pub fn read_header(s: &[u8]) -> HeaderRead
             here = next;
         }
         Piece::Stops(w) => {
-            return HeaderRead::Refuses(w);
+            return HeaderRead::Stops(w);
         }
     }
     match header_records(s, here) {
-        TextRead::Holds(vm, at) => match layout::exactly(s, at, 1, 2, 6) {
-            Piece::Is(_, end) => HeaderRead::Opens(header_facts(flags, vm), end),
-            Piece::Stops(w) => HeaderRead::Refuses(w),
+        TextRead::Is(vm, at) => match layout::exactly(s, at, 1, 2, 6) {
+            Piece::Is(_, end) => HeaderRead::Is(header_facts(flags, vm), end),
+            Piece::Stops(w) => HeaderRead::Stops(w),
         },
-        TextRead::Fails(w) => HeaderRead::Refuses(w),
+        TextRead::Stops(w) => HeaderRead::Stops(w),
     }
 }

@@ -53,7 +53,7 @@ pub fn read(dump: &[u8], rows: &mut [u64], refs: &mut [u64]) -> Reading
         return nothing(2);
     }
     match phd_header::read_header(dump) {
-        HeaderRead::Opens(facts, at) => records::read_records(dump, facts, at, rows, refs),
-        HeaderRead::Refuses(w) => nothing(records::reply_of(w)),
+        HeaderRead::Is(facts, at) => records::read_records(dump, facts, at, rows, refs),
+        HeaderRead::Stops(w) => nothing(records::reply_of(w)),
     }
 }

@@ -127,7 +127,7 @@ pub fn step(s: &[u8], facts: Facts, rows: &mut [u64], refs: &mut [u64], k: Curso
             cursor: k,
         },
         What::Record(next) => admit(s, facts, rows, refs, k, next, found),
-        What::Halts(w) => Stepped {
+        What::Stops(w) => Stepped {
             how: How::Ends(reply_of(w), k.at),
             cursor: k,
         },

@@ -12,12 +12,12 @@ use Rattle.phd.specs.Phd.{references}
 use Rattle.phd.specs.References.{in-front, references-more}
 use Rattle.phd_record.specs.Found.{checked-of}
 use Rattle.phd_record.specs.declared.links.Checked.{Checked}
-use Rattle.phd_record.specs.declared.links.Checked.the-variants.{Fine, Broken}
+use Rattle.phd_record.specs.declared.links.Checked.the-variants.{Is as IsChecked, Stops as StopsChecked}
 
 -- how a turn goes on from what it read
 abbrev pub on-from : Piece → (ℕ → Checked) → Checked
 on-from (Is a next) k = k next
-on-from (Stops w) k = Broken w
+on-from (Stops w) k = StopsChecked w
 
 -- the answer does not depend on the values
 forget : (r : ℕ) (o : Outcome (List ℕ)) → checked-of (in-front r o) ≡ checked-of o
@@ -36,10 +36,10 @@ module _ (w base top : ℕ) (s : List ℕ) where
   turn at left p e h = rw (references-more w base top s left at h, ← e) (by-piece (left - 1) p)
 
 -- what was read where references were judged
-pub checked-fine : (o : Outcome (List ℕ)) (n : ℕ) → checked-of o ≡ Fine n → (rs : List ℕ) × (o ≡ whole rs n)
+pub checked-fine : (o : Outcome (List ℕ)) (n : ℕ) → checked-of o ≡ IsChecked n → (rs : List ℕ) × (o ≡ whole rs n)
 checked-fine (whole rs m) n e = (rs, ap (whole rs) cc)
 checked-fine (stops w) n e = let z : _≡_ {A = ℕ} 0 1 = cc in absurd (omega arith)
 
-pub checked-broken : (o : Outcome (List ℕ)) (w : Stop) → checked-of o ≡ Broken w → o ≡ stops w
+pub checked-broken : (o : Outcome (List ℕ)) (w : Stop) → checked-of o ≡ StopsChecked w → o ≡ stops w
 checked-broken (whole rs m) w e = let z : _≡_ {A = ℕ} 0 1 = cc in absurd (omega arith)
 checked-broken (stops x) w e = ap stops cc

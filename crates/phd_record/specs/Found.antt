@@ -17,33 +17,33 @@ use Rattle.phd.specs.declared.Middle.{Middle}
 use Rattle.phd.specs.declared.Tail.{Tail}
 use Rattle.phd.specs.declared.Span.{Span}
 use Rattle.phd_record.specs.declared.parts.FrontRead.{FrontRead}
-use Rattle.phd_record.specs.declared.parts.FrontRead.the-variants.{Begun, Barred}
+use Rattle.phd_record.specs.declared.parts.FrontRead.the-variants.{Is as IsFront, Stops as StopsFront}
 use Rattle.phd_record.specs.declared.parts.MiddleRead.{MiddleRead}
-use Rattle.phd_record.specs.declared.parts.MiddleRead.the-variants.{Goes, Ceases}
+use Rattle.phd_record.specs.declared.parts.MiddleRead.the-variants.{Is as IsMiddle, Stops as StopsMiddle}
 use Rattle.phd_record.specs.declared.parts.TailRead.{TailRead}
-use Rattle.phd_record.specs.declared.parts.TailRead.the-variants.{Ended, Short}
+use Rattle.phd_record.specs.declared.parts.TailRead.the-variants.{Is as IsTail, Stops as StopsTail}
 use Rattle.phd_record.specs.declared.links.Checked.{Checked}
-use Rattle.phd_record.specs.declared.links.Checked.the-variants.{Fine, Broken}
+use Rattle.phd_record.specs.declared.links.Checked.the-variants.{Is as IsChecked, Stops as StopsChecked}
 use Rattle.phd_record.specs.declared.What.{What}
-use Rattle.phd_record.specs.declared.What.the-variants.{Over, Record, Halts}
+use Rattle.phd_record.specs.declared.What.the-variants.{Over, Record, Stops}
 use Rattle.phd_record.specs.declared.Found.{Found}
 
 abbrev pub front-outcome : FrontRead → Outcome Front
-front-outcome (Begun v next) = whole v next
-front-outcome (Barred w) = stops w
+front-outcome (IsFront v next) = whole v next
+front-outcome (StopsFront w) = stops w
 
 abbrev pub middle-outcome : MiddleRead → Outcome Middle
-middle-outcome (Goes v next) = whole v next
-middle-outcome (Ceases w) = stops w
+middle-outcome (IsMiddle v next) = whole v next
+middle-outcome (StopsMiddle w) = stops w
 
 abbrev pub tail-outcome : TailRead → Outcome Tail
-tail-outcome (Ended v next) = whole v next
-tail-outcome (Short w) = stops w
+tail-outcome (IsTail v next) = whole v next
+tail-outcome (StopsTail w) = stops w
 
 -- references that were judged, by what reading them finds
 abbrev pub checked-of : Outcome (List ℕ) → Checked
-checked-of (whole rs next) = Fine next
-checked-of (stops w) = Broken w
+checked-of (whole rs next) = IsChecked next
+checked-of (stops w) = StopsChecked w
 
 -- no record: the cache stays as it is
 unfoldable pub halted : What → Cache → Found
@@ -53,7 +53,7 @@ halted w c = record { what = w; row = replicate row-width 0; span = record { pla
 unfoldable pub found-of : Cache → Outcome Item → Found
 found-of c (whole over n) = halted (Over n) c
 found-of c (whole (item r ls a k) n) = record { what = Record n; row = r; span = ls .span; address = a; cache = k }
-found-of c (stops w) = halted (Halts w) c
+found-of c (stops w) = halted (Stops w) c
 
 -- a record whole, whose n references stand at a place
 unfoldable pub recorded : ℕ → ℕ → ℕ → Tail → Cache → ℕ → ℕ → ℕ → Shape → Front → Middle → Text → Found
@@ -71,7 +71,7 @@ recorded next place n t c index known hk sh v m name = record {
 abbrev what-of : Outcome Item → What
 what-of (whole over n) = Over n
 what-of (whole (item r ls a k) n) = Record n
-what-of (stops w) = Halts w
+what-of (stops w) = Stops w
 
 what-is : (c : Cache) (o : Outcome Item) → found-of c o .what ≡ what-of o
 unfolding found-of halted
@@ -91,10 +91,10 @@ module _ (c : Cache) (o : Outcome Item) (f : Found) (is : f ≡ found-of c o) wh
       by (whole (item r ls a k) m) x = let z : _≡_ {A = ℕ} 0 1 = cc in absurd (omega arith)
       by (stops w) x = let z : _≡_ {A = ℕ} 0 1 = cc in absurd (omega arith)
 
-  pub found-halts : (w : Stop) → f .what ≡ Halts w → o ≡ stops w
-  found-halts w e = by o (says (Halts w) e)
+  pub found-halts : (w : Stop) → f .what ≡ Stops w → o ≡ stops w
+  found-halts w e = by o (says (Stops w) e)
     where
-      by : (p : Outcome Item) → what-of p ≡ Halts w → p ≡ stops w
+      by : (p : Outcome Item) → what-of p ≡ Stops w → p ≡ stops w
       by (whole over m) x = let z : _≡_ {A = ℕ} 0 1 = cc in absurd (omega arith)
       by (whole (item r ls a k) m) x = let z : _≡_ {A = ℕ} 0 1 = cc in absurd (omega arith)
       by (stops u) x = ap stops cc

@@ -89,17 +89,17 @@ fn read_linked(
             place = p;
             k
         }
-        Piece::Stops(w) => return halted(What::Halts(w), cache),
+        Piece::Stops(w) => return halted(What::Stops(w), cache),
     };
     let end = match super::links::check_links(s, place, sh.link, v.address, top, n) {
-        Checked::Fine(e) => e,
-        Checked::Broken(w) => return halted(What::Halts(w), cache),
+        Checked::Is(e) => e,
+        Checked::Stops(w) => return halted(What::Stops(w), cache),
     };
     match super::parts::read_tail(s, end, sh.size, sh.truelen, n) {
-        TailRead::Ended(t, next) => {
+        TailRead::Is(t, next) => {
             recorded(next, place, n, t, cache, index, known, hk, sh, v, m, name)
         }
-        TailRead::Short(w) => halted(What::Halts(w), cache),
+        TailRead::Stops(w) => halted(What::Stops(w), cache),
     }
 }
 
@@ -120,24 +120,22 @@ pub fn read_fields(
 {
     let mut here = at;
     let v = match super::parts::read_front(s, here, top, before, sh) {
-        FrontRead::Begun(f, n) => {
+        FrontRead::Is(f, n) => {
             here = n;
             f
         }
-        FrontRead::Barred(w) => return halted(What::Halts(w), cache),
+        FrontRead::Stops(w) => return halted(What::Stops(w), cache),
     };
     let hb = phd::forms::hash_bytes_of(hk);
     let m = match super::parts::read_middle(s, here, sh, hb) {
-        MiddleRead::Goes(q, n) => {
+        MiddleRead::Is(q, n) => {
             here = n;
             q
         }
-        MiddleRead::Ceases(w) => return halted(What::Halts(w), cache),
+        MiddleRead::Stops(w) => return halted(What::Stops(w), cache),
     };
     match super::parts::class_name(s, here, sh.name) {
-        TextRead::Holds(name, n) => {
-            read_linked(s, n, top, cache, index, known, hk, sh, v, m, name)
-        }
-        TextRead::Fails(w) => halted(What::Halts(w), cache),
+        TextRead::Is(name, n) => { read_linked(s, n, top, cache, index, known, hk, sh, v, m, name) }
+        TextRead::Stops(w) => halted(What::Stops(w), cache),
     }
 }

@@ -23,7 +23,7 @@ mod parts;
 pub enum What {
     Over(usize),
     Record(usize),
-    Halts(Stop),
+    Stops(Stop),
 }
 
 // What stands at a tag, with the record's row, its references' place, its address and the cache after it.
@@ -66,10 +66,10 @@ fn behind_tag(
     ensures { λ r. ⌜ r ≡ found-of cache (run (record-of facts before cache index tag) (now (s .entry)) at) ⌝ }
 {
     let Tagged::Begins(form) = phd::forms::tagged(tag) else {
-        return halted(What::Halts(Stop::Refused(6)), cache);
+        return halted(What::Stops(Stop::Refused(6)), cache);
     };
     let Maybe::Just(class) = phd::forms::known(cache, tag) else {
-        return halted(What::Halts(Stop::Refused(10)), cache);
+        return halted(What::Stops(Stop::Refused(10)), cache);
     };
     match phd::forms::flags(s, at, facts, tag) {
         Piece::Is(f, next) => {
@@ -79,7 +79,7 @@ fn behind_tag(
             let sh = phd::forms::shape_of(word, form, tag, f);
             fields::read_fields(s, next, top, before, cache, index, class, hk, sh)
         }
-        Piece::Stops(w) => halted(What::Halts(w), cache),
+        Piece::Stops(w) => halted(What::Stops(w), cache),
     }
 }
 
@@ -102,6 +102,6 @@ pub fn read_record(
             }
             behind_tag(s, next, facts, before, cache, index, tag)
         }
-        Piece::Stops(w) => halted(What::Halts(w), cache),
+        Piece::Stops(w) => halted(What::Stops(w), cache),
     }
 }

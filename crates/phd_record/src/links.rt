@@ -10,8 +10,8 @@ use layout::Stop;
 
 // References that were judged: the place after them, or why they stop.
 pub enum Checked {
-    Fine(usize),
-    Broken(Stop),
+    Is(usize),
+    Stops(Stop),
 }
 
 // Judges count references of w bytes each, of a record at the address base.
@@ -27,10 +27,10 @@ pub fn check_links(s: &[u8], at: usize, w: usize, base: u64, top: u64, count: u6
                 here = next;
             }
             Piece::Stops(stop) => {
-                return Checked::Broken(stop);
+                return Checked::Stops(stop);
             }
         }
         left -= 1;
     }
-    Checked::Fine(here)
+    Checked::Is(here)
 }

@@ -18,18 +18,18 @@ use phd::Tail;
 
 // Each part, with the place after it, or why it stops.
 pub enum FrontRead {
-    Begun(Front, usize),
-    Barred(Stop),
+    Is(Front, usize),
+    Stops(Stop),
 }
 
 pub enum MiddleRead {
-    Goes(Middle, usize),
-    Ceases(Stop),
+    Is(Middle, usize),
+    Stops(Stop),
 }
 
 pub enum TailRead {
-    Ended(Tail, usize),
-    Short(Stop),
+    Is(Tail, usize),
+    Stops(Stop),
 }
 
 // Gap, class word and array length.
@@ -43,18 +43,18 @@ pub fn read_front(s: &[u8], at: usize, top: u64, before: u64, sh: Shape) -> Fron
             here = n;
             a
         }
-        Piece::Stops(w) => return FrontRead::Barred(w),
+        Piece::Stops(w) => return FrontRead::Stops(w),
     };
     let word = match layout::field(s, here, sh.word) {
         Piece::Is(c, n) => {
             here = n;
             c
         }
-        Piece::Stops(w) => return FrontRead::Barred(w),
+        Piece::Stops(w) => return FrontRead::Stops(w),
     };
     match layout::count(s, here, sh.len) {
-        Piece::Is(len, n) => FrontRead::Begun(Front { address, word, len }, n),
-        Piece::Stops(w) => FrontRead::Barred(w),
+        Piece::Is(len, n) => FrontRead::Is(Front { address, word, len }, n),
+        Piece::Stops(w) => FrontRead::Stops(w),
     }
 }
 
@@ -69,17 +69,17 @@ pub fn read_middle(s: &[u8], at: usize, sh: Shape, hb: usize) -> MiddleRead
             here = n;
             i
         }
-        Piece::Stops(w) => return MiddleRead::Ceases(w),
+        Piece::Stops(w) => return MiddleRead::Stops(w),
     };
     let hash = match layout::field(s, here, hb) {
         Piece::Is(h, n) => {
             here = n;
             h
         }
-        Piece::Stops(w) => return MiddleRead::Ceases(w),
+        Piece::Stops(w) => return MiddleRead::Stops(w),
     };
     match layout::field(s, here, sh.superclass) {
-        Piece::Is(superclass, n) => MiddleRead::Goes(
+        Piece::Is(superclass, n) => MiddleRead::Is(
             Middle {
                 inst,
                 hash,
@@ -87,7 +87,7 @@ pub fn read_middle(s: &[u8], at: usize, sh: Shape, hb: usize) -> MiddleRead
             },
             n,
         ),
-        Piece::Stops(w) => MiddleRead::Ceases(w),
+        Piece::Stops(w) => MiddleRead::Stops(w),
     }
 }
 
@@ -97,7 +97,7 @@ pub fn class_name(s: &[u8], at: usize, n: usize) -> TextRead
     ensures { λ r. ⌜ text-outcome r ≡ run (classNameOf n) (now (s .entry)) at ⌝ }
 {
     if n == 0 {
-        return TextRead::Holds(
+        return TextRead::Is(
             Text {
                 there: false,
                 place: 0,
@@ -150,17 +150,17 @@ pub fn read_tail(s: &[u8], at: usize, size: usize, truelen: usize, count: u64) -
             here = n;
             v
         }
-        Piece::Stops(w) => return TailRead::Short(w),
+        Piece::Stops(w) => return TailRead::Stops(w),
     };
     match true_length(s, here, truelen, count) {
-        Piece::Is(t, n) => TailRead::Ended(
+        Piece::Is(t, n) => TailRead::Is(
             Tail {
                 size: z,
                 truelen: t,
             },
             n,
         ),
-        Piece::Stops(w) => TailRead::Short(w),
+        Piece::Stops(w) => TailRead::Stops(w),
     }
 }
 

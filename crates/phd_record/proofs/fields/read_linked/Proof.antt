@@ -8,7 +8,7 @@ use Prim.Native.Nat.{ℕ}
 use mathlib.Core.List.{List}
 use Rattle.layout.specs.Layout.{whole, stops, run, inside, run-then, run-position, run-yield}
 use Rattle.layout.specs.declared.Stop.{Stop}
-use Rattle.phd_record.specs.declared.links.Checked.the-variants.{Broken}
+use Rattle.phd_record.specs.declared.links.Checked.the-variants.{Stops}
 use Rattle.layout.specs.Fields.{outcome}
 use Rattle.phd.specs.Phd.{link-count, references, links, tail, linked}
 use Rattle.phd_record.specs.Found.{found-of, recorded, tail-outcome}
@@ -25,7 +25,7 @@ module _ (c : tie.After-k) where
   in-count = let a = c .before .before .before .before .args in inside (link-count (a .sh .counted) (a .sh .count)) (a .s .now) (a .at) _ _ (omega arith) got-count
 
 -- the references, where they stop
-broke : (c : tie.After-check-links) (w : Stop) → c .check-links .result ≡ Broken w → let a = c .before .before .before .before .before .before .args in
+broke : (c : tie.After-check-links) (w : Stop) → c .check-links .result ≡ Stops w → let a = c .before .before .before .before .before .before .args in
     run (references (a .sh .link) (a .v .address) (a .top) (c .before .before .k .given .0 .0)) (a .s .now) (c .before .before .k .given .0 .1 .0) ≡ stops w
 broke c w e = checked-broken _ _ (sym (c .check-links .ensures) ∙ e)
 
