@@ -1,8 +1,7 @@
 -- The kinds of field that dumps are made of, each a layout, with the replies of 01's table that they refuse with.
 -- A reader must believe these few lines; the functions of this crate are proved equal to them.
 use Prim.Native.Nat.{ℕ, _^_, _<_}
-use mathlib.Core.Bool.{Bool, true, false, not}
-use mathlib.Core.List.{List}
+use mathlib.Core.Bool.{true, false, not}
 use lib.Dec.{leb, ltb, eqb}
 use Rattle.layout.specs.Numbers.{signed, moved, counted, within}
 use Rattle.layout.specs.Layout.{Layout, yield, Outcome, whole, stops, _>>=_, _>>_, position, raw, field, check, need}

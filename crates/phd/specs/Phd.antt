@@ -9,7 +9,6 @@ use lib.Dec.{leb, ltb, eqb}
 use Rattle.layout.specs.Numbers.{pick, both, either}
 use Rattle.layout.specs.Layout.{Layout, yield, refuse, Outcome, whole, stops, run, _>>=_, _>>_, position, raw, field, check, need, reply-of, missing-of}
 use Rattle.layout.specs.Fields.{exactly, below, address, reference, count, string, no-text}
-use Rattle.layout.specs.declared.Stop.{Stop}
 use Rattle.layout.specs.declared.Text.{Text}
 use Rattle.layout.specs.declared.Maybe.{Maybe}
 use Rattle.layout.specs.declared.Maybe.the-variants.{Just, Nothing}

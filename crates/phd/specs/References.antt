@@ -1,7 +1,7 @@
 -- Laws of a record's references, read one at a time.
 -- Assumes nothing.
 use mathlib.Core.Path.{_≡_, refl, ap, _∙_}
-use Prim.Native.Nat.{ℕ, zero, suc, _-_, _<_}
+use Prim.Native.Nat.{ℕ, suc, _-_, _<_}
 use mathlib.Core.List.{List, [], _∷_}
 use native.Mathlib.Omega.{arith}
 use Rattle.layout.specs.Layout.{Outcome, whole, stops, onward, run, _>>=_, run-then, run-yield}

@@ -5,13 +5,12 @@ use Prim.Native.Nat.{ℕ, suc, _+_, _-_, _*_, _/_, _≤_, _<_}
 use native.Mathlib.Omega.{arith}
 use lib.ListN.{length, take, drop}
 use lib.Seq.{length-take-le, drop-drop}
-use Rattle.phd.specs.Phd.{limit, row-width, empty, State, Result, go, halt, ended, step, records, first}
+use Rattle.phd.specs.Phd.{limit, row-width, empty, Result, go, halt, ended, step, records, first}
 use Rattle.phd.specs.declared.Facts.{Facts}
 use Rattle.phd_read.specs.Answer.{answer, stored}
 use Rattle.phd_read.specs.Steps.{records-halt, records-on, step-onward, Onward}
-use Rattle.phd_read.specs.Stepping.{state-of, Fits, Went, Stayed, Halfway}
+use Rattle.phd_read.specs.Stepping.{state-of, Went, Stayed, Halfway}
 use Rattle.phd_read.specs.declared.records.Cursor.{Cursor}
-use Rattle.phd_read.specs.declared.Reading.{Reading}
 use Rattle.phd_read.proofs.Laws.{restored}
 
 -- what holds behind a place holds behind a later one
@@ -20,7 +19,7 @@ later l m i j h e =
     let p : i + (j - i) ≡ j = omega arith in
     ap (λ (n : ℕ). drop n l) (sym p) ∙ sym (drop-drop (j - i) i l) ∙ ap (drop (j - i)) e ∙ drop-drop (j - i) i m ∙ ap (λ (n : ℕ). drop n m) p
 
-module _ (h : Facts) (s : List ℕ) (at : ℕ) where
+module _ {h : Facts} {s : List ℕ} {at : ℕ} where
   pub begins : (rows refs : List ℕ) → at ≤ length s
       → Halfway h s at rows refs rows refs (record { at = at; address = 0; cache = empty; rows = 0; refs = 0 })
   unfolding first
@@ -33,7 +32,7 @@ module _ (h : Facts) (s : List ℕ) (at : ℕ) where
     left = refl;
   }
 
-  module _ (rows₀ refs₀ rows refs rows′ refs′ : List ℕ) (k k′ : Cursor) (w : Halfway h s at rows₀ refs₀ rows refs k) where
+  module _ {rows₀ refs₀ rows refs rows′ refs′ : List ℕ} {k k′ : Cursor} (w : Halfway h s at rows₀ refs₀ rows refs k) where
     -- the step, with the rooms that there were from the start
     went-on : Went h s k rows refs rows′ refs′ k′ → step h s (length rows₀) (length refs₀) (state-of k rows refs) ≡ go (state-of k′ rows′ refs′)
     went-on g = rw (← w .rows-long, ← w .refs-long) (g .steps)
@@ -56,7 +55,7 @@ module _ (h : Facts) (s : List ℕ) (at : ℕ) where
         }
 
     -- the whole reading, where a step ended it
-    module _ (reply place : ℕ) (g : Stayed h s k rows refs rows′ refs′ k′ reply place) where
+    module _ {reply place : ℕ} (g : Stayed h s k rows refs rows′ refs′ k′ reply place) where
       abbrev result : Result
       result = records (suc limit) h s (length rows₀) (length refs₀) (first at)
 

@@ -1,13 +1,13 @@
 -- What a step does, by what was found at a cursor.
-use mathlib.Core.Path.{_≡_, refl, sym, ap, subst, _∙_}
+use mathlib.Core.Path.{_≡_, refl, ap, subst, _∙_}
 use mathlib.Core.List.{List, _++_}
-use Prim.Native.Nat.{ℕ, suc, _+_, _*_, _≤_, _<_}
+use Prim.Native.Nat.{ℕ, _+_, _*_, _≤_, _<_}
 use native.Mathlib.Omega.{arith}
-use lib.ListN.{length, take, drop}
+use lib.ListN.{length, take}
 use lib.Seq.{sets, length-take-le, length-sets}
 use Rattle.layout.specs.Layout.{Outcome, whole, stops, run, reply-of, missing-of}
 use Rattle.layout.specs.declared.Stop.{Stop}
-use Rattle.phd.specs.Phd.{row-width, highest, references, Links, Item, over, item, entry, State, go, halt, ended, step}
+use Rattle.phd.specs.Phd.{row-width, highest, references, Links, Item, over, item, entry, go, step}
 use Rattle.phd.specs.declared.Facts.{Facts}
 use Rattle.phd_record.specs.Found.{found-of, found-item}
 use Rattle.phd_record.specs.declared.Found.{Found}
@@ -19,7 +19,7 @@ use Rattle.phd_read.specs.Stepping.{state-of, advanced, Fits, Went, Stay
 use Rattle.phd_read.specs.declared.records.Cursor.{Cursor}
 use Rattle.phd_read.proofs.Laws.{take-sets, drop-sets}
 
-module _ (h : Facts) (s rows refs : List ℕ) (k : Cursor) (fits : Fits s rows refs k) where
+module _ (h : Facts) {s rows refs : List ℕ} {k : Cursor} (fits : Fits s rows refs k) where
   -- what stands at the cursor
   abbrev there : Outcome Item
   there = run (entry h (k .address) (k .cache) (k .refs)) s (k .at)
@@ -52,7 +52,7 @@ module _ (h : Facts) (s rows refs : List ℕ) (k : Cursor) (fits : Fits s rows r
   }
 
   -- a record was found, which ends before the place n
-  module _ (f : Found) (n : ℕ) (is : f ≡ found-of (k .cache) there) (what : f .what ≡ Record n) where
+  module _ {f : Found} {n : ℕ} (is : f ≡ found-of (k .cache) there) (what : f .what ≡ Record n) where
     abbrev its : (ls : Links) × (there ≡ whole (item (f .row) ls (f .address) (f .cache)) n) × (ls .span ≡ f .span)
     its = found-item (k .cache) there f is n what
 

@@ -4,7 +4,7 @@ use mathlib.Core.Path.{_≡_}
 use Prim.Native.Nat.{ℕ, suc, _*_, _+_, _≤_}
 use mathlib.Core.List.{List}
 use lib.ListN.{length, take, drop}
-use Rattle.phd.specs.Phd.{limit, row-width, State, Next, go, halt, ended, step, records, first}
+use Rattle.phd.specs.Phd.{limit, row-width, State, go, halt, ended, step, records, first}
 use Rattle.phd.specs.declared.Facts.{Facts}
 use Rattle.phd_record.specs.declared.Found.{Found}
 use Rattle.phd_read.specs.declared.records.Cursor.{Cursor}

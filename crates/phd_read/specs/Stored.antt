@@ -1,6 +1,6 @@
 -- What a record stores, and what a step of the reading does to the lent tables.
 -- Assumes nothing.
-use mathlib.Core.Path.{_≡_, refl, ap}
+use mathlib.Core.Path.{_≡_, refl}
 use Prim.Native.Nat.{ℕ, _-_, _<_}
 use mathlib.Core.List.{List, [], _∷_}
 use Rattle.layout.specs.Layout.{Outcome, whole, stops, run}

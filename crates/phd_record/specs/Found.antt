@@ -15,7 +15,6 @@ use Rattle.phd.specs.declared.classes.Cache.{Cache}
 use Rattle.phd.specs.declared.Front.{Front}
 use Rattle.phd.specs.declared.Middle.{Middle}
 use Rattle.phd.specs.declared.Tail.{Tail}
-use Rattle.phd.specs.declared.Span.{Span}
 use Rattle.phd_record.specs.declared.parts.FrontRead.{FrontRead}
 use Rattle.phd_record.specs.declared.parts.FrontRead.the-variants.{Is as IsFront, Stops as StopsFront}
 use Rattle.phd_record.specs.declared.parts.MiddleRead.{MiddleRead}

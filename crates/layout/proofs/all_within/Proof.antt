@@ -1,10 +1,9 @@
 -- `all_within` meets its contract: what is left, from here, says what the whole says.
-use borrow.Author.Needs.{needs}
-use mathlib.Core.Path.{_≡_, refl, sym, ap, _∙_}
-use Prim.Native.Nat.{ℕ, _+_, _-_, _≤_, _<_}
+use mathlib.Core.Path.{_≡_, sym, _∙_}
+use Prim.Native.Nat.{_+_, _-_, _≤_}
 use native.Mathlib.Nat.{add-zero, sub-zero}
 use native.Mathlib.Omega.{arith}
-use lib.ListN.{length, take, drop}
+use lib.ListN.{take, drop}
 use Rattle.layout.specs.Numbers.{within}
 use Rattle.layout.proofs.Laws.{below-low, above-high, between}
 use Rattle.layout.proofs.all_within.Statement.{statement}

@@ -2,7 +2,7 @@
 use borrow.Author.Needs.{needs}
 use borrow.Author.Tests.{lt-ltb, le-ltb}
 use mathlib.Core.Path.{_≡_, sym, ap, _∙_}
-use Rattle.layout.specs.Layout.{Outcome, whole, run, field, run-then, run-check, run-yield}
+use Rattle.layout.specs.Layout.{whole, run, field, run-then, run-check, run-yield}
 use Rattle.layout.specs.Fields.{outcome, below}
 use Rattle.layout.proofs.below.Statement.{statement}
 use Rattle.layout.proofs.below.Tie as tie

@@ -5,7 +5,7 @@ use native.Mathlib.Omega.{arith}
 use mir.Syntax.{w64}
 use mir.Facts.{toZ-ofZ}
 use Rattle.layout.specs.Numbers.{signed, counted}
-use Rattle.layout.specs.Layout.{Outcome, whole, stops, run, field, run-then, run-need}
+use Rattle.layout.specs.Layout.{whole, run, field, run-then, run-need}
 use Rattle.layout.specs.Fields.{outcome, Small, count}
 use Rattle.layout.proofs.count.Statement.{statement}
 use Rattle.layout.proofs.count.Tie as tie

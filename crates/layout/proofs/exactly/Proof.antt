@@ -1,8 +1,8 @@
 -- `exactly` meets its contract: the field's answer, and then the test.
 use borrow.Author.Needs.{needs}
 use borrow.Author.Tests.{eq-eqb, ne-eqb}
-use mathlib.Core.Path.{_≡_, refl, sym, ap, _∙_}
-use Rattle.layout.specs.Layout.{Outcome, whole, stops, run, field, run-then, run-check, run-yield}
+use mathlib.Core.Path.{_≡_, sym, ap, _∙_}
+use Rattle.layout.specs.Layout.{whole, run, field, run-then, run-check, run-yield}
 use Rattle.layout.specs.Fields.{outcome, exactly}
 use Rattle.layout.proofs.exactly.Statement.{statement}
 use Rattle.layout.proofs.exactly.Tie as tie

@@ -1,12 +1,11 @@
 -- `moved` meets its contract: no sum in it wraps, and a gap down is subtracted.
 use borrow.Author.Needs.{needs}
 use borrow.Author.Tests.{le-leb, lt-leb}
-use mathlib.Core.Path.{_≡_, refl, sym, ap, _∙_}
-use Prim.Native.Nat.{ℕ, suc, _+_, _-_, _*_, _≤_, _<_}
+use mathlib.Core.Path.{_≡_, sym, ap, _∙_}
+use Prim.Native.Nat.{suc, _+_, _-_, _*_, _≤_, _<_}
 use native.Mathlib.Omega.{arith}
 use lib.Dec.{leb}
-use Rattle.layout.specs.Numbers.{pick}
-use Rattle.layout.specs.Numbers.{step, moved, in-range}
+use Rattle.layout.specs.Numbers.{pick, step, moved, in-range}
 use mir.Syntax.{w64}
 use mir.Facts.{toZ-ofZ}
 use Rattle.layout.specs.declared.Maybe.the-variants.{Nothing}

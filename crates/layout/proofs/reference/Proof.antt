@@ -2,7 +2,7 @@
 use borrow.Author.Needs.{needs}
 use borrow.Author.Tests.{eq-eqb, ne-eqb}
 use mathlib.Core.Path.{_≡_, sym, ap, _∙_}
-use Rattle.layout.specs.Layout.{Outcome, whole, run, run-then, run-check, run-yield}
+use Rattle.layout.specs.Layout.{whole, run, run-then, run-check, run-yield}
 use Rattle.layout.specs.Fields.{outcome, address, reference}
 use Rattle.layout.proofs.reference.Statement.{statement}
 use Rattle.layout.proofs.reference.Tie as tie

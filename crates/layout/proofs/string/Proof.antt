@@ -1,12 +1,12 @@
 -- `string` meets its contract: the length, its test, the bytes there or lacking, and their test.
 use borrow.Author.Needs.{needs}
 use borrow.Author.Tests.{le-leb, lt-leb}
-use mathlib.Core.Path.{_≡_, sym, ap, subst, _∙_}
+use mathlib.Core.Path.{_≡_, sym, ap, _∙_}
 use Prim.Native.Nat.{_+_, _-_, _≤_, _<_}
 use native.Mathlib.Omega.{arith}
 use lib.ListN.{length}
-use Rattle.layout.specs.Layout.{Outcome, whole, run, field, run-then, run-check, run-yield, run-position, run-raw, run-raw-short, inside}
-use Rattle.layout.specs.Fields.{outcome, Small, string}
+use Rattle.layout.specs.Layout.{whole, run, field, run-then, run-check, run-yield, run-position, run-raw, run-raw-short, inside}
+use Rattle.layout.specs.Fields.{outcome, string}
 use Rattle.layout.proofs.string.Statement.{statement}
 use Rattle.layout.proofs.string.Tie as tie
 

@@ -13,12 +13,16 @@ use Rattle.phd_record.proofs.read_record.Statement.{statement}
 use Rattle.phd_record.proofs.read_record.Tie as tie
 
 -- the tag
+abbrev start : tie.After-tag → tie.Start
+start c = c .before .before .before .before
+
 module _ (c : tie.After-tag) where
-  got-tag : let a = c .before .before .before .before .args in run (field 1) (a .s .now) (a .at) ≡ whole (c .tag .given .0 .0) (c .tag .given .0 .1 .0)
+  got-tag : let a = start c .args in
+      run (field 1) (a .s .now) (a .at) ≡ whole (c .tag .given .0 .0) (c .tag .given .0 .1 .0)
   got-tag = sym (c .before .before .field .ensures .0) ∙ ap outcome (c .tag .given .1)
 
-  in-tag : let a = c .before .before .before .before .args in (c .tag .given .0 .1 .0) ≤ length (a .s .now)
-  in-tag = let a = c .before .before .before .before .args in inside (field 1) (a .s .now) (a .at) _ _ (omega arith) got-tag
+  in-tag : let a = start c .args in (c .tag .given .0 .1 .0) ≤ length (a .s .now)
+  in-tag = let a = start c .args in inside (field 1) (a .s .now) (a .at) _ _ (omega arith) got-tag
 
 field-requires : tie.Need-field-requires
 field-requires c κs = search needs
@@ -31,10 +35,14 @@ halted-requires c κs = search needs
 
 returns : tie.Need-returns
 unfolding entry found-of
-returns c = rw (c .halted .ensures, run-then, got-tag (c .before .before .before), eq-eqb _ _ (c .before .if1 .taken), run-yield)
+returns c =
+    let w = c .before .before .before in
+    rw (c .halted .ensures, run-then, got-tag w, eq-eqb _ _ (c .before .if1 .taken), run-yield)
 
 behind-tag-requires : tie.Need-behind-tag-requires
-behind-tag-requires c κs = (in-tag (c .before .before), c .before .before .before .before .before .before .pre .1)
+behind-tag-requires c κs =
+    let w = c .before .before in
+    (in-tag w, start w .pre .1)
 
 enum-known-w : tie.Need-enum-known-w
 enum-known-w c = search needs
@@ -44,11 +52,15 @@ halted-requires-2 c κs = search needs
 
 returns-2 : tie.Need-returns-2
 unfolding entry found-of
-returns-2 c = rw (c .behind-tag .ensures, run-then, got-tag (c .before .before .before), ne-eqb _ _ (c .before .if1 .left))
+returns-2 c =
+    let w = c .before .before .before in
+    rw (c .behind-tag .ensures, run-then, got-tag w, ne-eqb _ _ (c .before .if1 .left))
 
 returns-3 : tie.Need-returns-3
 unfolding entry found-of
-returns-3 c = rw (c .halted2 .ensures, run-then, ← c .before .before .before .before .field .ensures .0, c .before .before .w .given .1)
+returns-3 c =
+    let d = c .before .before .before .before in
+    rw (c .halted2 .ensures, run-then, ← d .field .ensures .0, c .before .before .w .given .1)
 
 pub read-record-spec : {M : Type 1} → statement M
 read-record-spec =

@@ -2,12 +2,12 @@
 use borrow.Author.Needs.{needs}
 use mathlib.Core.Path.{_≡_, refl, sym, ap, _∙_}
 use mathlib.Core.Bool.{Bool, true, false, not}
-use Prim.Native.Nat.{ℕ, _≤_, _<_}
+use Prim.Native.Nat.{ℕ, _≤_}
 use native.Mathlib.Omega.{arith}
 use lib.ListN.{length}
 use borrow.Author.Tests.{le-ltb, lt-ltb, ne-eqb}
 use Rattle.layout.specs.Numbers.{pick, both, either}
-use Rattle.layout.specs.Layout.{Outcome, whole, stops, run, field, run-then, run-check, run-yield, run-none}
+use Rattle.layout.specs.Layout.{whole, stops, run, field, run-then, run-check, run-yield, run-none}
 use Rattle.layout.specs.Fields.{outcome}
 use Rattle.layout.specs.declared.Stop.the-variants.{Refused}
 use Rattle.phd.specs.Phd.{flag-byte, moved-bit, hashed-bit, bit}

@@ -1,7 +1,7 @@
 -- `hash_kind_of` meets its contract.
 use borrow.Author.Needs.{needs}
 use Rattle.phd.specs.Phd.{hash-kind}
-use mathlib.Core.Path.{_≡_, sym, _∙_}
+use mathlib.Core.Path.{sym, _∙_}
 use Rattle.phd.proofs.forms.hash_kind_of.Statement.{statement}
 use Rattle.phd.proofs.forms.hash_kind_of.Tie as tie
 

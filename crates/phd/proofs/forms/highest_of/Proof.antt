@@ -1,5 +1,4 @@
 -- `highest_of` meets its contract.
-use mathlib.Core.Path.{_≡_, refl, sym, ap}
 use mathlib.Core.Logic.{⊎-elim}
 use Rattle.phd.specs.Phd.{highest}
 use Rattle.phd.proofs.forms.highest_of.Statement.{statement}

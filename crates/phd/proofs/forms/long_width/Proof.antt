@@ -1,6 +1,6 @@
 -- `long_width` meets its contract.
 use borrow.Author.Needs.{needs}
-use mathlib.Core.Path.{_≡_, sym, _∙_}
+use mathlib.Core.Path.{sym, _∙_}
 use Rattle.phd.proofs.forms.long_width.Statement.{statement}
 use Rattle.phd.proofs.forms.long_width.Tie as tie
 

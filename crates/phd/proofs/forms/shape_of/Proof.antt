@@ -1,6 +1,5 @@
 -- `shape_of` meets its contract: each arm is a line of the table.
 use borrow.Author.Needs.{needs}
-use mathlib.Core.Path.{_≡_, sym, _∙_}
 use Rattle.phd.specs.Phd.{shape}
 use Rattle.phd.proofs.forms.shape_of.Statement.{statement}
 use Rattle.phd.proofs.forms.shape_of.Tie as tie

@@ -1,8 +1,6 @@
 -- `width_of` meets its contract.
 use borrow.Author.Needs.{needs}
-use mathlib.Core.Path.{_≡_, ap, _∙_}
 use Rattle.phd.specs.Phd.{width}
-use mathlib.Core.Path.{refl}
 use Prim.Native.Nat.{_^_, _<_}
 use native.Mathlib.Omega.{arith}
 use native.Mathlib.Nat.{one-mul, mod-eq-of-lt}

@@ -1,6 +1,5 @@
 -- `step` meets its contract: the end, a record, or a stop.
 use borrow.Author.Needs.{needs}
-use mathlib.Core.Path.{_≡_, sym, ap, _∙_}
 use Rattle.phd_record.specs.Found.{found-over, found-halts}
 use Rattle.phd_read.proofs.StepLaws.{stays-end, stays-stop}
 use Rattle.phd_read.proofs.records.step.Statement.{statement}
@@ -28,7 +27,7 @@ returns : tie.Need-returns
 returns c =
     let d = c .before .before .before .before .before .before .before .before in
     let a = d .args in
-    stays-end (a .facts) (a .s .now) (a .rows .now) (a .refs .now) (a .k) (d .pre .0) _ (found-over (a .k .cache) _ _ (c .before .before .before .read-record .ensures) _ (c .before .what .given .1))
+    stays-end (a .facts) (d .pre .0) _ (found-over (a .k .cache) _ _ (c .before .before .before .read-record .ensures) _ (c .before .what .given .1))
 
 same-length : tie.Need-same-length
 same-length c = search needs
@@ -43,7 +42,7 @@ returns-3 : tie.Need-returns-3
 returns-3 c =
     let d = c .before .before .before .before .before .before .before .before .before in
     let a = d .args in
-    rw (c .reply-of .ensures) (stays-stop (a .facts) (a .s .now) (a .rows .now) (a .refs .now) (a .k) (d .pre .0) _ (found-halts (a .k .cache) _ _ (c .before .before .before .before .read-record .ensures) _ (c .before .before .what3 .given .1)))
+    rw (c .reply-of .ensures) (stays-stop (a .facts) (d .pre .0) _ (found-halts (a .k .cache) _ _ (c .before .before .before .before .read-record .ensures) _ (c .before .before .what3 .given .1)))
 
 pub step-spec : {M : Type 1} → statement M
 step-spec =

@@ -1,12 +1,11 @@
 -- `put_row` meets its contract: storing what is left of the row, from here, is storing all of it.
 use borrow.Author.Needs.{needs}
-use mathlib.Core.Path.{_≡_, refl, sym, ap, _∙_}
-use mathlib.Core.List.{_∷_}
-use Prim.Native.Nat.{ℕ, suc, _+_, _-_, _≤_, _<_}
+use mathlib.Core.Path.{_≡_, refl, sym, _∙_}
+use Prim.Native.Nat.{_+_, _-_, _≤_}
 use native.Mathlib.Nat.{add-zero}
 use native.Mathlib.Omega.{arith}
-use lib.ListN.{length, drop, getD, length-set, drop-of-length-le}
-use lib.Seq.{sets, drop-cons}
+use lib.ListN.{length, drop, length-set, drop-of-length-le}
+use lib.Seq.{sets}
 use Rattle.phd.specs.Phd.{row-width}
 use Rattle.phd_read.proofs.Laws.{store-next}
 use Rattle.phd_read.proofs.tables.put_row.Statement.{statement}

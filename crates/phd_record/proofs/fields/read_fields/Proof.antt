@@ -13,34 +13,46 @@ use Rattle.phd_record.proofs.fields.read_fields.Statement.{statement}
 use Rattle.phd_record.proofs.fields.read_fields.Tie as tie
 
 -- the front
+abbrev start : tie.After-f → tie.Start
+start c = c .before .before .before .before
+
 module _ (c : tie.After-f) where
-  got-front : let a = c .before .before .before .before .args in run (front (a .top) (a .before) (a .sh)) (a .s .now) (a .at) ≡ whole (c .f .given .0 .0) (c .f .given .0 .1 .0)
+  got-front : let a = start c .args in
+      run (front (a .top) (a .before) (a .sh)) (a .s .now) (a .at) ≡ whole (c .f .given .0 .0) (c .f .given .0 .1 .0)
   got-front = sym (c .before .before .read-front .ensures) ∙ ap front-outcome (c .f .given .1)
 
-  in-front : let a = c .before .before .before .before .args in (c .f .given .0 .1 .0) ≤ length (a .s .now)
-  in-front = let a = c .before .before .before .before .args in inside (front (a .top) (a .before) (a .sh)) (a .s .now) (a .at) _ _ (omega arith) got-front
+  in-front : let a = start c .args in (c .f .given .0 .1 .0) ≤ length (a .s .now)
+  in-front = let a = start c .args in inside (front (a .top) (a .before) (a .sh)) (a .s .now) (a .at) _ _ (omega arith) got-front
 
 -- the bytes of the hash are those of its kind
-hashed : (c : tie.After-read-middle) → let a = c .before .before .before .before .before .before .before .args in
-    run (middle (a .sh) (hash-bytes (a .hk))) (a .s .now) (c .before .before .before .f .given .0 .1 .0)
-    ≡ run (middle (a .sh) (c .before .hash-bytes-of .result)) (a .s .now) (c .before .before .before .f .given .0 .1 .0)
+hashed : (c : tie.After-read-middle) → let w = c .before .before .before in let a = start w .args in
+    run (middle (a .sh) (hash-bytes (a .hk))) (a .s .now) (w .f .given .0 .1 .0)
+    ≡ run (middle (a .sh) (c .before .hash-bytes-of .result)) (a .s .now) (w .f .given .0 .1 .0)
 hashed c = rw (c .before .hash-bytes-of .ensures)
 
 -- the middle
+abbrev front-of : tie.After-q → tie.After-f
+front-of c = c .before .before .before .before .before
+
 module _ (c : tie.After-q) where
-  got-middle : let a = c .before .before .before .before .before .before .before .before .before .args in run (middle (a .sh) (hash-bytes (a .hk))) (a .s .now) (c .before .before .before .before .before .f .given .0 .1 .0) ≡ whole (c .q .given .0 .0) (c .q .given .0 .1 .0)
+  got-middle : let a = start (front-of c) .args in
+      run (middle (a .sh) (hash-bytes (a .hk))) (a .s .now) (front-of c .f .given .0 .1 .0) ≡ whole (c .q .given .0 .0) (c .q .given .0 .1 .0)
   got-middle = hashed (c .before .before) ∙ sym (c .before .before .read-middle .ensures) ∙ ap middle-outcome (c .q .given .1)
 
-  in-middle : let a = c .before .before .before .before .before .before .before .before .before .args in (c .q .given .0 .1 .0) ≤ length (a .s .now)
-  in-middle = let a = c .before .before .before .before .before .before .before .before .before .args in inside (middle (a .sh) (hash-bytes (a .hk))) (a .s .now) (c .before .before .before .before .before .f .given .0 .1 .0) _ _ (in-front (c .before .before .before .before .before)) got-middle
+  in-middle : let a = start (front-of c) .args in (c .q .given .0 .1 .0) ≤ length (a .s .now)
+  in-middle = let a = start (front-of c) .args in inside (middle (a .sh) (hash-bytes (a .hk))) (a .s .now) (front-of c .f .given .0 .1 .0) _ _ (in-front (front-of c)) got-middle
 
 -- the name
+abbrev middle-of : tie.After-name → tie.After-q
+middle-of c = c .before .before .before .before
+
 module _ (c : tie.After-name) where
-  got-name : let a = c .before .before .before .before .before .before .before .before .before .before .before .before .before .args in run (class-name (a .sh .name)) (a .s .now) (c .before .before .before .before .q .given .0 .1 .0) ≡ whole (c .name .given .0 .0) (c .name .given .0 .1 .0)
+  got-name : let a = start (front-of (middle-of c)) .args in
+      run (class-name (a .sh .name)) (a .s .now) (middle-of c .q .given .0 .1 .0) ≡ whole (c .name .given .0 .0) (c .name .given .0 .1 .0)
   got-name = sym (c .before .before .class-name .ensures) ∙ ap text-outcome (c .name .given .1)
 
-  in-name : let a = c .before .before .before .before .before .before .before .before .before .before .before .before .before .args in (c .name .given .0 .1 .0) ≤ length (a .s .now)
-  in-name = let a = c .before .before .before .before .before .before .before .before .before .before .before .before .before .args in inside (class-name (a .sh .name)) (a .s .now) (c .before .before .before .before .q .given .0 .1 .0) _ _ (in-middle (c .before .before .before .before)) got-name
+  in-name : let a = start (front-of (middle-of c)) .args in (c .name .given .0 .1 .0) ≤ length (a .s .now)
+  in-name = let a = start (front-of (middle-of c)) .args in inside (class-name (a .sh .name)) (a .s .now) (middle-of c .q .given .0 .1 .0) _ _ (in-middle (middle-of c)) got-name
 
 read-front-requires : tie.Need-read-front-requires
 read-front-requires c κs = search needs
@@ -56,13 +68,17 @@ halted-requires c κs = search needs
 
 returns : tie.Need-returns
 unfolding fields found-of
-returns c = rw (c .halted .ensures, run-then, ← c .before .before .before .before .read-front .ensures, c .before .before .w .given .1)
+returns c =
+    let d = c .before .before .before .before in
+    rw (c .halted .ensures, run-then, ← d .read-front .ensures, c .before .before .w .given .1)
 
 hash-bytes-of-requires : tie.Need-hash-bytes-of-requires
 hash-bytes-of-requires c κs = search needs
 
 read-middle-requires : tie.Need-read-middle-requires
-read-middle-requires c κs = (in-front (c .before .before), c .before .before .before .before .before .before .pre .1, rw (c .hash-bytes-of .ensures) (hash-narrow _))
+read-middle-requires c κs =
+    let w = c .before .before in
+    (in-front w, start w .pre .1, rw (c .hash-bytes-of .ensures) (hash-narrow _))
 
 enum-known-q : tie.Need-enum-known-q
 enum-known-q c = search needs
@@ -75,7 +91,10 @@ halted-requires-2 c κs = search needs
 
 returns-2 : tie.Need-returns-2
 unfolding fields found-of
-returns-2 c = rw (c .halted2 .ensures, run-then, got-front (c .before .before .before .before .before .before .before), run-then, hashed (c .before .before .before .before), ← c .before .before .before .before .read-middle .ensures, c .before .before .w2 .given .1)
+returns-2 c =
+    let d = c .before .before .before .before in
+    let w = d .before .before .before in
+    rw (c .halted2 .ensures, run-then, got-front w, run-then, hashed d, ← d .read-middle .ensures, c .before .before .w2 .given .1)
 
 class-name-requires : tie.Need-class-name-requires
 class-name-requires c κs = in-middle (c .before)
@@ -84,7 +103,9 @@ enum-known-name : tie.Need-enum-known-name
 enum-known-name c = search needs
 
 read-linked-requires : tie.Need-read-linked-requires
-read-linked-requires c κs = (in-name (c .before), c .before .before .before .before .before .before .before .before .before .before .before .before .before .before .pre .1)
+read-linked-requires c κs =
+    let w = c .before in
+    (in-name w, start (front-of (middle-of w)) .pre .1)
 
 enum-known-w-3 : tie.Need-enum-known-w-3
 enum-known-w-3 c = search needs
@@ -94,11 +115,16 @@ halted-requires-3 c κs = search needs
 
 returns-3 : tie.Need-returns-3
 unfolding fields found-of
-returns-3 c = rw (c .read-linked .ensures, run-then, got-front (c .before .before .before .before .before .before .before .before .before .before .before), run-then, got-middle (c .before .before .before .before .before .before), run-then, got-name (c .before .before))
+returns-3 c =
+    let w = c .before .before in
+    rw (c .read-linked .ensures, run-then, got-front (front-of (middle-of w)), run-then, got-middle (middle-of w), run-then, got-name w)
 
 returns-4 : tie.Need-returns-4
 unfolding fields found-of
-returns-4 c = rw (c .halted3 .ensures, run-then, got-front (c .before .before .before .before .before .before .before .before .before .before .before), run-then, got-middle (c .before .before .before .before .before .before), run-then, ← c .before .before .before .before .class-name .ensures, c .before .before .w3 .given .1)
+returns-4 c =
+    let d = c .before .before .before .before in
+    let w = d .before .before in
+    rw (c .halted3 .ensures, run-then, got-front (front-of w), run-then, got-middle w, run-then, ← d .class-name .ensures, c .before .before .w3 .given .1)
 
 pub read-fields-spec : {M : Type 1} → statement M
 read-fields-spec =

@@ -1,55 +1,69 @@
 -- `read_linked` meets its contract: its parts, one after another.
 use borrow.Author.Needs.{needs}
 use mathlib.Core.Path.{_≡_, sym, ap, _∙_}
-use Prim.Native.Nat.{_≤_}
+use Prim.Native.Nat.{ℕ, _≤_}
 use native.Mathlib.Omega.{arith}
 use lib.ListN.{length}
-use Prim.Native.Nat.{ℕ}
 use mathlib.Core.List.{List}
 use Rattle.layout.specs.Layout.{whole, stops, run, inside, run-then, run-position, run-yield}
-use Rattle.layout.specs.declared.Stop.{Stop}
-use Rattle.phd_record.specs.declared.links.Checked.the-variants.{Stops}
 use Rattle.layout.specs.Fields.{outcome}
+use Rattle.layout.specs.declared.Stop.{Stop}
 use Rattle.phd.specs.Phd.{link-count, references, links, tail, linked}
 use Rattle.phd_record.specs.Found.{found-of, recorded, tail-outcome}
+use Rattle.phd_record.specs.declared.links.Checked.the-variants.{Stops}
 use Rattle.phd_record.proofs.Laws.{checked-fine, checked-broken}
 use Rattle.phd_record.proofs.fields.read_linked.Statement.{statement}
 use Rattle.phd_record.proofs.fields.read_linked.Tie as tie
 
 -- the count
+abbrev start : tie.After-k → tie.Start
+start c = c .before .before .before .before
+
 module _ (c : tie.After-k) where
-  got-count : let a = c .before .before .before .before .args in run (link-count (a .sh .counted) (a .sh .count)) (a .s .now) (a .at) ≡ whole (c .k .given .0 .0) (c .k .given .0 .1 .0)
+  got-count : let a = start c .args in
+      run (link-count (a .sh .counted) (a .sh .count)) (a .s .now) (a .at) ≡ whole (c .k .given .0 .0) (c .k .given .0 .1 .0)
   got-count = sym (c .before .before .link-count .ensures) ∙ ap outcome (c .k .given .1)
 
-  in-count : let a = c .before .before .before .before .args in (c .k .given .0 .1 .0) ≤ length (a .s .now)
-  in-count = let a = c .before .before .before .before .args in inside (link-count (a .sh .counted) (a .sh .count)) (a .s .now) (a .at) _ _ (omega arith) got-count
+  in-count : let a = start c .args in (c .k .given .0 .1 .0) ≤ length (a .s .now)
+  in-count = let a = start c .args in inside (link-count (a .sh .counted) (a .sh .count)) (a .s .now) (a .at) _ _ (omega arith) got-count
 
 -- the references, where they stop
-broke : (c : tie.After-check-links) (w : Stop) → c .check-links .result ≡ Stops w → let a = c .before .before .before .before .before .before .args in
-    run (references (a .sh .link) (a .v .address) (a .top) (c .before .before .k .given .0 .0)) (a .s .now) (c .before .before .k .given .0 .1 .0) ≡ stops w
+broke : (c : tie.After-check-links) (w : Stop) → c .check-links .result ≡ Stops w → let k = c .before .before in let a = start k .args in
+    run (references (a .sh .link) (a .v .address) (a .top) (k .k .given .0 .0)) (a .s .now) (k .k .given .0 .1 .0) ≡ stops w
 broke c w e = checked-broken _ _ (sym (c .check-links .ensures) ∙ e)
 
 -- the references, with their values
+abbrev count-of : tie.After-e → tie.After-k
+count-of c = c .before .before .before .before
+
 module _ (c : tie.After-e) where
-  refs : let a = c .before .before .before .before .before .before .before .before .args in (rs : List ℕ) × (run (references (a .sh .link) (a .v .address) (a .top) (c .before .before .before .before .k .given .0 .0)) (a .s .now) (c .before .before .before .before .k .given .0 .1 .0) ≡ whole rs (c .e .given .0 .0))
+  refs : let k = count-of c in let a = start k .args in
+      (rs : List ℕ) × (run (references (a .sh .link) (a .v .address) (a .top) (k .k .given .0 .0)) (a .s .now) (k .k .given .0 .1 .0) ≡ whole rs (c .e .given .0 .0))
   refs = checked-fine _ _ (sym (c .before .before .check-links .ensures) ∙ c .e .given .1)
 
-  got-links : let a = c .before .before .before .before .before .before .before .before .args in
-      run (links (a .sh .link) (a .v .address) (a .top) (c .before .before .before .before .k .given .0 .0)) (a .s .now) (c .before .before .before .before .k .given .0 .1 .0)
-      ≡ whole (record { span = record { place = c .before .before .before .before .k .given .0 .1 .0; width = a .sh .link; count = c .before .before .before .before .k .given .0 .0 }; list = refs .0 }) (c .e .given .0 .0)
+  got-links : let k = count-of c in let a = start k .args in
+      run (links (a .sh .link) (a .v .address) (a .top) (k .k .given .0 .0)) (a .s .now) (k .k .given .0 .1 .0)
+      ≡ whole (record { span = record { place = k .k .given .0 .1 .0; width = a .sh .link; count = k .k .given .0 .0 }; list = refs .0 }) (c .e .given .0 .0)
   unfolding links
   got-links = rw (run-then, run-position, run-then, refs .1, run-yield)
 
-  in-links : let a = c .before .before .before .before .before .before .before .before .args in c .e .given .0 .0 ≤ length (a .s .now)
-  in-links = let a = c .before .before .before .before .before .before .before .before .args in inside (links (a .sh .link) (a .v .address) (a .top) (c .before .before .before .before .k .given .0 .0)) (a .s .now) (c .before .before .before .before .k .given .0 .1 .0) _ _ (in-count (c .before .before .before .before)) got-links
+  in-links : let a = start (count-of c) .args in c .e .given .0 .0 ≤ length (a .s .now)
+  in-links =
+      let k = count-of c in
+      let a = start k .args in
+      inside (links (a .sh .link) (a .v .address) (a .top) (k .k .given .0 .0)) (a .s .now) (k .k .given .0 .1 .0) _ _ (in-count k) got-links
 
 -- the tail
+abbrev links-of : tie.After-t → tie.After-e
+links-of c = c .before .before .before .before
+
 module _ (c : tie.After-t) where
-  got-tail : let a = c .before .before .before .before .before .before .before .before .before .before .before .before .args in run (tail (a .sh .size) (a .sh .truelen) (c .before .before .before .before .before .before .before .before .k .given .0 .0)) (a .s .now) (c .before .before .before .before .e .given .0 .0) ≡ whole (c .t .given .0 .0) (c .t .given .0 .1 .0)
+  got-tail : let a = start (count-of (links-of c)) .args in
+      run (tail (a .sh .size) (a .sh .truelen) (count-of (links-of c) .k .given .0 .0)) (a .s .now) (links-of c .e .given .0 .0) ≡ whole (c .t .given .0 .0) (c .t .given .0 .1 .0)
   got-tail = sym (c .before .before .read-tail .ensures) ∙ ap tail-outcome (c .t .given .1)
 
-  in-tail : let a = c .before .before .before .before .before .before .before .before .before .before .before .before .args in (c .t .given .0 .1 .0) ≤ length (a .s .now)
-  in-tail = let a = c .before .before .before .before .before .before .before .before .before .before .before .before .args in inside (tail (a .sh .size) (a .sh .truelen) (c .before .before .before .before .before .before .before .before .k .given .0 .0)) (a .s .now) (c .before .before .before .before .e .given .0 .0) _ _ (in-links (c .before .before .before .before)) got-tail
+  in-tail : let a = start (count-of (links-of c)) .args in (c .t .given .0 .1 .0) ≤ length (a .s .now)
+  in-tail = let a = start (count-of (links-of c)) .args in inside (tail (a .sh .size) (a .sh .truelen) (count-of (links-of c) .k .given .0 .0)) (a .s .now) (links-of c .e .given .0 .0) _ _ (in-links (links-of c)) got-tail
 
 link-count-requires : tie.Need-link-count-requires
 link-count-requires c κs = search needs
@@ -65,7 +79,9 @@ halted-requires c κs = search needs
 
 returns : tie.Need-returns
 unfolding linked found-of
-returns c = rw (c .halted .ensures, run-then, ← c .before .before .before .before .link-count .ensures, c .before .before .w .given .1)
+returns c =
+    let d = c .before .before .before .before in
+    rw (c .halted .ensures, run-then, ← d .link-count .ensures, c .before .before .w .given .1)
 
 check-links-requires : tie.Need-check-links-requires
 check-links-requires c κs = (in-count (c .before), omega arith)
@@ -81,7 +97,10 @@ halted-requires-2 c κs = search needs
 
 returns-2 : tie.Need-returns-2
 unfolding linked links found-of
-returns-2 c = rw (c .halted2 .ensures, run-then, got-count (c .before .before .before .before .before .before), run-then, run-then, run-position, run-then, broke (c .before .before .before .before) _ (c .before .before .w2 .given .1))
+returns-2 c =
+    let d = c .before .before .before .before in
+    let w = d .before .before in
+    rw (c .halted2 .ensures, run-then, got-count w, run-then, run-then, run-position, run-then, broke d _ (c .before .before .w2 .given .1))
 
 read-tail-requires : tie.Need-read-tail-requires
 read-tail-requires c κs = (in-links (c .before), omega arith, omega arith)
@@ -100,11 +119,16 @@ halted-requires-3 c κs = search needs
 
 returns-3 : tie.Need-returns-3
 unfolding linked found-of recorded
-returns-3 c = rw (c .recorded .ensures, run-then, got-count (c .before .before .before .before .before .before .before .before .before .before), run-then, got-links (c .before .before .before .before .before .before), run-then, got-tail (c .before .before), run-yield)
+returns-3 c =
+    let w = c .before .before in
+    rw (c .recorded .ensures, run-then, got-count (count-of (links-of w)), run-then, got-links (links-of w), run-then, got-tail w, run-yield)
 
 returns-4 : tie.Need-returns-4
 unfolding linked found-of
-returns-4 c = rw (c .halted3 .ensures, run-then, got-count (c .before .before .before .before .before .before .before .before .before .before), run-then, got-links (c .before .before .before .before .before .before), run-then, ← c .before .before .before .before .read-tail .ensures, c .before .before .w3 .given .1)
+returns-4 c =
+    let d = c .before .before .before .before in
+    let w = d .before .before in
+    rw (c .halted3 .ensures, run-then, got-count (count-of w), run-then, got-links w, run-then, ← d .read-tail .ensures, c .before .before .w3 .given .1)
 
 pub read-linked-spec : {M : Type 1} → statement M
 read-linked-spec =

@@ -1,10 +1,10 @@
 -- `check_links` meets its contract: what is left, from here, gives the answer of the whole.
 use borrow.Author.Needs.{needs}
 use mathlib.Core.Path.{_≡_, refl, sym, ap, _∙_}
-use Prim.Native.Nat.{ℕ, _-_, _≤_, _<_}
+use Prim.Native.Nat.{_-_, _≤_}
 use native.Mathlib.Omega.{arith}
 use lib.ListN.{length}
-use Rattle.layout.specs.Layout.{whole, run, inside}
+use Rattle.layout.specs.Layout.{run, inside}
 use Rattle.layout.specs.Fields.{outcome, reference}
 use Rattle.phd.specs.Phd.{references}
 use Rattle.phd.specs.References.{references-none}

@@ -11,28 +11,40 @@ use Rattle.phd_record.proofs.parts.read_front.Statement.{statement}
 use Rattle.phd_record.proofs.parts.read_front.Tie as tie
 
 -- the gap
+abbrev start : tie.After-a → tie.Start
+start c = c .before .before .before .before
+
 module _ (c : tie.After-a) where
-  got-address : let a = c .before .before .before .before .args in run (address (a .sh .gap) (a .before) (a .top)) (a .s .now) (a .at) ≡ whole (c .a .given .0 .0) (c .a .given .0 .1 .0)
+  got-address : let a = start c .args in
+      run (address (a .sh .gap) (a .before) (a .top)) (a .s .now) (a .at) ≡ whole (c .a .given .0 .0) (c .a .given .0 .1 .0)
   got-address = sym (c .before .before .address .ensures) ∙ ap outcome (c .a .given .1)
 
-  in-address : let a = c .before .before .before .before .args in c .a .given .0 .1 .0 ≤ length (a .s .now)
-  in-address = let a = c .before .before .before .before .args in inside (address (a .sh .gap) (a .before) (a .top)) (a .s .now) (a .at) _ _ (omega arith) got-address
+  in-address : let a = start c .args in (c .a .given .0 .1 .0) ≤ length (a .s .now)
+  in-address = let a = start c .args in inside (address (a .sh .gap) (a .before) (a .top)) (a .s .now) (a .at) _ _ (omega arith) got-address
 
 -- the class word
+abbrev address-of : tie.After-c → tie.After-a
+address-of c = c .before .before .before .before
+
 module _ (c : tie.After-c) where
-  got-word : let a = c .before .before .before .before .before .before .before .before .args in run (field (a .sh .word)) (a .s .now) (c .before .before .before .before .a .given .0 .1 .0) ≡ whole (c .c .given .0 .0) (c .c .given .0 .1 .0)
+  got-word : let a = start (address-of c) .args in
+      run (field (a .sh .word)) (a .s .now) (address-of c .a .given .0 .1 .0) ≡ whole (c .c .given .0 .0) (c .c .given .0 .1 .0)
   got-word = sym (c .before .before .field .ensures .0) ∙ ap outcome (c .c .given .1)
 
-  in-word : let a = c .before .before .before .before .before .before .before .before .args in c .c .given .0 .1 .0 ≤ length (a .s .now)
-  in-word = let a = c .before .before .before .before .before .before .before .before .args in inside (field (a .sh .word)) (a .s .now) (c .before .before .before .before .a .given .0 .1 .0) _ _ (in-address (c .before .before .before .before)) got-word
+  in-word : let a = start (address-of c) .args in (c .c .given .0 .1 .0) ≤ length (a .s .now)
+  in-word = let a = start (address-of c) .args in inside (field (a .sh .word)) (a .s .now) (address-of c .a .given .0 .1 .0) _ _ (in-address (address-of c)) got-word
 
 -- the array length
+abbrev word-of : tie.After-len → tie.After-c
+word-of c = c .before .before .before .before
+
 module _ (c : tie.After-len) where
-  got-len : let a = c .before .before .before .before .before .before .before .before .before .before .before .before .args in run (count (a .sh .len)) (a .s .now) (c .before .before .before .before .c .given .0 .1 .0) ≡ whole (c .len .given .0 .0) (c .len .given .0 .1 .0)
+  got-len : let a = start (address-of (word-of c)) .args in
+      run (count (a .sh .len)) (a .s .now) (word-of c .c .given .0 .1 .0) ≡ whole (c .len .given .0 .0) (c .len .given .0 .1 .0)
   got-len = sym (c .before .before .count .ensures) ∙ ap outcome (c .len .given .1)
 
-  in-len : let a = c .before .before .before .before .before .before .before .before .before .before .before .before .args in c .len .given .0 .1 .0 ≤ length (a .s .now)
-  in-len = let a = c .before .before .before .before .before .before .before .before .before .before .before .before .args in inside (count (a .sh .len)) (a .s .now) (c .before .before .before .before .c .given .0 .1 .0) _ _ (in-word (c .before .before .before .before)) got-len
+  in-len : let a = start (address-of (word-of c)) .args in (c .len .given .0 .1 .0) ≤ length (a .s .now)
+  in-len = let a = start (address-of (word-of c)) .args in inside (count (a .sh .len)) (a .s .now) (word-of c .c .given .0 .1 .0) _ _ (in-word (word-of c)) got-len
 
 address-requires : tie.Need-address-requires
 address-requires c κs = search needs
@@ -45,7 +57,9 @@ enum-known-w c = search needs
 
 returns : tie.Need-returns
 unfolding front
-returns c = rw (run-then, ← c .before .before .before .address .ensures, c .before .w .given .1)
+returns c =
+    let d = c .before .before .before in
+    rw (run-then, ← d .address .ensures, c .before .w .given .1)
 
 field-requires : tie.Need-field-requires
 field-requires c κs = (omega arith, in-address (c .before))
@@ -58,7 +72,10 @@ enum-known-w-2 c = search needs
 
 returns-2 : tie.Need-returns-2
 unfolding front
-returns-2 c = rw (run-then, got-address (c .before .before .before .before .before), run-then, ← c .before .before .before .field .ensures .0, c .before .w2 .given .1)
+returns-2 c =
+    let d = c .before .before .before in
+    let w = d .before .before in
+    rw (run-then, got-address w, run-then, ← d .field .ensures .0, c .before .w2 .given .1)
 
 count-requires : tie.Need-count-requires
 count-requires c κs = (omega arith, in-word (c .before))
@@ -71,11 +88,16 @@ enum-known-w-3 c = search needs
 
 returns-3 : tie.Need-returns-3
 unfolding front
-returns-3 c = rw (run-then, got-address (c .before .before .before .before .before .before .before .before .before), run-then, got-word (c .before .before .before .before .before), run-then, got-len (c .before), run-yield)
+returns-3 c =
+    let w = c .before in
+    rw (run-then, got-address (address-of (word-of w)), run-then, got-word (word-of w), run-then, got-len w, run-yield)
 
 returns-4 : tie.Need-returns-4
 unfolding front
-returns-4 c = rw (run-then, got-address (c .before .before .before .before .before .before .before .before .before), run-then, got-word (c .before .before .before .before .before), run-then, ← c .before .before .before .count .ensures, c .before .w3 .given .1)
+returns-4 c =
+    let d = c .before .before .before in
+    let w = d .before .before in
+    rw (run-then, got-address (address-of w), run-then, got-word w, run-then, ← d .count .ensures, c .before .w3 .given .1)
 
 pub read-front-spec : {M : Type 1} → statement M
 read-front-spec =

@@ -11,28 +11,40 @@ use Rattle.phd_record.proofs.parts.read_middle.Statement.{statement}
 use Rattle.phd_record.proofs.parts.read_middle.Tie as tie
 
 -- the instance size
+abbrev start : tie.After-i → tie.Start
+start c = c .before .before .before .before
+
 module _ (c : tie.After-i) where
-  got-inst : let a = c .before .before .before .before .args in run (count (a .sh .inst)) (a .s .now) (a .at) ≡ whole (c .i .given .0 .0) (c .i .given .0 .1 .0)
+  got-inst : let a = start c .args in
+      run (count (a .sh .inst)) (a .s .now) (a .at) ≡ whole (c .i .given .0 .0) (c .i .given .0 .1 .0)
   got-inst = sym (c .before .before .count .ensures) ∙ ap outcome (c .i .given .1)
 
-  in-inst : let a = c .before .before .before .before .args in c .i .given .0 .1 .0 ≤ length (a .s .now)
-  in-inst = let a = c .before .before .before .before .args in inside (count (a .sh .inst)) (a .s .now) (a .at) _ _ (omega arith) got-inst
+  in-inst : let a = start c .args in (c .i .given .0 .1 .0) ≤ length (a .s .now)
+  in-inst = let a = start c .args in inside (count (a .sh .inst)) (a .s .now) (a .at) _ _ (omega arith) got-inst
 
 -- the hash
+abbrev inst-of : tie.After-h → tie.After-i
+inst-of c = c .before .before .before .before
+
 module _ (c : tie.After-h) where
-  got-hash : let a = c .before .before .before .before .before .before .before .before .args in run (field (a .hb)) (a .s .now) (c .before .before .before .before .i .given .0 .1 .0) ≡ whole (c .h .given .0 .0) (c .h .given .0 .1 .0)
+  got-hash : let a = start (inst-of c) .args in
+      run (field (a .hb)) (a .s .now) (inst-of c .i .given .0 .1 .0) ≡ whole (c .h .given .0 .0) (c .h .given .0 .1 .0)
   got-hash = sym (c .before .before .field .ensures .0) ∙ ap outcome (c .h .given .1)
 
-  in-hash : let a = c .before .before .before .before .before .before .before .before .args in c .h .given .0 .1 .0 ≤ length (a .s .now)
-  in-hash = let a = c .before .before .before .before .before .before .before .before .args in inside (field (a .hb)) (a .s .now) (c .before .before .before .before .i .given .0 .1 .0) _ _ (in-inst (c .before .before .before .before)) got-hash
+  in-hash : let a = start (inst-of c) .args in (c .h .given .0 .1 .0) ≤ length (a .s .now)
+  in-hash = let a = start (inst-of c) .args in inside (field (a .hb)) (a .s .now) (inst-of c .i .given .0 .1 .0) _ _ (in-inst (inst-of c)) got-hash
 
 -- the superclass word
+abbrev hash-of : tie.After-superclass → tie.After-h
+hash-of c = c .before .before .before .before
+
 module _ (c : tie.After-superclass) where
-  got-superclass : let a = c .before .before .before .before .before .before .before .before .before .before .before .before .args in run (field (a .sh .superclass)) (a .s .now) (c .before .before .before .before .h .given .0 .1 .0) ≡ whole (c .superclass .given .0 .0) (c .superclass .given .0 .1 .0)
+  got-superclass : let a = start (inst-of (hash-of c)) .args in
+      run (field (a .sh .superclass)) (a .s .now) (hash-of c .h .given .0 .1 .0) ≡ whole (c .superclass .given .0 .0) (c .superclass .given .0 .1 .0)
   got-superclass = sym (c .before .before .field2 .ensures .0) ∙ ap outcome (c .superclass .given .1)
 
-  in-superclass : let a = c .before .before .before .before .before .before .before .before .before .before .before .before .args in c .superclass .given .0 .1 .0 ≤ length (a .s .now)
-  in-superclass = let a = c .before .before .before .before .before .before .before .before .before .before .before .before .args in inside (field (a .sh .superclass)) (a .s .now) (c .before .before .before .before .h .given .0 .1 .0) _ _ (in-hash (c .before .before .before .before)) got-superclass
+  in-superclass : let a = start (inst-of (hash-of c)) .args in (c .superclass .given .0 .1 .0) ≤ length (a .s .now)
+  in-superclass = let a = start (inst-of (hash-of c)) .args in inside (field (a .sh .superclass)) (a .s .now) (hash-of c .h .given .0 .1 .0) _ _ (in-hash (hash-of c)) got-superclass
 
 count-requires : tie.Need-count-requires
 count-requires c κs = search needs
@@ -45,7 +57,9 @@ enum-known-w c = search needs
 
 returns : tie.Need-returns
 unfolding middle
-returns c = rw (run-then, ← c .before .before .before .count .ensures, c .before .w .given .1)
+returns c =
+    let d = c .before .before .before in
+    rw (run-then, ← d .count .ensures, c .before .w .given .1)
 
 field-requires : tie.Need-field-requires
 field-requires c κs = (omega arith, in-inst (c .before))
@@ -58,7 +72,10 @@ enum-known-w-2 c = search needs
 
 returns-2 : tie.Need-returns-2
 unfolding middle
-returns-2 c = rw (run-then, got-inst (c .before .before .before .before .before), run-then, ← c .before .before .before .field .ensures .0, c .before .w2 .given .1)
+returns-2 c =
+    let d = c .before .before .before in
+    let w = d .before .before in
+    rw (run-then, got-inst w, run-then, ← d .field .ensures .0, c .before .w2 .given .1)
 
 field-requires-2 : tie.Need-field-requires-2
 field-requires-2 c κs = (omega arith, in-hash (c .before))
@@ -71,11 +88,16 @@ enum-known-w-3 c = search needs
 
 returns-3 : tie.Need-returns-3
 unfolding middle
-returns-3 c = rw (run-then, got-inst (c .before .before .before .before .before .before .before .before .before), run-then, got-hash (c .before .before .before .before .before), run-then, got-superclass (c .before), run-yield)
+returns-3 c =
+    let w = c .before in
+    rw (run-then, got-inst (inst-of (hash-of w)), run-then, got-hash (hash-of w), run-then, got-superclass w, run-yield)
 
 returns-4 : tie.Need-returns-4
 unfolding middle
-returns-4 c = rw (run-then, got-inst (c .before .before .before .before .before .before .before .before .before), run-then, got-hash (c .before .before .before .before .before), run-then, ← c .before .before .before .field2 .ensures .0, c .before .w3 .given .1)
+returns-4 c =
+    let d = c .before .before .before in
+    let w = d .before .before in
+    rw (run-then, got-inst (inst-of w), run-then, got-hash w, run-then, ← d .field2 .ensures .0, c .before .w3 .given .1)
 
 pub read-middle-spec : {M : Type 1} → statement M
 read-middle-spec =

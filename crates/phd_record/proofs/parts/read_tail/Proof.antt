@@ -11,20 +11,28 @@ use Rattle.phd_record.proofs.parts.read_tail.Statement.{statement}
 use Rattle.phd_record.proofs.parts.read_tail.Tie as tie
 
 -- the size
+abbrev start : tie.After-v → tie.Start
+start c = c .before .before .before .before
+
 module _ (c : tie.After-v) where
-  got-size : let a = c .before .before .before .before .args in run (field (a .size)) (a .s .now) (a .at) ≡ whole (c .v .given .0 .0) (c .v .given .0 .1 .0)
+  got-size : let a = start c .args in
+      run (field (a .size)) (a .s .now) (a .at) ≡ whole (c .v .given .0 .0) (c .v .given .0 .1 .0)
   got-size = sym (c .before .before .field .ensures .0) ∙ ap outcome (c .v .given .1)
 
-  in-size : let a = c .before .before .before .before .args in c .v .given .0 .1 .0 ≤ length (a .s .now)
-  in-size = let a = c .before .before .before .before .args in inside (field (a .size)) (a .s .now) (a .at) _ _ (omega arith) got-size
+  in-size : let a = start c .args in (c .v .given .0 .1 .0) ≤ length (a .s .now)
+  in-size = let a = start c .args in inside (field (a .size)) (a .s .now) (a .at) _ _ (omega arith) got-size
 
 -- the true length
+abbrev size-of : tie.After-t → tie.After-v
+size-of c = c .before .before .before .before
+
 module _ (c : tie.After-t) where
-  got-truelen : let a = c .before .before .before .before .before .before .before .before .args in run (true-length (a .truelen) (a .count)) (a .s .now) (c .before .before .before .before .v .given .0 .1 .0) ≡ whole (c .t .given .0 .0) (c .t .given .0 .1 .0)
+  got-truelen : let a = start (size-of c) .args in
+      run (true-length (a .truelen) (a .count)) (a .s .now) (size-of c .v .given .0 .1 .0) ≡ whole (c .t .given .0 .0) (c .t .given .0 .1 .0)
   got-truelen = sym (c .before .before .true-length .ensures) ∙ ap outcome (c .t .given .1)
 
-  in-truelen : let a = c .before .before .before .before .before .before .before .before .args in c .t .given .0 .1 .0 ≤ length (a .s .now)
-  in-truelen = let a = c .before .before .before .before .before .before .before .before .args in inside (true-length (a .truelen) (a .count)) (a .s .now) (c .before .before .before .before .v .given .0 .1 .0) _ _ (in-size (c .before .before .before .before)) got-truelen
+  in-truelen : let a = start (size-of c) .args in (c .t .given .0 .1 .0) ≤ length (a .s .now)
+  in-truelen = let a = start (size-of c) .args in inside (true-length (a .truelen) (a .count)) (a .s .now) (size-of c .v .given .0 .1 .0) _ _ (in-size (size-of c)) got-truelen
 
 field-requires : tie.Need-field-requires
 field-requires c κs = search needs
@@ -37,7 +45,9 @@ enum-known-w c = search needs
 
 returns : tie.Need-returns
 unfolding tail
-returns c = rw (run-then, ← c .before .before .before .field .ensures .0, c .before .w .given .1)
+returns c =
+    let d = c .before .before .before in
+    rw (run-then, ← d .field .ensures .0, c .before .w .given .1)
 
 true-length-requires : tie.Need-true-length-requires
 true-length-requires c κs = (in-size (c .before), omega arith)
@@ -50,11 +60,16 @@ enum-known-w-2 c = search needs
 
 returns-2 : tie.Need-returns-2
 unfolding tail
-returns-2 c = rw (run-then, got-size (c .before .before .before .before .before), run-then, got-truelen (c .before), run-yield)
+returns-2 c =
+    let w = c .before in
+    rw (run-then, got-size (size-of w), run-then, got-truelen w, run-yield)
 
 returns-3 : tie.Need-returns-3
 unfolding tail
-returns-3 c = rw (run-then, got-size (c .before .before .before .before .before), run-then, ← c .before .before .before .true-length .ensures, c .before .w2 .given .1)
+returns-3 c =
+    let d = c .before .before .before in
+    let w = d .before .before in
+    rw (run-then, got-size w, run-then, ← d .true-length .ensures, c .before .w2 .given .1)
 
 pub read-tail-spec : {M : Type 1} → statement M
 read-tail-spec =
