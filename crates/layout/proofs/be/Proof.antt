@@ -1,3 +1,4 @@
+-- `be` meets its contract: what is left, read on from the value so far, is what the whole is.
 use mathlib.Core.Path.{_≡_, sym, _∙_}
 use Prim.Native.Nat.{_+_, _-_, _^_, _≤_, _<_}
 use native.Mathlib.Omega.{arith}
@@ -8,9 +9,6 @@ use Rattle.layout.specs.Numbers.{value-after}
 use Rattle.layout.proofs.Laws.{digit-lt, seven, byte-read}
 use Rattle.layout.proofs.be.Statement.{statement}
 use Rattle.layout.proofs.be.Tie as tie
-use Rattle.layout.proofs.be.Reads as reads
-use Rattle.layout.proofs.be.Lts as lts
-use Rattle.layout.proofs.wide.Reads as wide-reads
 
 -- what is left, read on from the value so far, is what the whole is
 abbrev Inv-loop : tie.InvT-loop

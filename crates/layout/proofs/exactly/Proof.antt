@@ -6,9 +6,6 @@ use Rattle.layout.specs.Layout.{whole, run, field, run-then, run-check, 
 use Rattle.layout.specs.Fields.{outcome, exactly}
 use Rattle.layout.proofs.exactly.Statement.{statement}
 use Rattle.layout.proofs.exactly.Tie as tie
-use Rattle.layout.proofs.exactly.Reads as reads
-use Rattle.layout.proofs.exactly.Lts as lts
-use Rattle.layout.proofs.field.Reads as field-reads
 
 got : (c : tie.After-x) → let a = c .before .before .before .before .args in
     run (field (a .n)) (a .s .now) (a .at) ≡ whole (c .x .given .0 .0) (c .x .given .0 .1 .0)

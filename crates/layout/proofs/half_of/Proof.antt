@@ -1,3 +1,4 @@
+-- `half_of` meets its contract: half of 256 ^ n is one bit less.
 use borrow.Author.Needs.{needs}
 use Prim.Native.Nat.{_-_, _*_, _^_, _<_}
 use native.Mathlib.Omega.{arith}
@@ -6,22 +7,16 @@ use lib.Pow.{pow-lt}
 use Rattle.layout.proofs.Laws.{half-half}
 use Rattle.layout.proofs.half_of.Statement.{statement}
 use Rattle.layout.proofs.half_of.Tie as tie
-use Rattle.layout.proofs.half_of.Reads as reads
-use Rattle.layout.proofs.half_of.Lts as lts
 
--- src/lib.rt:66:11
 mul-result : tie.Need-mul-result
 mul-result c = search needs
 
--- src/lib.rt:66:11
 sub-result : tie.Need-sub-result
 sub-result c = search needs
 
--- src/lib.rt:66:5
 shl-result : tie.Need-shl-result
 shl-result c = search needs
 
--- src/lib.rt:62:1
 returns : tie.Need-returns
 returns c =
     let n = c .args .n in

@@ -12,9 +12,6 @@ use Rattle.layout.specs.declared.Maybe.the-variants.{Nothing}
 use Rattle.layout.proofs.Laws.{moved-up, moved-down}
 use Rattle.layout.proofs.moved.Statement.{statement}
 use Rattle.layout.proofs.moved.Tie as tie
-use Rattle.layout.proofs.moved.Reads as reads
-use Rattle.layout.proofs.moved.Lts as lts
-use Rattle.layout.proofs.step_of.Reads as step-of-reads
 
 -- the two arms: what the definition says of a gap up, and of one down
 module _ (c : tie.After-n) where

@@ -1,3 +1,4 @@
+-- `step_of` meets its contract: the sign is split off, and no sum in it wraps.
 use mathlib.Core.Path.{_≡_, sym, ap, subst, _∙_}
 use Prim.Native.Nat.{ℕ}
 use native.Mathlib.Omega.{arith}
