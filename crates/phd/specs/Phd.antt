@@ -59,7 +59,8 @@ opening-bytes = do
   text ← raw 18
   check 3 (same text opening)
 
--- the opening string, the version, the flags and the byte 1; the flags are what is handed on
+-- The opening string, the version, the flags and the byte 1; the flags are what is handed on. (`exactly n v r` is a field of
+-- n bytes that must be v, else the reply r; of `below n v r` it must be below v.)
 unfoldable pub preamble : Layout ℕ
 preamble = do
   exactly 2 18 3

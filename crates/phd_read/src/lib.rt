@@ -8,7 +8,7 @@ use layout::Text;
 use phd::Facts;
 use phd_header::HeaderRead;
 
-pub mod records;
+mod records;
 mod tables;
 
 // What a reading answers: the reply and its place, how many rows and references were stored, and the header facts.

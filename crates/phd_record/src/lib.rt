@@ -15,7 +15,7 @@ use phd::Facts;
 use phd::Span;
 use phd::Tagged;
 
-pub mod fields;
+mod fields;
 mod links;
 mod parts;
 
