@@ -1,5 +1,5 @@
-// The portable heap dump: what its header, its class cache and its record shapes are.
-// The definition of the format is specs/Phd.antt; the functions here are proved equal to its parts.
+// The portable heap dump: the types that its header and its records are read into, the class cache, tags, flag bytes and
+// shapes. The definition of the format is specs/Phd.antt; the functions here are proved equal to its parts.
 use layout::Text;
 
 pub mod classes;

@@ -109,8 +109,8 @@ module _ (h : Facts) {s rows refs : List ℕ} {k : Cursor} (fits : Fits s rows r
       abbrev refs-after : List ℕ
       refs-after = sets refs (k .refs) (values-of judged)
 
-      twelve : (k .rows + 1) * row-width ≡ k .rows * row-width + length (f .row)
-      twelve = let e = stands .numbers in omega arith
+      one-more : (k .rows + 1) * row-width ≡ k .rows * row-width + length (f .row)
+      one-more = let e = stands .numbers in omega arith
 
       room : k .rows * row-width + length (f .row) ≤ length rows
       room = let e = stands .numbers in omega arith
@@ -122,7 +122,7 @@ module _ (h : Facts) {s rows refs : List ℕ} {k : Cursor} (fits : Fits s rows r
       space = let e = all in omega arith
 
       rows-are : take ((k .rows + 1) * row-width) rows-after ≡ take (k .rows * row-width) rows ++ f .row
-      rows-are = take-sets rows (f .row) (k .rows * row-width) ((k .rows + 1) * row-width) room twelve
+      rows-are = take-sets rows (f .row) (k .rows * row-width) ((k .rows + 1) * row-width) room one-more
 
       refs-are : take (k .refs + f .span .count) refs-after ≡ take (k .refs) refs ++ its .0 .list
       refs-are = take-sets refs (values-of judged) (k .refs) (k .refs + f .span .count) space all ∙ ap (λ (l : List ℕ). take (k .refs) refs ++ l) values
@@ -135,7 +135,7 @@ module _ (h : Facts) {s rows refs : List ℕ} {k : Cursor} (fits : Fits s rows r
       pub goes : Went h s k rows refs rows-after refs-after (advanced k n f)
       goes = record {
         steps = steps-on;
-        rows-kept = drop-sets rows (f .row) (k .rows * row-width) ((k .rows + 1) * row-width) room twelve;
+        rows-kept = drop-sets rows (f .row) (k .rows * row-width) ((k .rows + 1) * row-width) room one-more;
         refs-kept = drop-sets refs (values-of judged) (k .refs) (k .refs + f .span .count) space all;
         rows-on = omega arith;
         refs-on = omega arith;

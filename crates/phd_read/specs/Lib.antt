@@ -1,6 +1,6 @@
 -- In reading order: Answer (what a caller gets of a reading) and Promises (what holds of it).
--- The rest are the proofs on the way: Steps (record after record, and laws for the functions), Stored and Stepping (what a step
--- does to the lent tables, for the functions' contracts), Links (a record that was read, and where its references stand), Rooms
+-- The rest are the proofs on the way: Steps (record after record, and laws for the functions), Stored (a record's
+-- references as they are stored) and Stepping (what a step does to the lent tables), for the functions' contracts, Links (a record that was read, and where its references stand), Rooms
 -- (the tables' rooms and counts), Ranges (addresses and references), Replies (0 to 14) and Cut (two cuts of any bytes).
 pub mod Answer
 pub mod Stored

@@ -1,4 +1,4 @@
--- What a record stores, and what a step of the reading does to the lent tables.
+-- The references of a record that was judged, as they are stored: their values, one at a time.
 -- Assumes nothing.
 use mathlib.Core.Path.{_≡_, refl}
 use Prim.Native.Nat.{ℕ, _-_, _<_}

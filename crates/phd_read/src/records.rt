@@ -1,14 +1,14 @@
 // Record after record: one step, and the loop over steps.
 ghost use mathlib.Core.Path.{_≡_};
-ghost use Prim.Native.Nat.{suc, _+_, _^_, _<_, _≤_};
+ghost use Prim.Native.Nat.{suc, _+_, _*_, _^_, _<_, _≤_};
 ghost use lib.ListN.{length};
 ghost use Rattle.layout.specs.Layout.{run, reply-of};
-ghost use Rattle.phd.specs.Phd.{limit, entry, records, first};
+ghost use Rattle.phd.specs.Phd.{limit, row-width, entry, records, first};
 ghost use Rattle.phd.specs.Shapes.{Word};
 ghost use Rattle.phd_record.specs.Found.{found-of};
 ghost use Rattle.phd_record.specs.declared.What.the-variants.{Record};
 ghost use Rattle.phd_read.specs.Answer.{answer, stored};
-ghost use Rattle.phd_read.specs.Stepping.{Fits, Does, advanced};
+ghost use Rattle.phd_read.specs.Stepping.{Fits, Went, Does, advanced};
 use super::Reading;
 use super::tables;
 use layout::Stop;
@@ -64,7 +64,39 @@ fn advance(k: Cursor, next: usize, found: Found) -> Cursor
     }
 }
 
-// Stores a record that was found, if there is room for its row and then for its references.
+// Stores a record that was found and has room, and moves on.
+fn store(
+    s: &[u8],
+    facts: Facts,
+    rows: &mut [u64],
+    refs: &mut [u64],
+    k: Cursor,
+    next: usize,
+    found: Found,
+) -> Cursor
+    requires { ⌜ Fits (now s) (now rows) (now refs) k × Word (facts .word) ⌝ }
+    requires { ⌜ (found ≡ found-of (k .cache) (run (entry facts (k .address) (k .cache) (k .refs)) (now s) (k .at))) × (found .what ≡ Record next) ⌝ }
+    requires { ⌜ (k .rows * row-width + row-width ≤ length (now rows)) × (k .refs + found .span .count ≤ length (now refs)) ⌝ }
+    ensures { λ r. ⌜ Went facts (now (s .entry)) k (now (rows .entry)) (now (refs .entry)) (now (rows .exit)) (now (refs .exit)) r ⌝ }
+{
+    let row = found.row;
+    tables::put_row(rows, k.rows * phd::ROW, row);
+    let span = found.span;
+    let top = phd::forms::highest_of(facts.word);
+    tables::put_refs(
+        s,
+        span.place,
+        span.width,
+        found.address,
+        top,
+        span.count,
+        refs,
+        k.refs,
+    );
+    advance(k, next, found)
+}
+
+// Asks for room, for the row and then for the references, and stores the record.
 fn admit(
     s: &[u8],
     facts: Facts,
@@ -78,38 +110,23 @@ fn admit(
     requires { ⌜ (found ≡ found-of (k .cache) (run (entry facts (k .address) (k .cache) (k .refs)) (now s) (k .at))) × (found .what ≡ Record next) ⌝ }
     ensures { λ r. ⌜ Does facts (now (s .entry)) k (now (rows .entry)) (now (refs .entry)) (now (rows .exit)) (now (refs .exit)) (r .cursor) (r .how) ⌝ }
 {
-    let first = k.rows * phd::ROW;
-    if rows.len() - first < phd::ROW {
+    if rows.len() - k.rows * phd::ROW < phd::ROW {
         return Stepped {
             how: How::Ends(13, k.at),
             cursor: k,
         };
     }
     let span = found.span;
-    let to = k.refs;
-    let left = (refs.len() - to) as u64;
+    let left = (refs.len() - k.refs) as u64;
     if left < span.count {
         return Stepped {
             how: How::Ends(14, k.at),
             cursor: k,
         };
     }
-    let row = found.row;
-    tables::put_row(rows, first, row);
-    let top = phd::forms::highest_of(facts.word);
-    tables::put_refs(
-        s,
-        span.place,
-        span.width,
-        found.address,
-        top,
-        span.count,
-        refs,
-        to,
-    );
     Stepped {
         how: How::Goes,
-        cursor: advance(k, next, found),
+        cursor: store(s, facts, rows, refs, k, next, found),
     }
 }
 
