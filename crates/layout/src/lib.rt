@@ -236,7 +236,7 @@ pub fn count(s: &[u8], at: usize, n: usize) -> Piece
 }
 
 // Whether the n bytes at a place lie from low to high.
-fn all_within(s: &[u8], at: usize, n: usize, low: u8, high: u8) -> bool
+pub fn all_within(s: &[u8], at: usize, n: usize, low: u8, high: u8) -> bool
     requires { ⌜ at + n ≤ length (now s) ⌝ }
     ensures { λ r. ⌜ r ≡ within low high (take n (drop at (now (s .entry)))) ⌝ }
 {

@@ -30,7 +30,7 @@ enum Passed {
 const OPENING: [u8; 18] = *b"portable heap dump";
 
 // A byte of the opening string.
-fn opening_byte(i: usize) -> u8
+pub fn opening_byte(i: usize) -> u8
     requires { ⌜ i < 18 ⌝ }
     ensures { λ r. ⌜ r ≡ getD opening i 0 ⌝ }
 {
@@ -53,7 +53,7 @@ fn same_opening(s: &[u8], at: usize) -> bool
 }
 
 // The bytes of the opening string, behind its length.
-fn opening_bytes(s: &[u8], at: usize) -> Passed
+pub fn opening_bytes(s: &[u8], at: usize) -> Passed
     requires { ⌜ at ≤ length (now s) ⌝ }
     ensures { λ r. ⌜ passed-outcome r ≡ run opening-bytes (now (s .entry)) at ⌝ }
 {

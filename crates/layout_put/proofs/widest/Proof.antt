@@ -1,0 +1,74 @@
+-- `widest` meets its contract: the widest of those left, from here, is the widest of all.
+use borrow.Author.Needs.{needs}
+use mathlib.Core.Path.{_≡_, sym, _∙_}
+use Prim.Native.Nat.{_+_, _-_, _≤_}
+use native.Mathlib.Nat.{add-zero, sub-zero}
+use native.Mathlib.Omega.{arith}
+use lib.ListN.{take, drop}
+use Rattle.layout_put.specs.Put.{widest}
+use Rattle.layout_put.proofs.Laws.{widest-next}
+use Rattle.layout_put.proofs.widest.Statement.{statement}
+use Rattle.layout_put.proofs.widest.Tie as tie
+
+abbrev Inv-loop : tie.InvT-loop
+Inv-loop refs first count a m₀ i₀ m i = (i ≤ count) × (widest m a (take (count - i) (drop (first + i) refs)) ≡ widest 0 a (take count (drop first refs)))
+
+abbrev μ-loop : tie.MeasureT-loop
+μ-loop refs first count a m₀ i₀ m i = count - i
+
+loop-holds : tie.Need-loop-holds Inv-loop μ-loop
+loop-holds c = (omega arith, simp (add-zero, sub-zero))
+
+add-to : tie.Need-add-to Inv-loop μ-loop
+add-to c = search needs
+
+mul-to : tie.Need-mul-to Inv-loop μ-loop
+mul-to c = search needs
+
+shared-slice-read-to : tie.Need-shared-slice-read-to Inv-loop μ-loop
+shared-slice-read-to c = search needs
+
+gap-code-requires : tie.Need-gap-code-requires Inv-loop μ-loop
+gap-code-requires c κs = search needs
+
+greater-requires : tie.Need-greater-requires Inv-loop μ-loop
+greater-requires c κs = search needs
+
+add-i : tie.Need-add-i Inv-loop μ-loop
+add-i c = search needs
+
+loop-less : tie.Need-loop-less Inv-loop μ-loop
+loop-less c = search needs
+
+loop-again : tie.Need-loop-again Inv-loop μ-loop
+loop-again c =
+    let l = c .before .before .before .before in
+    let a = l .before .before .args in
+    let m = rw (c .before .gap-code .ensures) at (c .greater .ensures) in (
+      omega arith,
+      rw m (sym (widest-next (a .refs .now) (a .first) (a .count) (l .loop .i) (omega arith) (omega arith) (l .loop .m) (a .a)) ∙ l .loop .inv .1),
+    )
+
+returns : tie.Need-returns Inv-loop μ-loop
+unfolding widest
+returns c =
+    let l = c .before in
+    let e : l .before .before .args .count - l .loop .i ≡ 0 = omega arith in
+    rw e at (l .loop .inv .1)
+
+pub widest-spec : {M : Type 1} → statement M
+widest-spec =
+    tie.close
+    (tie.spec
+    Inv-loop
+    μ-loop
+    loop-holds
+    add-to
+    mul-to
+    shared-slice-read-to
+    gap-code-requires
+    greater-requires
+    add-i
+    loop-less
+    loop-again
+    returns)

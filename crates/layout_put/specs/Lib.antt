@@ -1,0 +1,9 @@
+-- Put (the bytes of numbers, gaps and references, and the least widths that hold them), Widths (laws of those widths), Bytes
+-- (numbers read back from their bytes), Reads (what was put is read), Back (so for addresses, references, counts and strings)
+-- and Stores (storing one list behind another).
+pub mod Put
+pub mod Widths
+pub mod Bytes
+pub mod Reads
+pub mod Back
+pub mod Stores

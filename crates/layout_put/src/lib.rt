@@ -1,0 +1,121 @@
+// Putting the fields of a dump: big-endian numbers, gaps, references and strings of bytes, and the least width that holds
+// a gap. Each function's contract is an equation with a definition of specs/Put.antt.
+ghost use mathlib.Core.Path.{_≡_};
+ghost use Prim.Native.Nat.{_+_, _≤_, _<_};
+ghost use lib.ListN.{length, take, drop};
+ghost use lib.IntN.{pos};
+ghost use lib.Seq.{sets};
+ghost use Rattle.layout_put.specs.Put.{be, gap, complement, code, most, widest as widestOf, links};
+
+// Puts the lowest n bytes of a number at a place, the highest first.
+pub fn put(out: &mut [u8], at: usize, n: usize, value: u64)
+    requires { ⌜ at + n ≤ length (now out) ⌝ }
+    ensures { λ _. ⌜ now (out .exit) ≡ sets (now (out .entry)) at (be n value) ⌝ }
+{
+    let mut rest = value;
+    let mut k = n;
+    while 0 < k {
+        k -= 1;
+        out[at + k] = (rest % 256) as u8;
+        rest = rest / 256;
+    }
+}
+
+// The gap from one address to another, as the bytes of a field hold it.
+pub fn raw_gap(from: u64, to: u64) -> u64
+    ensures { λ r. ⌜ r ≡ complement (gap from to) ⌝ }
+{
+    if from <= to {
+        return (to - from) / 4;
+    }
+    0xFFFF_FFFF_FFFF_FFFF - (from - to - 1) / 4
+}
+
+// The least width code that holds a number, or as far a negative one, from -1 down.
+pub fn code_of(m: u64) -> u64
+    ensures { λ r. ⌜ r ≡ code (pos m) ⌝ }
+{
+    if m < 0x80 {
+        return 0;
+    }
+    if m < 0x8000 {
+        return 1;
+    }
+    if m < 0x8000_0000 {
+        return 2;
+    }
+    3
+}
+
+// The least width code that holds the gap from one address to another.
+pub fn gap_code(from: u64, to: u64) -> u64
+    ensures { λ r. ⌜ r ≡ code (gap from to) ⌝ }
+{
+    if from <= to {
+        return code_of((to - from) / 4);
+    }
+    code_of((from - to - 1) / 4)
+}
+
+// The greater of two.
+pub fn greater(a: u64, b: u64) -> u64
+    ensures { λ r. ⌜ r ≡ most a b ⌝ }
+{
+    if a <= b {
+        return b;
+    }
+    a
+}
+
+// The least width code that holds count references from a place of the table on, of a record at the address a.
+pub fn widest(refs: &[u64], first: usize, count: usize, a: u64) -> u64
+    requires { ⌜ first + count ≤ length (now refs) ⌝ }
+    ensures { λ r. ⌜ r ≡ widestOf 0 a (take count (drop first (now (refs .entry)))) ⌝ }
+{
+    let mut m: u64 = 0;
+    let mut i: usize = 0;
+    while i < count {
+        let to = refs[first + i];
+        m = greater(m, gap_code(a, to));
+        i += 1;
+    }
+    m
+}
+
+// Puts count references from a place of the table on, w bytes each, of a record at the address a; gives the place after.
+pub fn put_links(
+    out: &mut [u8],
+    at: usize,
+    w: usize,
+    a: u64,
+    refs: &[u64],
+    first: usize,
+    count: usize,
+) -> usize
+    requires { ⌜ first + count ≤ length (now refs) ⌝ }
+    requires { ⌜ at + length (links w a (take count (drop first (now refs)))) ≤ length (now out) ⌝ }
+    ensures is { λ r. ⌜ r ≡ at + length (links w a (take count (drop first (now (refs .entry))))) ⌝ }
+    ensures out { λ _. ⌜ now (out .exit) ≡ sets (now (out .entry)) at (links w a (take count (drop first (now (refs .entry))))) ⌝ }
+{
+    let mut to = at;
+    let mut i: usize = 0;
+    while i < count {
+        let r = refs[first + i];
+        put(out, to, w, raw_gap(a, r));
+        to += w;
+        i += 1;
+    }
+    to
+}
+
+// Puts n bytes that stand at a place of others.
+pub fn put_bytes(out: &mut [u8], at: usize, bytes: &[u8], place: usize, n: usize)
+    requires { ⌜ (place + n ≤ length (now bytes)) × (at + n ≤ length (now out)) ⌝ }
+    ensures { λ _. ⌜ now (out .exit) ≡ sets (now (out .entry)) at (take n (drop place (now (bytes .entry)))) ⌝ }
+{
+    let mut i: usize = 0;
+    while i < n {
+        out[at + i] = bytes[place + i];
+        i += 1;
+    }
+}

@@ -1,0 +1,2 @@
+-- Laws (the parts of a record, one behind the other).
+mod Laws

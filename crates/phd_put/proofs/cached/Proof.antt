@@ -1,0 +1,16 @@
+-- `cached` meets its contract, by whether the shape caches.
+use borrow.Author.Needs.{needs}
+use Rattle.phd_put.proofs.cached.Statement.{statement}
+use Rattle.phd_put.proofs.cached.Tie as tie
+
+put-requires : tie.Need-put-requires
+put-requires c κs = search needs
+
+returns : tie.Need-returns
+returns c = rw (c .before .if1 .taken) (c .put .ensures)
+
+returns-2 : tie.Need-returns-2
+returns-2 c = rw (c .if1 .left)
+
+pub cached-spec : {M : Type 1} → statement M
+cached-spec = tie.close (tie.spec put-requires returns returns-2)

@@ -1,0 +1,76 @@
+-- The bytes of a record: the tag, the flag byte and the fields in file order, each as wide as the reader's own table of
+-- shapes says. A field that a form lacks has no bytes. A reader must believe these definitions; that a reader takes the
+-- bytes for the record that was put is proved.
+use Prim.Native.Nat.{ℕ, _+_, _*_, _/_}
+use mathlib.Core.List.{List, [], _∷_, _++_}
+use lib.Dec.{ltb}
+use Rattle.layout.specs.Numbers.{pick}
+use Rattle.layout_put.specs.Put.{be, gap, complement, links}
+use Rattle.phd.specs.Phd.{hash-bytes, put}
+use Rattle.phd.specs.declared.classes.Cache.{Cache}
+use Rattle.phd.specs.declared.Facts.{Facts}
+use Rattle.phd.specs.declared.Shape.{Shape}
+use Rattle.phd_rows.specs.Rows.{Rec}
+use Rattle.phd_rows.specs.declared.Row.{Row}
+use Rattle.phd_form.specs.Form.{measure, planned}
+use Rattle.phd_form.specs.declared.Plan.{Plan}
+
+-- lists one after another
+abbrev pub join : List (List ℕ) → List ℕ
+join [] = []
+join (x ∷ xs) = x ++ join xs
+
+-- the tag, and the flag byte where the form has one
+unfoldable pub put-tag : Plan → List ℕ
+put-tag p = be 1 (p .tag) ++ be (pick (ltb (p .tag) 0x20) 1 0) (p .flags)
+
+-- gap, class word and array length of a row, after a record at the address `before`
+unfoldable pub put-front : ℕ → Shape → Row → List ℕ
+put-front before sh r = join (be (sh .gap) (complement (gap before (r .address))) ∷ be (sh .word) (r .word) ∷ be (sh .len) (r .len) ∷ [])
+
+-- a class's instance size, the hash and the superclass word
+unfoldable pub put-middle : Shape → Row → List ℕ
+put-middle sh r = join (be (sh .inst) (r .size) ∷ be (hash-bytes (r .hashkind)) (r .hash) ∷ be (sh .superclass) (r .word) ∷ [])
+
+-- a class's name behind its length
+unfoldable pub put-name : Shape → Row → List ℕ → List ℕ
+put-name sh r name = be (sh .name) (r .namelen) ++ name
+
+-- the references, behind their count where it is not in the tag
+unfoldable pub put-links : Shape → Row → List ℕ → List ℕ
+put-links sh r refs = be (sh .counted) (r .count) ++ links (sh .link) (r .address) refs
+
+-- an array's size and true length
+unfoldable pub put-tail : Shape → Row → List ℕ
+put-tail sh r = be (sh .size) (r .size) ++ be (sh .truelen) (r .len)
+
+-- the fields after the tag and the flag byte
+unfoldable pub put-fields : ℕ → Shape → Row → List ℕ → List ℕ → List ℕ
+put-fields before sh r refs name =
+    join (put-front before sh r ∷ put-middle sh r ∷ put-name sh r name ∷ put-links sh r refs ∷ put-tail sh r ∷ [])
+
+-- a row with its references and its name, as it is planned
+unfoldable pub put-planned : ℕ → Plan → Row → List ℕ → List ℕ → List ℕ
+put-planned before p r refs name = put-tag p ++ put-fields before (p .shape) r refs name
+
+-- how a record is written under the header h, after one at the address `before`, with the cache c
+unfoldable pub plan-of : Facts → ℕ → Cache → Rec → Plan
+plan-of h before c r = planned (h .word / 8) (measure c before (r .row) (r .refs))
+
+unfoldable pub put-record : Facts → ℕ → Cache → Rec → List ℕ
+put-record h before c r = put-planned before (plan-of h before c r) (r .row) (r .refs) (r .name)
+
+-- the cache after it
+unfoldable pub cache-after : Facts → ℕ → Cache → Rec → Cache
+cache-after h before c r = pick (plan-of h before c r .shape .cached) (put c (r .row .word)) c
+
+-- how many bytes a plan has for a row
+unfoldable pub size-of : Plan → Row → ℕ
+size-of p r =
+    let sh = p .shape in
+    1 + pick (ltb (p .tag) 0x20) 1 0
+    + (sh .gap + sh .word + sh .len)
+    + (sh .inst + hash-bytes (r .hashkind) + sh .superclass)
+    + (sh .name + r .namelen)
+    + (sh .counted + r .count * sh .link)
+    + (sh .size + sh .truelen)

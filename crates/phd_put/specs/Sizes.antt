@@ -1,0 +1,78 @@
+-- How many bytes a record has: part by part, and whole.
+-- Assumes nothing.
+use mathlib.Core.Path.{_≡_}
+use Prim.Native.Nat.{ℕ, _+_, _*_, _≤_}
+use native.Mathlib.Nat.{mul-le-mul-left}
+use native.Mathlib.Omega.{arith}
+use mathlib.Core.Bool.{Bool, true, false}
+use mathlib.Core.List.{List}
+use lib.ListN.{length, length-append, length-take, length-drop}
+use lib.Dec.{ltb}
+use Rattle.layout.specs.Numbers.{pick}
+use Rattle.layout_put.specs.Bytes.{length-be}
+use Rattle.layout_put.specs.Stores.{length-links as length-of-links}
+use Rattle.phd.specs.Phd.{hash-bytes}
+use Rattle.phd.specs.Shapes.{Narrow, hash-narrow}
+use Rattle.phd.specs.declared.Shape.{Shape}
+use Rattle.phd_form.specs.declared.Plan.{Plan}
+use Rattle.phd_rows.specs.Rows.{refs-of, name-of}
+use Rattle.phd_rows.specs.declared.Row.{Row}
+use Rattle.phd_put.specs.Record.{put-tag, put-front, put-middle, put-name, put-links, put-tail, put-fields, put-planned, size-of}
+
+-- a row's references and its name, which lie within what is lent, are as long as the row says
+pub length-refs-of : (refs : List ℕ) (r : Row) → r .first + r .count ≤ length refs → length (refs-of refs r) ≡ r .count
+unfolding refs-of
+length-refs-of refs r h = simp (length-take, length-drop) (omega arith)
+
+pub length-name-of : (names : List ℕ) (r : Row) → r .place + r .namelen ≤ length names → length (name-of names r) ≡ r .namelen
+unfolding name-of
+length-name-of names r h = simp (length-take, length-drop) (omega arith)
+
+pub length-tag : (p : Plan) → length (put-tag p) ≡ 1 + pick (ltb (p .tag) 0x20) 1 0
+unfolding put-tag
+length-tag p = simp (length-append, length-be)
+
+pub length-front : (before : ℕ) (sh : Shape) (r : Row) → length (put-front before sh r) ≡ sh .gap + sh .word + sh .len
+unfolding put-front
+length-front before sh r = simp (length-append, length-be) (omega arith)
+
+pub length-middle : (sh : Shape) (r : Row) → length (put-middle sh r) ≡ sh .inst + hash-bytes (r .hashkind) + sh .superclass
+unfolding put-middle
+length-middle sh r = simp (length-append, length-be) (omega arith)
+
+pub length-name : (sh : Shape) (r : Row) (name : List ℕ) → length (put-name sh r name) ≡ sh .name + length name
+unfolding put-name
+length-name sh r name = simp (length-append, length-be)
+
+pub length-links : (sh : Shape) (r : Row) (refs : List ℕ) → length (put-links sh r refs) ≡ sh .counted + length refs * sh .link
+unfolding put-links
+length-links sh r refs = simp (length-append, length-be, length-of-links)
+
+pub length-tail : (sh : Shape) (r : Row) → length (put-tail sh r) ≡ sh .size + sh .truelen
+unfolding put-tail
+length-tail sh r = simp (length-append, length-be)
+
+-- a record whole, with as many references and bytes of its name as its row says
+pub length-planned : (before : ℕ) (p : Plan) (r : Row) (refs name : List ℕ) → length refs ≡ r .count → length name ≡ r .namelen
+    → length (put-planned before p r refs name) ≡ size-of p r
+unfolding put-planned put-fields size-of
+length-planned before p r refs name e f =
+    let sh : Shape = p .shape in
+    simp (length-append, length-tag p, length-front before sh r, length-middle sh r, length-name sh r name, length-links sh r refs, length-tail sh r, e, f) (omega arith)
+
+-- ---- no sum of these leaves 64 bits
+
+pub flag-most : (b : Bool) → pick b 1 0 ≤ 1
+flag-most true = omega arith
+flag-most false = omega arith
+
+pub links-most : (sh : Shape) (n : ℕ) → sh .link ≤ 8 → n * sh .link ≤ n * 8
+links-most sh n h = mul-le-mul-left n h
+
+pub size-most : (p : Plan) (r : Row) → Narrow (p .shape) → p .shape .name ≤ 2 → size-of p r ≤ 128 + r .namelen + r .count * 8
+unfolding size-of
+size-most p r n l =
+    let a = flag-most (ltb (p .tag) 0x20) in
+    let b = hash-narrow (r .hashkind) in
+    let c = links-most (p .shape) (r .count) (n .link) in
+    omega arith

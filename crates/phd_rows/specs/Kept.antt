@@ -1,0 +1,220 @@
+-- What the tests of Good say of a header and of a row that pass them, as facts for proofs.
+-- Assumes nothing.
+use mathlib.Core.Path.{_≡_, refl}
+use mathlib.Core.Logic.{inl, inr}
+use Prim.Native.Nat.{ℕ, zero, suc, _+_, _%_, _^_, _≤_, _<_}
+use native.Mathlib.Omega.{arith}
+use mathlib.Core.Bool.{Bool, true, false}
+use mathlib.Core.List.{List, [], _∷_}
+use lib.Dec.{ltb, eqb}
+use lib.ListN.{length, getD, length-take, length-drop}
+use borrow.Author.Tests.{leb-true, ltb-true, eqb-true, eqb-false, not-true}
+use Rattle.layout.specs.Numbers.{pick, both, within}
+use Rattle.phd.specs.Phd.{highest, hash-bytes}
+use Rattle.phd.specs.Shapes.{Word}
+use Rattle.phd.specs.declared.Facts.{Facts}
+use Rattle.phd_rows.specs.Rows.{Rec, row-at, refs-of, name-of, bare, rec-of, row-count}
+use Rattle.phd_rows.specs.Good.{every, good-vm, good-header, good-hash, good-class, no-name, good-object, good-array, good-primitive, good-kind, good-place, good-span, good-numbers, good-ref, good-refs, good-row, first-bad}
+use Rattle.phd_rows.specs.declared.Row.{Row}
+use Rattle.phd_rows.specs.declared.FirstBad.{FirstBad}
+use Rattle.phd_rows.specs.declared.FirstBad.the-variants.{Row as BadRow, Nowhere}
+
+pub record GoodRef (top a : ℕ) : Type 0 where
+  pub fours : a % 4 ≡ 0
+  pub some : 1 ≤ a
+  pub most : a ≤ top
+
+abbrev pub GoodRefs : ℕ → List ℕ → Type 0
+GoodRefs top [] = Unit {0}
+GoodRefs top (a ∷ rest) = GoodRef top a × GoodRefs top rest
+
+-- what each kind uses, and what it leaves 0
+pub data Kinded (r : Row) (name : List ℕ) : Type 0 where
+  a-class : r .kind ≡ 1 → (r .hashkind ≡ 1 → ⊥) → r .size < 2 ^ 31 → r .len ≡ 0 → r .prim ≡ 0 → 1 ≤ r .namelen → r .namelen < 65536
+      → within 0x21 0x7E name ≡ true → Kinded r name
+  an-object : r .kind ≡ 2 → r .size ≡ 0 → r .len ≡ 0 → r .prim ≡ 0 → r .namelen ≡ 0 → Kinded r name
+  an-array : r .kind ≡ 3 → r .size < 2 ^ 32 → r .len < 2 ^ 31 → r .count ≤ r .len → r .prim ≡ 0 → r .namelen ≡ 0 → Kinded r name
+  a-primitive : r .kind ≡ 4 → r .word ≡ 0 → r .count ≡ 0 → r .size < 2 ^ 32 → r .len < 2 ^ 31 → r .prim < 8 → r .namelen ≡ 0 → Kinded r name
+
+-- a good record, of which the references begin at `index`
+pub record Good (h : Facts) (index : ℕ) (r : Rec) : Type 0 where
+  pub fours : r .row .address % 4 ≡ 0
+  pub most : r .row .address ≤ highest (h .word)
+  pub word : r .row .word ≤ highest (h .word)
+  pub first : r .row .first ≡ index
+  pub count : length (r .refs) ≡ r .row .count
+  pub few : r .row .count < 2 ^ 31
+  pub refs : GoodRefs (highest (h .word)) (r .refs)
+  pub namelen : length (r .name) ≡ r .row .namelen
+  -- hash kind 3 exactly in all-hashed dumps
+  pub all-hashed : h .hashed ≡ true → r .row .hashkind ≡ 3
+  pub not-all : h .hashed ≡ false → r .row .hashkind < 3
+  pub hash : r .row .hash < 256 ^ hash-bytes (r .row .hashkind)
+  pub kinded : Kinded (r .row) (r .name)
+
+-- where the references and the name of a good row stand, in the tables that are lent
+pub record Lent (names refs : List ℕ) (r : Row) : Type 0 where
+  pub span : r .first + r .count ≤ length refs
+  pub named : r .place + r .namelen ≤ length names
+  pub few : r .count < 2 ^ 31
+  pub short : r .namelen < 65536
+
+-- ---- tests that hold
+
+pub both-left : (a b : Bool) → both a b ≡ true → a ≡ true
+both-left true b e = refl
+both-left false b e = e
+
+pub both-right : (a b : Bool) → both a b ≡ true → b ≡ true
+both-right true b e = e
+both-right false b e = let z : _≡_ {A = ℕ} 0 1 = cc in absurd (omega arith)
+
+-- each test of a list of which every one holds
+pub every-at : (bs : List Bool) → every bs ≡ true → (i : ℕ) → getD bs i true ≡ true
+unfolding every
+every-at [] e i = refl
+every-at (b ∷ bs) e zero = both-left b (every bs) e
+every-at (b ∷ bs) e (suc i) = every-at bs (both-right b (every bs) e) i
+
+-- a test that goes by another test
+by-test {ℓ} : {P : Type ℓ} (b x y : Bool) → pick b x y ≡ true → (b ≡ true → x ≡ true → P) → (b ≡ false → y ≡ true → P) → P
+by-test true x y e f g = f refl e
+by-test false x y e f g = g refl e
+
+-- ---- a good row
+
+unnamed-of : (r : Row) → no-name r ≡ true → (r .place ≡ 0) × (r .namelen ≡ 0)
+unfolding no-name
+unnamed-of r e =
+    (eqb-true _ _ (both-left (eqb (r .place) 0) (eqb (r .namelen) 0) e), eqb-true _ _ (both-right (eqb (r .place) 0) (eqb (r .namelen) 0) e))
+
+module _ (lent : ℕ) (r : Row) where
+  -- A row is of its kind, whatever good bytes its name has, and its name lies within the name bytes.
+  abbrev Kind : Type 0
+  Kind = ((name : List ℕ) → within 0x21 0x7E name ≡ true → Kinded (bare r) name) × (r .place + r .namelen ≤ lent) × (r .namelen < 65536)
+
+  class-of : eqb (r .kind) 1 ≡ true → good-class lent r ≡ true → Kind
+  unfolding good-class bare
+  class-of k e =
+      let t = every-at _ e in (
+        λ _. a-class (eqb-true _ _ k) (eqb-false _ _ (not-true _ (t 0))) (ltb-true _ _ (t 1)) (eqb-true _ _ (t 2)) (eqb-true _ _ (t 6)) (leb-true _ _ (t 3)) (ltb-true _ _ (t 4)),
+        leb-true _ _ (t 5),
+        ltb-true _ _ (t 4),
+      )
+
+  object-of : eqb (r .kind) 2 ≡ true → good-object r ≡ true → Kind
+  unfolding good-object bare
+  object-of k e =
+      let t = every-at _ e in
+      let n = unnamed-of r (t 2) in
+      (λ _ _. an-object (eqb-true _ _ k) (eqb-true _ _ (t 0)) (eqb-true _ _ (t 1)) (eqb-true _ _ (t 3)) (n .1), omega arith, omega arith)
+
+  array-of : eqb (r .kind) 3 ≡ true → good-array r ≡ true → Kind
+  unfolding good-array bare
+  array-of k e =
+      let t = every-at _ e in
+      let n = unnamed-of r (t 3) in
+      (λ _ _. an-array (eqb-true _ _ k) (ltb-true _ _ (t 0)) (ltb-true _ _ (t 1)) (leb-true _ _ (t 2)) (eqb-true _ _ (t 4)) (n .1), omega arith, omega arith)
+
+  primitive-of : eqb (r .kind) 4 ≡ true → good-primitive r ≡ true → Kind
+  unfolding good-primitive bare
+  primitive-of k e =
+      let t = every-at _ e in
+      let n = unnamed-of r (t 4) in
+      (λ _ _. a-primitive (eqb-true _ _ k) (eqb-true _ _ (t 0)) (eqb-true _ _ (t 1)) (ltb-true _ _ (t 2)) (ltb-true _ _ (t 3)) (ltb-true _ _ (t 5)) (n .1), omega arith, omega arith)
+
+  kind-of : good-kind lent r ≡ true → Kind
+  unfolding good-kind
+  kind-of g =
+      by-test (eqb (r .kind) 1) _ _ g class-of
+      (λ _ g₂. by-test (eqb (r .kind) 2) _ _ g₂ object-of
+      (λ _ g₃. by-test (eqb (r .kind) 3) _ _ g₃ array-of
+      (λ _ g₄. by-test (eqb (r .kind) 4) _ _ g₄ primitive-of (λ _ e. let z : _≡_ {A = ℕ} 0 1 = cc in absurd (omega arith)))))
+
+refs-good : (top : ℕ) (rs : List ℕ) → good-refs top rs ≡ true → GoodRefs top rs
+unfolding good-refs good-ref
+refs-good top [] e = tt
+refs-good top (a ∷ rest) e =
+    let x : Bool = good-ref top a in
+    let t = every-at _ (both-left x (good-refs top rest) e) in
+    (record { fours = eqb-true _ _ (t 0); some = leb-true _ _ (t 1); most = leb-true _ _ (t 2) }, refs-good top rest (both-right x (good-refs top rest) e))
+
+-- a row of which the numbers are good
+module _ (h : Facts) (names refs : List ℕ) (index : ℕ) (r : Row) (g : good-numbers h index (length refs) (length names) r ≡ true) where
+  kind-at : Kind (length names) r
+  unfolding good-numbers
+  kind-at = kind-of (length names) r (every-at _ g 3)
+
+  pub first-by : r .first ≡ index
+  unfolding good-numbers good-span
+  first-by = eqb-true _ _ (every-at _ (every-at _ g 1) 0)
+
+  pub lent-by : Lent names refs r
+  unfolding good-numbers good-span
+  lent-by =
+      let t = every-at _ (every-at _ g 1) in
+      record { span = leb-true _ _ (t 1); named = kind-at .1; few = ltb-true _ _ (t 2); short = kind-at .2 }
+
+-- a good row
+module _ (h : Facts) (names refs : List ℕ) (index : ℕ) (r : Row) (g : good-row h names refs index r ≡ true) where
+  numbers-at : good-numbers h index (length refs) (length names) r ≡ true
+  unfolding good-row
+  numbers-at = every-at _ g 0
+
+  pub lent-of : Lent names refs r
+  lent-of = lent-by h names refs index r numbers-at
+
+  pub good-of : Good h index (rec-of names refs r)
+  unfolding good-row good-numbers good-place good-hash rec-of bare refs-of name-of
+  good-of =
+      let n = every-at _ numbers-at in
+      let p = every-at _ (n 0) in
+      let l : Lent names refs r = lent-of in
+      let k : Bool = pick (h .hashed) (eqb (r .hashkind) 3) (ltb (r .hashkind) 3) in
+      let b : Bool = ltb (r .hash) (256 ^ hash-bytes (r .hashkind)) in
+      let hk = both-left k b (n 2) in
+      record {
+        fours = eqb-true _ _ (p 0);
+        most = leb-true _ _ (p 1);
+        word = leb-true _ _ (p 2);
+        first = first-by h names refs index r numbers-at;
+        count = simp (length-take, length-drop) (omega arith);
+        few = l .few;
+        refs = refs-good _ _ (every-at _ g 1);
+        namelen = simp (length-take, length-drop) (omega arith);
+        all-hashed = λ e. eqb-true _ _ (rw e at hk);
+        not-all = λ e. ltb-true _ _ (rw e at hk);
+        hash = ltb-true _ _ (both-right k b (n 2));
+        kinded = kind-at h names refs index r numbers-at .0 _ (every-at _ g 2);
+      }
+
+-- ---- no bad row
+
+by-none : (b : Bool) (x : FirstBad) (i : ℕ) → pick b x (BadRow i) ≡ Nowhere → (b ≡ true) × (x ≡ Nowhere)
+by-none true x i e = (refl, e)
+by-none false x i e = let z : _≡_ {A = ℕ} 0 1 = cc in absurd (omega arith)
+
+-- the first of the rows is good, and none of the others is bad
+pub none-bad : (h : Facts) (names refs rows : List ℕ) (n i index : ℕ) → first-bad h names refs rows i index (suc n) ≡ Nowhere
+    → (good-row h names refs index (row-at rows i) ≡ true) × (first-bad h names refs rows (suc i) (index + row-at rows i .count) n ≡ Nowhere)
+unfolding first-bad
+none-bad h names refs rows n i index e = by-none (good-row h names refs index (row-at rows i)) _ i e
+
+-- ---- a good header
+
+module _ (h : Facts) (names rows refs : List ℕ) (g : good-header h names rows refs ≡ true) where
+  pub word-of : Word (h .word)
+  unfolding good-header
+  word-of = by-test (eqb (h .word) 32) true (eqb (h .word) 64) (every-at _ g 0) (λ e _. inl (eqb-true _ _ e)) (λ _ e. inr (eqb-true _ _ e))
+
+  pub few-rows : row-count rows ≤ 2 ^ 30
+  unfolding good-header
+  few-rows = leb-true _ _ (every-at _ g 1)
+
+  pub few-refs : length refs ≤ 2 ^ 30
+  unfolding good-header
+  few-refs = leb-true _ _ (every-at _ g 2)
+
+  pub vm-of : good-vm names (h .vm) ≡ true
+  unfolding good-header
+  vm-of = every-at _ g 3

@@ -1,0 +1,78 @@
+-- The rows of a table that is lent, and the records that they are: 01's "The tables".
+-- A reader must believe that two records are the same, in 01's sense, exactly when their `Rec` are equal.
+use Prim.Native.Nat.{ℕ, zero, suc, _+_, _*_, _/_}
+use mathlib.Core.List.{List, [], _∷_}
+use lib.ListN.{length, getD, take, drop}
+use Rattle.phd.specs.Phd.{row-width}
+use Rattle.phd_rows.specs.declared.Row.{Row}
+
+-- the row number i, from 0
+unfoldable pub row-at : List ℕ → ℕ → Row
+row-at rows i =
+    let n : ℕ → ℕ = λ k. getD rows (i * row-width + k) 0 in
+    record {
+      kind = n 0;
+      address = n 1;
+      word = n 2;
+      hashkind = n 3;
+      hash = n 4;
+      first = n 5;
+      count = n 6;
+      size = n 7;
+      len = n 8;
+      place = n 9;
+      namelen = n 10;
+      prim = n 11;
+    }
+
+-- a row's references, out of the second table; its name, out of the dump or of the name bytes lent
+unfoldable pub refs-of : List ℕ → Row → List ℕ
+refs-of refs r = take (r .count) (drop (r .first) refs)
+
+unfoldable pub name-of : List ℕ → Row → List ℕ
+name-of names r = take (r .namelen) (drop (r .place) names)
+
+-- a row without its name's place
+unfoldable pub bare : Row → Row
+bare r = record {
+  kind = r .kind;
+  address = r .address;
+  word = r .word;
+  hashkind = r .hashkind;
+  hash = r .hash;
+  first = r .first;
+  count = r .count;
+  size = r .size;
+  len = r .len;
+  place = 0;
+  namelen = r .namelen;
+  prim = r .prim;
+}
+
+-- A record: all numbers of its row but the name's place, its references as a list, and its name as bytes.
+pub record Rec : Type 0 where
+  pub row : Row
+  pub refs : List ℕ
+  pub name : List ℕ
+
+unfoldable pub rec-of : List ℕ → List ℕ → Row → Rec
+rec-of names refs r = record { row = bare r; refs = refs-of refs r; name = name-of names r }
+
+-- the numbers of a record's row, its name standing at a place
+unfoldable pub numbers : ℕ → Rec → List ℕ
+numbers place r =
+    let n = r .row in
+    n .kind ∷ n .address ∷ n .word ∷ n .hashkind ∷ n .hash ∷ n .first ∷ n .count ∷ n .size ∷ n .len ∷ place ∷ n .namelen ∷ n .prim ∷ []
+
+-- n records of a table, from the row number i on
+unfoldable pub recs-from : List ℕ → List ℕ → List ℕ → ℕ → ℕ → List Rec
+recs-from names refs rows i zero = []
+recs-from names refs rows i (suc n) = rec-of names refs (row-at rows i) ∷ recs-from names refs rows (suc i) n
+
+-- how many whole rows a table has
+unfoldable pub row-count : List ℕ → ℕ
+row-count rows = length rows / row-width
+
+-- the records of every whole row; numbers at the end that are too few for a row are no row
+unfoldable pub recs : List ℕ → List ℕ → List ℕ → List Rec
+recs names refs rows = recs-from names refs rows 0 (row-count rows)

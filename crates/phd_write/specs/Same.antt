@@ -1,0 +1,164 @@
+-- The rows and references that were read of a written dump, or of a cut of it, are the records that were written: names as
+-- bytes, and references as lists.
+-- Assumes nothing.
+use mathlib.Core.Path.{_≡_, refl, sym}
+use Prim.Native.Nat.{ℕ, zero, suc, _+_, _-_, _*_, _%_, _≤_, _<_}
+use mathlib.Core.List.{List, [], _∷_, _++_, append-assoc}
+use lib.ListN.{length, getD, take, drop, length-append}
+use lib.Seq.{take-at, drop-at, take-append-add, getD-append-add}
+use native.Mathlib.Omega.{arith}
+use native.Mathlib.Decide.{decLe}
+use borrow.Author.Tests.{le-leb, lt-leb}
+use Rattle.phd.specs.Phd.{row-width, highest}
+use Rattle.phd.specs.Shapes.{Word}
+use Rattle.phd.specs.declared.classes.Cache.{Cache}
+use Rattle.phd.specs.declared.Facts.{Facts}
+use Rattle.phd_rows.specs.Rows.{Rec, row-at, refs-of, name-of, bare, rec-of, numbers, recs-from}
+use Rattle.phd_put.specs.Record.{put-record, cache-after}
+use Rattle.phd_write.specs.Write.{put-records}
+use Rattle.phd_write.specs.Terms.{all-refs, within-cut}
+use Rattle.phd_write.specs.Within.{AllGood}
+use Rattle.phd_write.specs.Handed.{length-numbers, rows-of}
+use Rattle.phd_put.specs.Back.{name-place, name-back}
+
+-- ---- rows behind a first one
+
+module _ (row rows : List ℕ) (l : length row ≡ row-width) where
+  number-behind : (i k : ℕ) → getD (row ++ rows) (suc i * row-width + k) 0 ≡ getD rows (i * row-width + k) 0
+  number-behind i k =
+      let e : suc i * row-width + k ≡ length row + (i * row-width + k) = omega arith in
+      rw (e, getD-append-add row rows (i * row-width + k) 0)
+
+  row-behind : (i : ℕ) → row-at (row ++ rows) (suc i) ≡ row-at rows i
+  unfolding row-at
+  row-behind i = λ j. record {
+    kind = number-behind i 0 j;
+    address = number-behind i 1 j;
+    word = number-behind i 2 j;
+    hashkind = number-behind i 3 j;
+    hash = number-behind i 4 j;
+    first = number-behind i 5 j;
+    count = number-behind i 6 j;
+    size = number-behind i 7 j;
+    len = number-behind i 8 j;
+    place = number-behind i 9 j;
+    namelen = number-behind i 10 j;
+    prim = number-behind i 11 j;
+  }
+
+  recs-behind : (names refs : List ℕ) (n i : ℕ) → recs-from names refs (row ++ rows) (suc i) n ≡ recs-from names refs rows i n
+  unfolding recs-from
+  recs-behind names refs zero i = refl
+  recs-behind names refs (suc n) i = rw (row-behind i, recs-behind names refs n (suc i))
+
+-- a row made of a record is that record again, if its references and its name are where the row says
+rec-back : (names refs rows : List ℕ) (place : ℕ) (r : Rec) → r .row .place ≡ 0 → take (r .row .count) (drop (r .row .first) refs) ≡ r .refs
+    → take (r .row .namelen) (drop place names) ≡ r .name → rec-of names refs (row-at (numbers place r ++ rows) 0) ≡ r
+unfolding rec-of row-at numbers bare refs-of name-of
+rec-back names refs rows place r z p q = λ j. record {
+  row = record {
+    kind = r .row .kind;
+    address = r .row .address;
+    word = r .row .word;
+    hashkind = r .row .hashkind;
+    hash = r .row .hash;
+    first = r .row .first;
+    count = r .row .count;
+    size = r .row .size;
+    len = r .row .len;
+    place = sym z j;
+    namelen = r .row .namelen;
+    prim = r .row .prim;
+  };
+  refs = p j;
+  name = q j;
+}
+
+-- one row first
+recs-cons : (n : ℕ) (names refs : List ℕ) (place : ℕ) (r : Rec) (rows : List ℕ) (rs : List Rec) → rec-of names refs (row-at (numbers place r ++ rows) 0) ≡ r
+    → recs-from names refs rows 0 n ≡ rs → recs-from names refs (numbers place r ++ rows) 0 (suc n) ≡ r ∷ rs
+unfolding recs-from
+recs-cons n names refs place r rows rs p q =
+    rw (p, recs-behind (numbers place r) rows (length-numbers place r) names refs n 0, q)
+
+take-over : (xs ys : List ℕ) (j : ℕ) → length xs ≤ j → take j (xs ++ ys) ≡ xs ++ take (j - length xs) ys
+take-over xs ys j l = let e : length xs + (j - length xs) ≡ j = omega arith in rw e at (take-append-add xs ys (j - length xs))
+
+-- ---- the rows of a written dump
+
+-- what is asked of records put after one at the address `before`, their references standing behind `refs`
+pub record Put (h : Facts) (before : ℕ) (refs : List ℕ) (rs : List Rec) : Type 0 where
+  pub word : Word (h .word)
+  pub good : AllGood h (length refs) rs
+  pub fours : before % 4 ≡ 0
+  pub most : before ≤ highest (h .word)
+
+put-on : (h : Facts) (before : ℕ) (refs : List ℕ) (r : Rec) (rs : List Rec) → Put h before refs (r ∷ rs) → Put h (r .row .address) (refs ++ r .refs) rs
+put-on h before refs r rs g =
+    let e : length (refs ++ r .refs) ≡ length refs + r .row .count = rw (length-append refs (r .refs), g .good .0 .good .count) in
+    record { word = g .word; good = rw e (g .good .1); fours = g .good .0 .good .fours; most = g .good .0 .good .most }
+
+-- Records put from p on, of which j bytes are there: the rows of those that are whole are those records, whatever stands
+-- behind their rows and references in the tables.
+abbrev Decodes : Facts → ℕ → (more-rows more-refs : List ℕ) → List Rec → Type 0
+Decodes h j more-rows more-refs rs =
+    (before : ℕ) (c : Cache) (p : ℕ) (pre refs : List ℕ) → Put h before refs rs → length pre ≡ p
+    → let kept = within-cut (p + j) h p before c rs in
+    recs-from (pre ++ take j (put-records h before c rs)) (refs ++ (all-refs kept ++ more-refs)) (rows-of h p before c kept ++ more-rows) 0 (length kept) ≡ kept
+
+decodes-on : (h : Facts) (r : Rec) (rs : List Rec) (j : ℕ) (more-rows more-refs : List ℕ) → Decodes h j more-rows more-refs rs
+    → (before : ℕ) (c : Cache) (p : ℕ) (pre refs : List ℕ) → Put h before refs (r ∷ rs) → length pre ≡ p
+    → let bs = put-record h before c r in
+    let kept = r ∷ within-cut (p + length bs + j) h (p + length bs) (r .row .address) (cache-after h before c r) rs in
+    recs-from (pre ++ (bs ++ take j (put-records h (r .row .address) (cache-after h before c r) rs))) (refs ++ (all-refs kept ++ more-refs))
+    (rows-of h p before c kept ++ more-rows) 0 (length kept) ≡ kept
+unfolding rows-of all-refs
+decodes-on h r rs j more-rows more-refs ih before c p pre refs g e =
+    let bs : List ℕ = put-record h before c r in
+    let c′ : Cache = cache-after h before c r in
+    let s : List ℕ = pre ++ (bs ++ take j (put-records h (r .row .address) c′ rs)) in
+    let kept : List Rec = within-cut (p + length bs + j) h (p + length bs) (r .row .address) c′ rs in
+    let rows : List ℕ = rows-of h (p + length bs) (r .row .address) c′ kept in
+    let links : List ℕ = refs ++ (r .refs ++ (all-refs kept ++ more-refs)) in
+    let good = g .good .0 .good in
+    let there : take (r .row .count) (drop (r .row .first) links) ≡ r .refs =
+    rw (drop-at refs (r .refs ++ (all-refs kept ++ more-refs)) (r .row .first) (sym (good .first)), take-at (r .refs) (all-refs kept ++ more-refs) (r .row .count) (good .count)) in
+    let name = name-back h before c (length refs) r p (g .word) good (g .fours) (g .most) pre (take j (put-records h (r .row .address) c′ rs)) e in
+    let e′ : length (pre ++ bs) ≡ p + length bs = rw (length-append pre bs, e) in
+    let others : recs-from s links (rows ++ more-rows) 0 (length kept) ≡ kept =
+    rw (append-assoc pre bs (take j (put-records h (r .row .address) c′ rs)), append-assoc refs (r .refs) (all-refs kept ++ more-refs)) at
+    (ih (r .row .address) c′ (p + length bs) (pre ++ bs) (refs ++ r .refs) (put-on h before refs r rs g) e′) in
+    let this = rec-back s links (rows ++ more-rows) (name-place h p before c r) r (g .good .0 .no-place) there name in
+    rw (append-assoc (r .refs) (all-refs kept) more-refs, append-assoc (numbers (name-place h p before c r) r) rows more-rows)
+    (recs-cons (length kept) s links (name-place h p before c r) r (rows ++ more-rows) kept this others)
+
+decodes-cons : (h : Facts) (r : Rec) (rs : List Rec) (j : ℕ) (more-rows more-refs : List ℕ) → ((i : ℕ) → Decodes h i more-rows more-refs rs)
+    → Decodes h j more-rows more-refs (r ∷ rs)
+unfolding within-cut recs-from put-records
+decodes-cons h r rs j more-rows more-refs ih before c p pre refs g e =
+    let n : ℕ = length (put-record h before c r) in
+    elim (decLe n j) [
+      | yes q ↦
+          let a : p + n ≤ p + j = omega arith in
+          let b : p + j ≡ p + n + (j - n) = omega arith in
+          rw (le-leb (p + n) (p + j) a, b, take-over (put-record h before c r) (put-records h (r .row .address) (cache-after h before c r) rs) j q)
+          (decodes-on h r rs (j - n) more-rows more-refs (ih (j - n)) before c p pre refs g e)
+      | no q ↦
+          let a : p + j < p + n = omega arith in
+          rw (lt-leb (p + n) (p + j) a)
+    ]
+
+decodes : (h : Facts) (more-rows more-refs : List ℕ) (rs : List Rec) (j : ℕ) → Decodes h j more-rows more-refs rs
+unfolding within-cut recs-from
+decodes h more-rows more-refs [] j before c p pre refs g e = refl
+decodes h more-rows more-refs (r ∷ rs) j before c p pre refs g e =
+    decodes-cons h r rs j more-rows more-refs (decodes h more-rows more-refs rs) before c p pre refs g e
+
+-- The records that lie within a cut at m, of those put after `pre`, are what their rows and references are in the cut.
+pub recs-within : (h : Facts) (m before : ℕ) (c : Cache) (pre more-rows more-refs : List ℕ) (rs : List Rec) → Put h before [] rs → length pre ≤ m
+    → let kept = within-cut m h (length pre) before c rs in
+    recs-from (take m (pre ++ put-records h before c rs)) (all-refs kept ++ more-refs) (rows-of h (length pre) before c kept ++ more-rows) 0 (length kept) ≡ kept
+recs-within h m before c pre more-rows more-refs rs g l =
+    let e : length pre + (m - length pre) ≡ m = omega arith in
+    rw (take-over pre (put-records h before c rs) m l)
+    (rw e at (decodes h more-rows more-refs rs (m - length pre) before c (length pre) pre [] g refl))

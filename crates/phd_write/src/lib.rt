@@ -1,0 +1,79 @@
+// Writing tables as a portable heap dump: the public operation `write`.
+// Its contract is one equation with the definition for the answer, and one for the output.
+ghost use mathlib.Core.Path.{_≡_};
+ghost use mathlib.Core.Bool.{true};
+ghost use lib.ListN.{length};
+ghost use Rattle.phd_read.specs.Answer.{stored};
+ghost use Rattle.phd_rows.specs.Rows.{row-count};
+ghost use Rattle.phd_rows.specs.Good.{good-header, first-bad};
+ghost use Rattle.phd_rows.specs.declared.FirstBad.the-variants.{Nowhere};
+ghost use Rattle.phd_write.specs.Write.{writing};
+use phd::Facts;
+use phd_rows::FirstBad;
+
+mod header;
+mod rows;
+
+// A header to write: W, all objects hashed, from OpenJ9, and where the VM string stands in the name bytes, if one does. It
+// is what a reading hands out, with the dump as the name bytes.
+pub type Header = Facts;
+
+// What a writing answers: the reply and its place. For 0 the place is how many bytes were written.
+pub struct Written {
+    pub reply: u64,
+    pub place: usize,
+}
+
+// Puts the dump of a good header and good rows, if there is room for it within the size limit.
+fn fit(header: Header, rows: &[u64], refs: &[u64], names: &[u8], out: &mut [u8]) -> Written
+    requires { ⌜ good-header header (now names) (now rows) (now refs) ≡ true ⌝ }
+    requires { ⌜ first-bad header (now names) (now refs) (now rows) 0 0 (row-count (now rows)) ≡ Nowhere ⌝ }
+    ensures is { λ r. ⌜ r ≡ writing header (now (names .entry)) (now (refs .entry)) (now (rows .entry)) (length (now (out .entry))) .answer ⌝ }
+    ensures out { λ _. ⌜ now (out .exit) ≡ stored (now (out .entry)) (writing header (now (names .entry)) (now (refs .entry)) (now (rows .entry)) (length (now (out .entry))) .bytes) ⌝ }
+{
+    let first = header::size(header, names);
+    let size = rows::size(header, rows, refs, names, first);
+    if out.len() < size {
+        return Written {
+            reply: 17,
+            place: 0,
+        };
+    }
+    if phd::LIMIT < size {
+        return Written {
+            reply: 17,
+            place: 0,
+        };
+    }
+    let at = header::put(out, header, names);
+    rows::put(out, at, header, rows, refs, names);
+    Written {
+        reply: 0,
+        place: size,
+    }
+}
+
+// Writes the whole rows of a table and their references as a dump, to the start of the output. What the output holds behind
+// it stays as it was, and all of it where the writing is refused.
+pub fn write(header: Header, rows: &[u64], refs: &[u64], names: &[u8], out: &mut [u8]) -> Written
+    ensures is { λ r. ⌜ r ≡ writing header (now (names .entry)) (now (refs .entry)) (now (rows .entry)) (length (now (out .entry))) .answer ⌝ }
+    ensures out { λ _. ⌜ now (out .exit) ≡ stored (now (out .entry)) (writing header (now (names .entry)) (now (refs .entry)) (now (rows .entry)) (length (now (out .entry))) .bytes) ⌝ }
+{
+    if phd_rows::header_good(header, names, rows, refs) {
+        match phd_rows::find_bad(header, names, refs, rows) {
+            FirstBad::Row(i) => {
+                return Written {
+                    reply: 16,
+                    place: i,
+                };
+            }
+            FirstBad::Nowhere => {
+                return fit(header, rows, refs, names, out);
+            }
+        }
+    }
+    Written {
+        reply: 15,
+        place: 0,
+    }
+}
