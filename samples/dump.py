@@ -15,6 +15,18 @@ ROWS, REFS = 48, 70
 
 OPENING = b"\x00\x12portable heap dump"
 
+# The dump that the paper has whole.
+PAPER = bytes.fromhex(
+    """
+    00 12 70 6F 72 74 61 62 6C 65 20 68 65 61 70 20 64 75 6D 70 00 00 00 06 00 00 00 04 01 04 00 04 54 65 73 74 02 02
+    06 40 04 00 00 00 00 10 00 00 00 00 00 01 41 00 00 00 00
+    48 04 00 00 10 00 04
+    80 04
+    24 04 03 00 00 00 06
+    03
+    """
+)
+
 # A hash is a number; in a dump that is not all hashed also NONE, or ASKED for with none stored. There a record without a
 # flag byte has NONE.
 NONE, ASKED = "none", "asked"
@@ -36,6 +48,10 @@ def gap(address, base, code):
 
 def links(address, refs, code):
     return b"".join(gap(r, address, code) for r in refs)
+
+
+def line(answer):
+    return "reply {} place {} rows {} refs {} word {}".format(*answer)
 
 
 class Dump:
@@ -179,19 +195,20 @@ class Dump:
             self.answer(1, len(self.bytes))
         return self
 
-    # ---- what the program prints
+    # ---- what a program prints
 
-    def report(self, name):
-        def reading(answer):
-            return "reply {} place {} rows {} refs {} word {}".format(*answer)
-
-        yield name
-        yield reading(self.cuts[-1][1:])
+    def reading(self):
+        """What reading the whole dump gives."""
+        yield line(self.cuts[-1][1:])
         yield "hashed {hashed} openj9 {openj9} vm {vm} place {place} len {len}".format(**self.facts)
         for row in self.rows:
             yield " ".join(["row", *map(str, row)])
         for i in range(0, len(self.refs), 8):
             yield " ".join(["refs", *map(str, self.refs[i : i + 8])])
+
+    def report(self):
+        """What reading it gives, and every cut of it."""
+        yield from self.reading()
         for length, *answer in self.cuts:
-            yield f"cut {length} {reading(answer)}"
+            yield f"cut {length} {line(answer)}"
         yield "rest kept"

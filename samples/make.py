@@ -3,24 +3,13 @@
 
 usage: samples/make.py crates/read_samples
 
-Writes data/*.phd, args (their names, in order) and stdout into that folder, the same on every run. What is expected comes
-from what was put into a dump (dump.py); of a refused one this file says the reply and where the field at fault ends.
+Writes data/*.phd, args and stdout into that folder, the same on every run. What is expected comes from what was put into a
+dump (dump.py); of a refused one this file says the reply and where the field at fault ends.
 """
-import pathlib
 import sys
 
-from dump import ASKED, NONE, OPENING, REFS, ROWS, Dump
-
-# The dump that the paper has whole.
-PAPER = """
-00 12 70 6F 72 74 61 62 6C 65 20 68 65 61 70 20 64 75 6D 70 00 00 00 06 00 00 00 04 01 04 00 04 54 65 73 74 02 02
-06 40 04 00 00 00 00 10 00 00 00 00 00 01 41 00 00 00 00
-48 04 00 00 10 00 04
-80 04
-24 04 03 00 00 00 06
-03
-"""
-
+from crate import fill
+from dump import ASKED, NONE, OPENING, PAPER, REFS, ROWS, Dump
 
 # ---- dumps that are read whole
 
@@ -128,7 +117,7 @@ def full(rows, refs=0):
 
 def wholes():
     paper = example().end()
-    assert paper.bytes == bytes.fromhex(PAPER)
+    assert paper.bytes == PAPER
     yield "example", paper
     yield "case-f", example().end(b"\x03\x80more")
     yield "case-i", Dump().header().klass(0x1000, b"A", code=1).medium(0x0FFC, 0x1000, [0x100C]).end()
@@ -270,19 +259,4 @@ def samples():
         yield "reply-" + name, d
 
 
-def main():
-    crate = pathlib.Path(sys.argv[1])
-    data = crate / "data"
-    data.mkdir(exist_ok=True)
-    for old in data.glob("*.phd"):
-        old.unlink()
-    names, lines = [], []
-    for name, d in samples():
-        names.append(name + ".phd")
-        (data / names[-1]).write_bytes(d.bytes)
-        lines += d.report(names[-1])
-    (crate / "args").write_text("\n".join(names) + "\n")
-    (crate / "stdout").write_text("\n".join(lines) + "\n")
-
-
-main()
+fill(sys.argv[1], ((name + ".phd", d.bytes, d.report()) for name, d in samples()))

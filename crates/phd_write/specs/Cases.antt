@@ -1,8 +1,7 @@
 -- 01's dump, written: its tables, as they are read, give its 74 bytes. It holds by computing.
 -- A reader must believe that the dump and the tables are 01's (Phd's Cases).
 use mathlib.Core.Path.{_≡_, refl}
-use Prim.Native.Nat.{ℕ}
-use mathlib.Core.List.{List, [], _∷_}
+use mathlib.Core.List.{[], _∷_}
 use Rattle.layout.specs.Numbers.{within}
 use Rattle.layout_put.specs.Put.{be, gap, complement, fits, code, widest, links}
 use Rattle.phd.specs.Phd.{limit, bit, highest, opening, empty, put, hash-bytes, width, shape}

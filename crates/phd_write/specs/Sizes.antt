@@ -6,7 +6,6 @@ use native.Mathlib.Omega.{arith}
 use mathlib.Core.Bool.{Bool, true, false}
 use mathlib.Core.List.{List, [], _∷_, _++_, append-assoc, append-nil}
 use lib.ListN.{length, take, drop, length-append, length-take, length-drop}
-use lib.Dec.{leb, ltb}
 use borrow.Author.Tests.{leb-true, ltb-true}
 use Rattle.layout.specs.Numbers.{pick, within}
 use Rattle.layout.specs.declared.Text.{Text}
@@ -14,7 +13,7 @@ use Rattle.layout_put.specs.Put.{be}
 use Rattle.layout_put.specs.Bytes.{length-be}
 use Rattle.phd.specs.Phd.{opening}
 use Rattle.phd.specs.declared.Facts.{Facts}
-use Rattle.phd_rows.specs.Good.{every, good-vm}
+use Rattle.phd_rows.specs.Good.{good-vm}
 use Rattle.phd_rows.specs.Kept.{every-at}
 use Rattle.phd_put.specs.Record.{join}
 use Rattle.phd_write.specs.Write.{header-flags, put-vm, put-header}

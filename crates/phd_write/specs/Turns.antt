@@ -1,9 +1,8 @@
 -- Row after row: what is left to write from a row on, for the loops that size and put the rows.
 -- Assumes nothing.
-use mathlib.Core.Path.{_≡_, refl, sym, ap}
-use Prim.Native.Nat.{ℕ, zero, suc, _+_, _-_, _*_, _/_, _%_, _^_, _≤_, _<_}
+use mathlib.Core.Path.{_≡_, refl}
+use Prim.Native.Nat.{ℕ, suc, _+_, _-_, _*_, _/_, _%_, _≤_, _<_}
 use native.Mathlib.Omega.{arith}
-use mathlib.Core.Bool.{true}
 use mathlib.Core.List.{List, _++_}
 use mathlib.Core.Logic.{⊎-elim}
 use lib.ListN.{length}
@@ -15,7 +14,7 @@ use Rattle.phd.specs.declared.classes.Cache.{Cache}
 use Rattle.phd.specs.declared.Facts.{Facts}
 use Rattle.phd.specs.declared.Form.{Form}
 use Rattle.phd.specs.declared.Form.the-variants.{Short, Medium, Long, Class, ObjectArray, Primitive, LongPrimitive}
-use Rattle.phd_rows.specs.Rows.{row-at, refs-of, name-of, bare, Rec, rec-of, recs-from, row-count}
+use Rattle.phd_rows.specs.Rows.{row-at, refs-of, name-of, bare, rec-of, recs-from, row-count}
 use Rattle.phd_rows.specs.Good.{first-bad}
 use Rattle.phd_rows.specs.Kept.{Good, Lent, lent-of, good-of, none-bad}
 use Rattle.phd_rows.specs.declared.FirstBad.the-variants.{Nowhere}

@@ -1,6 +1,6 @@
 -- Writing tables as a dump: the bytes of the whole dump, and what a writing gives, refusals included.
 -- A reader must believe these definitions.
-use Prim.Native.Nat.{ℕ, zero, suc, _+_}
+use Prim.Native.Nat.{ℕ, _+_}
 use mathlib.Core.Bool.{Bool, true, false}
 use mathlib.Core.List.{List, [], _∷_, _++_}
 use lib.ListN.{length, take, drop}

@@ -10,10 +10,13 @@
 //     rest kept|changed                               the tables behind what each of these readings stored
 //
 // A file that fills the buffer of 4,096 bytes has `too large` in the place of all that.
-use libc::STDOUT_FILENO;
-use phd::Facts;
 use phd_read::Reading;
-ghost use Prim.Native.Nat.{_≤_, _<_};
+use samples_say::say;
+use samples_say::tell;
+use samples_say::tell_reading;
+use samples_say::tell_whole;
+use samples_say::used;
+ghost use Prim.Native.Nat.{_≤_};
 ghost use lib.ListN.{length};
 
 // Room for 48 rows, with five numbers too few for one more, and for 70 references.
@@ -28,90 +31,6 @@ const UNTOUCHED: u64 = 0x5EED_5EED_5EED_5EED;
 struct Trial {
     reading: Reading,
     kept: bool,
-}
-
-fn say(text: &[u8]) {
-    io::write_all(STDOUT_FILENO, text);
-}
-
-fn tell(label: &[u8], n: u64) {
-    say(label);
-    io::print_decimal(STDOUT_FILENO, n);
-}
-
-fn tell_bit(label: &[u8], b: bool) {
-    if b {
-        tell(label, 1);
-    } else {
-        tell(label, 0);
-    }
-}
-
-fn tell_reading(r: Reading) {
-    tell(b"reply ", r.reply);
-    tell(b" place ", r.place as u64);
-    tell(b" rows ", r.rows as u64);
-    tell(b" refs ", r.refs as u64);
-    let f = r.facts;
-    tell(b" word ", f.word);
-    say(b"\n");
-}
-
-fn tell_facts(f: Facts) {
-    tell_bit(b"hashed ", f.hashed);
-    tell_bit(b" openj9 ", f.openj9);
-    let vm = f.vm;
-    tell_bit(b" vm ", vm.there);
-    tell(b" place ", vm.place as u64);
-    tell(b" len ", vm.len as u64);
-    say(b"\n");
-}
-
-// The numbers of a table from one index to before another, in a line.
-fn tell_line(label: &[u8], table: &[u64], from: usize, end: usize)
-    requires { ⌜ end ≤ length (now table) ⌝ }
-{
-    say(label);
-    let mut i = from;
-    while i < end {
-        tell(b" ", table[i]);
-        i += 1;
-    }
-    say(b"\n");
-}
-
-// Where a line of `width` numbers ends that begins before `end`.
-fn line_end(at: usize, width: usize, end: usize) -> usize
-    requires { ⌜ (at < end) × (1 ≤ width) ⌝ }
-    ensures { λ r. ⌜ (at < r) × (r ≤ end) ⌝ }
-{
-    if end - at < width {
-        return end;
-    }
-    at + width
-}
-
-// The numbers of a table before an index, in lines of `width` numbers.
-fn tell_table(label: &[u8], table: &[u64], width: usize, end: usize)
-    requires { ⌜ (end ≤ length (now table)) × (1 ≤ width) ⌝ }
-{
-    let mut at: usize = 0;
-    while at < end {
-        let next = line_end(at, width, end);
-        tell_line(label, table, at, next);
-        at = next;
-    }
-}
-
-// How many numbers of a table n things of `width` numbers take; all of it, were that more.
-fn used(table: &[u64], n: usize, width: usize) -> usize
-    requires { ⌜ 1 ≤ width ⌝ }
-    ensures { λ r. ⌜ r ≤ length (now (table .entry)) ⌝ }
-{
-    if n <= table.len() / width {
-        return n * width;
-    }
-    table.len()
 }
 
 // Whether all numbers of a table from an index on are untouched.
@@ -193,10 +112,7 @@ fn show(dump: &[u8]) {
     let mut refs = [UNTOUCHED; REFS];
     let t = tried(dump, &mut rows, &mut refs);
     let r = t.reading;
-    tell_reading(r);
-    tell_facts(r.facts);
-    tell_table(b"row", &rows, phd::ROW, used(&rows, r.rows, phd::ROW));
-    tell_table(b"refs", &refs, 8, used(&refs, r.refs, 1));
+    tell_whole(r, &rows, &refs);
     if tell_cuts(dump) && t.kept {
         say(b"rest kept\n");
     } else {

@@ -1,9 +1,8 @@
 -- `put_record` meets its contract: its parts, one behind the other.
 use borrow.Author.Needs.{needs}
 use native.Mathlib.Omega.{arith}
-use mathlib.Core.Path.{_≡_}
-use mathlib.Core.List.{List, _∷_, [], _++_, append-nil}
-use Prim.Native.Nat.{ℕ, _+_, _≤_}
+use mathlib.Core.List.{append-nil}
+use Prim.Native.Nat.{_+_, _≤_}
 use lib.ListN.{length, length-append}
 use Rattle.phd_rows.specs.Rows.{refs-of, name-of}
 use Rattle.phd_put.specs.Record.{put-tag, put-front, put-middle, put-name, put-links, put-tail, put-fields, put-planned}

@@ -1,10 +1,8 @@
 -- `size` meets its contract: the parts are small, so no sum of them leaves 64 bits.
 use borrow.Author.Needs.{needs}
 use native.Mathlib.Omega.{arith}
-use mathlib.Core.Path.{_≡_}
-use Prim.Native.Nat.{ℕ, _+_, _*_, _^_, _≤_, _<_}
+use Prim.Native.Nat.{_*_, _^_, _≤_, _<_}
 use lib.Dec.{ltb}
-use Rattle.phd.specs.Phd.{hash-bytes}
 use Rattle.phd.specs.Shapes.{hash-narrow}
 use Rattle.phd_put.specs.Record.{size-of}
 use Rattle.phd_put.specs.Sizes.{flag-most, links-most}

@@ -2,8 +2,7 @@
 use borrow.Author.Needs.{needs}
 use mathlib.Core.Path.{_≡_, sym, _∙_}
 use mathlib.Core.Bool.{true}
-use Rattle.phd_rows.specs.Rows.{row-count}
-use Rattle.phd_rows.specs.Good.{good-header, first-bad}
+use Rattle.phd_rows.specs.Good.{good-header}
 use Rattle.phd_rows.specs.Kept.{word-of}
 use Rattle.phd_write.specs.Ways.{bad-header, bad-row}
 use Rattle.phd_write.proofs.Laws.{refused-keeps}

@@ -1,9 +1,8 @@
 -- `put` meets its contract: putting the rows that are left, from here, is putting all of them.
 use borrow.Author.Needs.{needs}
-use mathlib.Core.Path.{_≡_, _∙_}
-use Prim.Native.Nat.{_+_, _-_, _/_, _≤_, _<_}
+use mathlib.Core.Path.{_∙_}
+use Prim.Native.Nat.{_-_, _≤_, _<_}
 use native.Mathlib.Omega.{arith}
-use lib.ListN.{length}
 use Rattle.phd.specs.Shapes.{Word}
 use Rattle.phd_rows.specs.Rows.{row-count}
 use Rattle.phd_rows.specs.Kept.{word-of, few-rows}

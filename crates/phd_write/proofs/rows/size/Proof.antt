@@ -1,13 +1,12 @@
 -- `size` meets its contract: the bytes so far and those of the rows left are those of all rows.
 use borrow.Author.Needs.{needs}
-use mathlib.Core.Path.{_≡_, sym, ap, subst, _∙_}
-use Prim.Native.Nat.{_+_, _-_, _/_, _<_}
+use Prim.Native.Nat.{_-_, _<_}
 use native.Mathlib.Omega.{arith}
 use Rattle.phd.specs.Shapes.{Word}
 use Rattle.phd_rows.specs.Rows.{row-at, row-count}
 use Rattle.phd_rows.specs.Kept.{word-of, few-rows, few-refs}
 use Rattle.phd_write.specs.Turns.{Next, next}
-use Rattle.phd_write.specs.Loops.{Sizing, sizing-begins, sizing-next, sizing-ends, row-lent, row-bound, plan-narrow, sizing-small, sizing-on}
+use Rattle.phd_write.specs.Loops.{Sizing, sizing-begins, sizing-ends, row-lent, row-bound, plan-narrow, sizing-small, sizing-on}
 use Rattle.phd_write.proofs.rows.size.Statement.{statement}
 use Rattle.phd_write.proofs.rows.size.Tie as tie
 

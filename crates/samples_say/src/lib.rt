@@ -1,0 +1,105 @@
+// What the programs over the sample dumps print alike: numbers with their labels, tables in lines, and what a reading gives.
+use libc::STDOUT_FILENO;
+use phd::Facts;
+use phd_read::Reading;
+ghost use Prim.Native.Nat.{_≤_, _<_};
+ghost use lib.ListN.{length};
+
+pub fn say(text: &[u8]) {
+    io::write_all(STDOUT_FILENO, text);
+}
+
+pub fn tell(label: &[u8], n: u64) {
+    say(label);
+    io::print_decimal(STDOUT_FILENO, n);
+}
+
+fn tell_bit(label: &[u8], b: bool) {
+    if b {
+        tell(label, 1);
+    } else {
+        tell(label, 0);
+    }
+}
+
+// `reply R place P rows N refs N word W`
+pub fn tell_reading(r: Reading) {
+    tell(b"reply ", r.reply);
+    tell(b" place ", r.place as u64);
+    tell(b" rows ", r.rows as u64);
+    tell(b" refs ", r.refs as u64);
+    let f = r.facts;
+    tell(b" word ", f.word);
+    say(b"\n");
+}
+
+// `hashed 0|1 openj9 0|1 vm 0|1 place P len N`
+fn tell_facts(f: Facts) {
+    tell_bit(b"hashed ", f.hashed);
+    tell_bit(b" openj9 ", f.openj9);
+    let vm = f.vm;
+    tell_bit(b" vm ", vm.there);
+    tell(b" place ", vm.place as u64);
+    tell(b" len ", vm.len as u64);
+    say(b"\n");
+}
+
+// The numbers of a table from one index to before another, in a line.
+fn tell_line(label: &[u8], table: &[u64], from: usize, end: usize)
+    requires { ⌜ end ≤ length (now table) ⌝ }
+{
+    say(label);
+    let mut i = from;
+    while i < end {
+        tell(b" ", table[i]);
+        i += 1;
+    }
+    say(b"\n");
+}
+
+// Where a line of `width` things ends that begins before `end`.
+pub fn line_end(at: usize, width: usize, end: usize) -> usize
+    requires { ⌜ (at < end) × (1 ≤ width) ⌝ }
+    ensures { λ r. ⌜ (at < r) × (r ≤ end) ⌝ }
+{
+    if end - at < width {
+        return end;
+    }
+    at + width
+}
+
+// The numbers of a table before an index, in lines of `width` numbers.
+fn tell_table(label: &[u8], table: &[u64], width: usize, end: usize)
+    requires { ⌜ (end ≤ length (now table)) × (1 ≤ width) ⌝ }
+{
+    let mut at: usize = 0;
+    while at < end {
+        let next = line_end(at, width, end);
+        tell_line(label, table, at, next);
+        at = next;
+    }
+}
+
+// How many numbers of a table n things of `width` numbers take; all of it, were that more.
+pub fn used(table: &[u64], n: usize, width: usize) -> usize
+    requires { ⌜ 1 ≤ width ⌝ }
+    ensures { λ r. ⌜ r ≤ length (now (table .entry)) ⌝ }
+{
+    if n <= table.len() / width {
+        return n * width;
+    }
+    table.len()
+}
+
+// What a reading gives, all of it:
+//
+//     reply R place P rows N refs N word W
+//     hashed 0|1 openj9 0|1 vm 0|1 place P len N      the header's flags and VM string
+//     row N N N ..                                    each stored row's numbers, in their order
+//     refs N N ..                                     the references, up to eight in a line
+pub fn tell_whole(r: Reading, rows: &[u64], refs: &[u64]) {
+    tell_reading(r);
+    tell_facts(r.facts);
+    tell_table(b"row", rows, phd::ROW, used(rows, r.rows, phd::ROW));
+    tell_table(b"refs", refs, 8, used(refs, r.refs, 1));
+}

@@ -1,0 +1,208 @@
+// Writes the sample tables that its arguments name as dumps, reads back what it wrote, and prints both.
+// samples/make_write.py makes the tables and works out what is to be printed, from what it put in. For each file:
+//
+//     NAME
+//     reply R place P                                 what the writing answers
+//     bytes HH HH ..                                  the bytes written, up to 32 in a line
+//     again N                                         so many lines more like the one before
+//     rest kept|changed                               the output behind what was written; all of it, if refused
+//     read reply R place P rows N refs N word W       the reading of what was written, if it was not refused
+//     hashed 0|1 openj9 0|1 vm 0|1 place P len N      the header's flags and VM string
+//     row N N N ..                                    each stored row's numbers, in their order
+//     refs N N ..                                     the references, up to eight in a line
+//
+// How a file holds its tables is said in tables.rt.
+mod tables;
+
+use libc::STDOUT_FILENO;
+use phd::Facts;
+use phd_write::Written;
+use samples_say::line_end;
+use samples_say::say;
+use samples_say::tell;
+use samples_say::tell_whole;
+ghost use Prim.Native.Nat.{_≤_, _<_};
+ghost use mathlib.Core.Path.{_≡_};
+ghost use lib.ListN.{length};
+ghost use Rattle.io.specs.Counts.{Counts};
+
+// The bytes of a line.
+const LINE: usize = 32;
+
+// The bytes that are lent, for names and for output, and what every byte of the output is before a writing.
+const BYTES: usize = 0x1_1000;
+
+const UNTOUCHED: u8 = 0xA5;
+
+fn blank() -> [u8; BYTES]
+    ensures { λ r. ⌜ 0x11000 ≡ length r ⌝ }
+{
+    [UNTOUCHED; BYTES]
+}
+
+// Whether all bytes of the output from an index on are untouched.
+fn kept(out: &[u8], from: usize) -> bool {
+    let mut i = from;
+    while i < out.len() {
+        if out[i] != UNTOUCHED {
+            return false;
+        }
+        i += 1;
+    }
+    true
+}
+
+fn tell_byte(x: u8) {
+    say(b" ");
+    io::print_hex(STDOUT_FILENO, x as u64, 2);
+}
+
+// The bytes from one index to before another, in a line.
+fn tell_line(s: &[u8], from: usize, end: usize)
+    requires { ⌜ end ≤ length (now s) ⌝ }
+{
+    say(b"bytes");
+    let mut i = from;
+    while i < end {
+        tell_byte(s[i]);
+        i += 1;
+    }
+    say(b"\n");
+}
+
+// Whether the line from one index to before another is a whole one and like the one before.
+fn repeats(s: &[u8], at: usize, end: usize) -> bool
+    requires { ⌜ (at < end) × (end ≤ length (now s)) ⌝ }
+{
+    if at < LINE {
+        return false;
+    }
+    if end - at < LINE {
+        return false;
+    }
+    let mut i = at;
+    while i < end {
+        if s[i] != s[i - LINE] {
+            return false;
+        }
+        i += 1;
+    }
+    true
+}
+
+fn tell_again(n: usize) {
+    if 0 < n {
+        tell(b"again ", n as u64);
+        say(b"\n");
+    }
+}
+
+// All bytes, in lines.
+fn tell_bytes(s: &[u8]) {
+    let mut again: usize = 0;
+    let mut at: usize = 0;
+    while at < s.len() {
+        let next = line_end(at, LINE, s.len());
+        if repeats(s, at, next) {
+            again += 1;
+        } else {
+            tell_again(again);
+            again = 0;
+            tell_line(s, at, next);
+        }
+        at = next;
+    }
+    tell_again(again);
+}
+
+fn tell_rest(k: bool) {
+    if k {
+        say(b"rest kept\n");
+    } else {
+        say(b"rest changed\n");
+    }
+}
+
+// How many bytes a writing says that it wrote, at most all that there are.
+fn written(w: Written, out: &[u8]) -> usize
+    ensures { λ r. ⌜ Counts r (now (out .entry)) ⌝ }
+{
+    if w.reply != 0 {
+        return 0;
+    }
+    if out.len() < w.place {
+        return out.len();
+    }
+    w.place
+}
+
+// What reading a dump gives.
+fn read_back(dump: &[u8]) {
+    let mut rows = [0; tables::ROWS];
+    let mut refs = [0; tables::REFS];
+    let r = phd_read::read(dump, &mut rows, &mut refs);
+    say(b"read ");
+    tell_whole(r, &rows, &refs);
+}
+
+// Writes tables to untouched output.
+fn write(facts: Facts, rows: &[u64], refs: &[u64], names: &[u8], out: &mut [u8]) {
+    let w = phd_write::write(facts, rows, refs, names, out);
+    tell(b"reply ", w.reply);
+    tell(b" place ", w.place as u64);
+    say(b"\n");
+    let n = written(w, out);
+    tell_bytes(&out[..n]);
+    tell_rest(kept(out, n));
+    if w.reply == 0 {
+        read_back(&out[..n]);
+    }
+}
+
+// Writes what a file holds.
+fn show(s: &[u8]) {
+    let mut rows = [0; tables::ROWS];
+    let n = tables::fill(s, 7, tables::HEAD, &mut rows);
+    let mut refs = [0; tables::REFS];
+    let m = tables::fill(s, 8, tables::HEAD + n, &mut refs);
+    let mut names = blank();
+    let k = tables::fill_names(s, 9, 8 * (tables::HEAD + n + m), &mut names);
+    let mut out = blank();
+    let room = tables::room(s, &out);
+    write(
+        tables::facts(s),
+        &rows[..n],
+        &refs[..m],
+        &names[..k],
+        &mut out[..room],
+    );
+}
+
+fn sample(name: &[u8]) {
+    let fd = os::open_read(name);
+    if fd < 0 {
+        os::fail(name);
+        return;
+    }
+    let mut file = io::large_buffer();
+    let n = io::read_full(fd, &mut file);
+    libc::close(fd);
+    say(name);
+    say(b"\n");
+    show(&file[..n]);
+}
+
+fn argument(i: usize) {
+    let mut name = io::buffer();
+    let n = os::arg(i, &mut name);
+    sample(&name[..n]);
+}
+
+fn main() {
+    let n = os::arg_count();
+    let mut i: usize = 1;
+    while i < n {
+        argument(i);
+        i += 1;
+    }
+}
