@@ -1,6 +1,7 @@
 // The class cache: four slots, filled in turn.
 ghost use mathlib.Core.Path.{_≡_};
 ghost use Prim.Native.Nat.{_<_};
+ghost use Rattle.layout.specs.Numbers.{pick};
 ghost use Rattle.phd.specs.Phd.{empty, put as putIn, slot as slotOf};
 use layout::Maybe;
 
@@ -39,6 +40,16 @@ impl Cache {
             words: words,
             puts: 4,
         }
+    }
+
+    // The cache after a record, which puts its class word or does not.
+    pub fn after(self, puts: bool, word: u64) -> Self
+        ensures { λ r. ⌜ r ≡ pick puts (putIn self word) self ⌝ }
+    {
+        if puts {
+            return self.put(word);
+        }
+        self
     }
 
     // What a slot holds.

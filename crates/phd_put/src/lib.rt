@@ -6,11 +6,9 @@ ghost use lib.ListN.{length};
 ghost use lib.Dec.{ltb};
 ghost use lib.Seq.{sets};
 ghost use Rattle.layout.specs.Numbers.{pick};
-ghost use Rattle.phd.specs.Phd.{put as putIn};
 ghost use Rattle.phd.specs.Shapes.{Narrow};
 ghost use Rattle.phd_rows.specs.Rows.{refs-of, name-of};
 ghost use Rattle.phd_put.specs.Record.{put-planned, size-of};
-use phd::Cache;
 use phd_form::Plan;
 use phd_rows::Row;
 
@@ -39,17 +37,6 @@ pub fn size(p: Plan, row: Row) -> usize
     let linked = sh.counted + row.count as usize * sh.link;
     let tail = sh.size + sh.truelen;
     first + front + middle + named + linked + tail
-}
-
-// The cache behind a record.
-pub fn cached(p: Plan, cache: Cache, word: u64) -> Cache
-    ensures { λ r. ⌜ r ≡ pick (p .shape .cached) (putIn cache word) cache ⌝ }
-{
-    let sh = p.shape;
-    if sh.cached {
-        return cache.put(word);
-    }
-    cache
 }
 
 // Puts a record at a place, after one at the address `before`, and gives the place after it.

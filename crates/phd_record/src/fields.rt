@@ -3,8 +3,7 @@ ghost use mathlib.Core.Path.{_≡_};
 ghost use Prim.Native.Nat.{_≤_};
 ghost use lib.ListN.{length};
 ghost use Rattle.layout.specs.Layout.{run};
-ghost use Rattle.layout.specs.Numbers.{pick};
-ghost use Rattle.phd.specs.Phd.{fields, linked, put};
+ghost use Rattle.phd.specs.Phd.{fields, linked};
 ghost use Rattle.phd.specs.Shapes.{Narrow};
 ghost use Rattle.phd_record.specs.Found.{found-of, recorded as recordedBy};
 use super::Found;
@@ -24,16 +23,6 @@ use phd::Shape;
 use phd::Span;
 use phd::Tail;
 
-// The cache after a record.
-fn cached(cache: Cache, word: u64, puts: bool) -> Cache
-    ensures { λ r. ⌜ r ≡ pick puts (put cache word) cache ⌝ }
-{
-    if puts {
-        return cache.put(word);
-    }
-    cache
-}
-
 // A record whole: its references stand at a place, n of them, and the record ends before the next place.
 fn recorded(
     next: usize,
@@ -52,7 +41,7 @@ fn recorded(
     ensures { λ r. ⌜ r ≡ recordedBy next place n t cache index known hk sh v m name ⌝ }
 {
     let row = super::parts::make_row(index, hk, known, sh, v, m, name, n, t);
-    let after = cached(cache, v.word, sh.cached);
+    let after = cache.after(sh.cached, v.word);
     Found {
         what: What::Record(next),
         row: row,

@@ -40,9 +40,9 @@ pub record Vm (names : List ℕ) (t : Text) : Type 0 where
   pub within : t .there ≡ true → t .place + t .len ≤ length names
   pub short : t .there ≡ true → t .len < 65536
 
-pub vm-kept : (names : List ℕ) (t : Text) → good-vm names t ≡ true → Vm names t
+pub vm-lent : (names : List ℕ) (t : Text) → good-vm names t ≡ true → Vm names t
 unfolding good-vm
-vm-kept names t g = record { within = λ e. leb-true _ _ (every-at _ (rw e at g) 1); short = λ e. ltb-true _ _ (every-at _ (rw e at g) 0) }
+vm-lent names t g = record { within = λ e. leb-true _ _ (every-at _ (rw e at g) 1); short = λ e. ltb-true _ _ (every-at _ (rw e at g) 0) }
 
 pub length-vm : (names : List ℕ) (t : Text) → Vm names t → length (put-vm names t) ≡ vm-size t
 unfolding put-vm vm-size

@@ -41,7 +41,7 @@ pub fn size(h: Facts, rows: &[u64], refs: &[u64], names: &[u8], header: usize) -
         let row = phd_rows::row_at(rows, i);
         let p = plan_row(h, cache, before, row, refs);
         total += phd_put::size(p, row);
-        cache = phd_put::cached(p, cache, row.word);
+        cache = cache.after(p.shape.cached, row.word);
         before = row.address;
         i += 1;
     }
@@ -64,7 +64,7 @@ pub fn put(out: &mut [u8], at: usize, h: Facts, rows: &[u64], refs: &[u64], name
         let row = phd_rows::row_at(rows, i);
         let p = plan_row(h, cache, before, row, refs);
         to = phd_put::put_record(out, to, before, p, row, refs, names);
-        cache = phd_put::cached(p, cache, row.word);
+        cache = cache.after(p.shape.cached, row.word);
         before = row.address;
         i += 1;
     }

@@ -1,7 +1,7 @@
 -- `size` meets its contract: the parts are small, so no sum of them leaves 64 bits.
 use borrow.Author.Needs.{needs}
 use native.Mathlib.Omega.{arith}
-use Prim.Native.Nat.{_*_, _^_, _≤_, _<_}
+use Prim.Native.Nat.{_+_, _*_, _^_, _≤_, _<_}
 use lib.Dec.{ltb}
 use Rattle.phd.specs.Shapes.{hash-narrow}
 use Rattle.phd_put.specs.Record.{size-of}
@@ -18,6 +18,15 @@ flag-small c = let e = c .flag-bytes .ensures in let h = flag-most (ltb (c .befo
 
 links-small : (c : tie.Start) → c .args .row .count * c .args .p .shape .link < 2 ^ 34
 links-small c = let h = links-most (c .args .p .shape) (c .args .row .count) (c .pre .0 .link) in let f = c .pre .2 in omega arith
+
+-- all that is added
+all-small : (c : tie.After-struct-known8) → let a = c .before .before .before .before .before .before .before .before .before .before .before .args in let sh = a .p .shape in
+    (c .before .before .before .before .before .before .before .before .before .flag-bytes .result ≤ 1) × (c .before .before .before .before .before .before .hash-bytes-of .result ≤ 8) × (a .row .count * sh .link < 2 ^ 34)
+    × (sh .gap + sh .word + sh .len + sh .inst + sh .superclass + sh .counted + sh .size + sh .truelen ≤ 64)
+all-small c =
+    let d = c .before .before .before .before .before .before .before .before .before .before .before in
+    let n = d .pre .0 in
+    (flag-small (c .before .before .before .before .before .before .before .before .before), hash-small (c .before .before .before .before .before .before), links-small d, omega arith)
 
 flag-bytes-requires : tie.Need-flag-bytes-requires
 flag-bytes-requires c κs = search needs
@@ -53,49 +62,19 @@ add-tail : tie.Need-add-tail
 add-tail c = let n = c .before .before .before .before .before .before .before .before .before .before .before .pre .0 in omega arith
 
 add-result : tie.Need-add-result
-add-result c =
-    let d = c .before .before .before .before .before .before .before .before .before .before .before in
-    let n = d .pre .0 in
-    let l = links-small d in
-    let h = hash-small (c .before .before .before .before .before .before) in
-    let f = flag-small (c .before .before .before .before .before .before .before .before .before) in
-    omega arith
+add-result c = let s = all-small c in omega arith
 
 add-result-2 : tie.Need-add-result-2
-add-result-2 c =
-    let d = c .before .before .before .before .before .before .before .before .before .before .before in
-    let n = d .pre .0 in
-    let l = links-small d in
-    let h = hash-small (c .before .before .before .before .before .before) in
-    let f = flag-small (c .before .before .before .before .before .before .before .before .before) in
-    omega arith
+add-result-2 c = let s = all-small c in omega arith
 
 add-result-3 : tie.Need-add-result-3
-add-result-3 c =
-    let d = c .before .before .before .before .before .before .before .before .before .before .before in
-    let n = d .pre .0 in
-    let l = links-small d in
-    let h = hash-small (c .before .before .before .before .before .before) in
-    let f = flag-small (c .before .before .before .before .before .before .before .before .before) in
-    omega arith
+add-result-3 c = let s = all-small c in omega arith
 
 add-result-4 : tie.Need-add-result-4
-add-result-4 c =
-    let d = c .before .before .before .before .before .before .before .before .before .before .before in
-    let n = d .pre .0 in
-    let l = links-small d in
-    let h = hash-small (c .before .before .before .before .before .before) in
-    let f = flag-small (c .before .before .before .before .before .before .before .before .before) in
-    omega arith
+add-result-4 c = let s = all-small c in omega arith
 
 add-result-5 : tie.Need-add-result-5
-add-result-5 c =
-    let d = c .before .before .before .before .before .before .before .before .before .before .before in
-    let n = d .pre .0 in
-    let l = links-small d in
-    let h = hash-small (c .before .before .before .before .before .before) in
-    let f = flag-small (c .before .before .before .before .before .before .before .before .before) in
-    omega arith
+add-result-5 c = let s = all-small c in omega arith
 
 returns : tie.Need-returns
 unfolding size-of

@@ -10,14 +10,14 @@ use Rattle.phd_rows.specs.Rows.{recs}
 use Rattle.phd_rows.specs.Kept.{vm-of}
 use Rattle.phd_write.specs.Write.{put-header, put-records, put-dump}
 use Rattle.phd_write.specs.Terms.{dump-of}
-use Rattle.phd_write.specs.Sizes.{Vm, vm-kept, length-header, header-small}
+use Rattle.phd_write.specs.Sizes.{Vm, vm-lent, length-header, header-small}
 use Rattle.phd_write.specs.Ways.{no-room, fits}
 use Rattle.phd_write.proofs.Laws.{refused-keeps, sized, done-stores}
 use Rattle.phd_write.proofs.fit.Statement.{statement}
 use Rattle.phd_write.proofs.fit.Tie as tie
 
 vm : (c : tie.Start) → Vm (c .args .names .now) (c .args .header .vm)
-vm c = vm-kept _ _ (vm-of _ _ _ _ (c .pre .0))
+vm c = vm-lent _ _ (vm-of _ _ _ _ (c .pre .0))
 
 -- the size that was found is the dump's
 found : (c : tie.After-size2) → let a = c .before .before .before .before .before .before .args in c .size2 .result ≡ length (dump-of (a .header) (a .names .now) (a .refs .now) (a .rows .now))

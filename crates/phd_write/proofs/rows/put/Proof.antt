@@ -61,8 +61,8 @@ put-record-requires c κs =
       putting-fits _ _ _ _ _ _ _ _ (coming d) _ e _ (c .before .plan-row .ensures) _ _ _ _ (turn d .loop .inv) (word (begin d)) (inside d),
     )
 
-cached-requires : tie.Need-cached-requires Inv-loop μ-loop
-cached-requires c κs = search needs
+after-requires : tie.Need-after-requires Inv-loop μ-loop
+after-requires c κs = search needs
 
 add-i : tie.Need-add-i Inv-loop μ-loop
 add-i c = let d = c .before .before .before .before .before .before .before in let l = inside d in let f = few-rows _ _ _ _ (begin d .pre .0) in omega arith
@@ -75,7 +75,7 @@ loop-again c =
     let d = c .before .before .before .before .before .before .before in
     let p = c .before .before .before .put-record .ensures in
     putting-on _ _ _ _ _ _ _ _ (coming d) _ (c .before .before .before .before .before .before .row-at .ensures) _ (c .before .before .before .before .before .plan-row .ensures) _ _ _ _ (turn d .loop .inv) (word (begin d)) (inside d)
-    _ _ _ (p .0) (p .1) (c .cached .ensures)
+    _ _ _ (p .0) (p .1) (c .after .ensures)
 
 put-requires : tie.Need-put-requires Inv-loop μ-loop
 put-requires c κs = putting-ends _ _ _ _ _ _ _ _ _ _ _ (c .before .before .loop .inv) (over (c .before)) .0
@@ -97,7 +97,7 @@ put-spec =
     row-at-requires
     plan-row-requires
     put-record-requires
-    cached-requires
+    after-requires
     add-i
     loop-less
     loop-again

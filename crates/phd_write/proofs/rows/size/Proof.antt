@@ -57,8 +57,8 @@ add-total c =
     let z = sizing-small _ _ _ _ _ _ _ _ (coming d) _ (c .before .before .row-at .ensures) _ (c .before .plan-row .ensures) _ _ _ (c .size .ensures) (turn d .loop .inv) (inside d) (few-rows _ _ _ _ g) (few-refs _ _ _ _ g) in
     omega arith
 
-cached-requires : tie.Need-cached-requires Inv-loop μ-loop
-cached-requires c κs = search needs
+after-requires : tie.Need-after-requires Inv-loop μ-loop
+after-requires c κs = search needs
 
 add-i : tie.Need-add-i Inv-loop μ-loop
 add-i c = let d = c .before .before .before .before in let l = inside d in let f = few-rows _ _ _ _ (begin d .pre .0) in omega arith
@@ -69,7 +69,7 @@ loop-less c = search needs
 loop-again : tie.Need-loop-again Inv-loop μ-loop
 loop-again c =
     let d = c .before .before .before .before in
-    sizing-on _ _ _ _ _ _ _ _ (coming d) _ (c .before .before .before .row-at .ensures) _ (c .before .before .plan-row .ensures) _ _ _ _ (c .before .size .ensures) (c .cached .ensures)
+    sizing-on _ _ _ _ _ _ _ _ (coming d) _ (c .before .before .before .row-at .ensures) _ (c .before .before .plan-row .ensures) _ _ _ _ (c .before .size .ensures) (c .after .ensures)
     (word (begin d)) (turn d .loop .inv) (inside d)
 
 add-result : tie.Need-add-result Inv-loop μ-loop
@@ -99,7 +99,7 @@ size-spec =
     plan-row-requires
     size-requires
     add-total
-    cached-requires
+    after-requires
     add-i
     loop-less
     loop-again
