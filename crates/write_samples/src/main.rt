@@ -29,15 +29,15 @@ ghost use Rattle.io.specs.Counts.{Counts};
 // The bytes of a line.
 const LINE: usize = 32;
 
-// The bytes that are lent, for names and for output, and what every byte of the output is before a writing.
+// The bytes that there are for names and for output, and what every byte of the output is before a writing.
 const BYTES: usize = 0x1_1000;
 
 const UNTOUCHED: u8 = 0xA5;
 
-fn blank() -> [u8; BYTES]
+fn filled(x: u8) -> [u8; BYTES]
     ensures { λ r. ⌜ 0x11000 ≡ length r ⌝ }
 {
-    [UNTOUCHED; BYTES]
+    [x; BYTES]
 }
 
 // Whether all bytes of the output from an index on are untouched.
@@ -159,15 +159,16 @@ fn write(facts: Facts, rows: &[u64], refs: &[u64], names: &[u8], out: &mut [u8])
     }
 }
 
-// Writes what a file holds.
+// Writes what a file holds. What stands behind the references and the name bytes that are lent is good, so that a writing
+// that goes beyond them does not stop there.
 fn show(s: &[u8]) {
     let mut rows = [0; tables::ROWS];
     let n = tables::fill(s, 7, tables::HEAD, &mut rows);
-    let mut refs = [0; tables::REFS];
+    let mut refs = [4; tables::REFS];
     let m = tables::fill(s, 8, tables::HEAD + n, &mut refs);
-    let mut names = blank();
+    let mut names = filled(b'x');
     let k = tables::fill_names(s, 9, 8 * (tables::HEAD + n + m), &mut names);
-    let mut out = blank();
+    let mut out = filled(UNTOUCHED);
     let room = tables::room(s, &out);
     write(
         tables::facts(s),
