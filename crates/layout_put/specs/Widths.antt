@@ -65,17 +65,6 @@ code-fits g h = by (fits 1 g) (fits 2 g) (fits 4 g) refl refl refl
 pub code-more : (g : ℤ) (c : ℕ) → code g ≤ c → fits 8 g ≡ true → fits (2 ^ c) g ≡ true
 code-more g c l h = fits-more (2 ^ code g) (2 ^ c) g (pow-le-pow-right {n = 2} (lit< tt) {i = code g} {j = c} l) (code-fits g h)
 
--- a code below 2 is of what fits a short
-pub code-short : (g : ℤ) → code g < 2 → fits 2 g ≡ true
-unfolding code
-code-short g = by (fits 1 g) (fits 2 g) (fits 4 g) refl refl
-  where
-    by : (a b c : Bool) → fits 1 g ≡ a → fits 2 g ≡ b → pick a 0 (pick b 1 (pick c 2 3)) < 2 → fits 2 g ≡ true
-    by true b c p q l = fits-more 1 2 g (omega arith) p
-    by false true c p q l = q
-    by false false true p q l = absurd (omega arith)
-    by false false false p q l = absurd (omega arith)
-
 -- ---- the greater of two, and the greatest of all references
 
 pub most-left : (a b : ℕ) → a ≤ most a b

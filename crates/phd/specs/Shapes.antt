@@ -24,6 +24,7 @@ pub record Narrow (sh : Shape) : Type 0 where
   pub len : sh .len ≤ 8
   pub inst : sh .inst ≤ 8
   pub superclass : sh .superclass ≤ 8
+  pub name : sh .name ≤ 8
   pub counted : sh .counted ≤ 8
   pub link : sh .link ≤ 8
   pub size : sh .size ≤ 8

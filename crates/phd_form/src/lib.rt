@@ -104,7 +104,7 @@ fn choose_object(m: Measure) -> Form
 }
 
 // The form of a record.
-pub fn choose(m: Measure) -> Form
+fn choose(m: Measure) -> Form
     ensures { λ r. ⌜ r ≡ form-of m ⌝ }
 {
     if m.kind == 1 {

@@ -19,7 +19,7 @@ use Rattle.phd_rows.specs.Rows.{Rec}
 use Rattle.phd_rows.specs.Kept.{Good}
 use Rattle.phd_form.specs.Form.{measure, flagged, tag-of, hash-flags, flags-of}
 use Rattle.phd_put.specs.Fit.{given, Says, Sound}
-use Rattle.phd_put.specs.Formed.{Wide, absent, present, given-all, width-some, empty, len-small, Formed}
+use Rattle.phd_put.specs.Formed.{Wide, absent, present, given-all, width-some, nothing-in, len-small, Formed}
 use Rattle.phd_put.specs.Objects.{sound-of, kinds, gap8, no-name}
 use Rattle.phd_put.specs.Bits.{true-false, no-bits, low-bits, hash-flags-lt, primitive-tag, array-flags}
 
@@ -50,7 +50,7 @@ module _ (h : Facts) (c : Cache) (before index : ℕ) (r : Rec)
           name = no-name h c before index r w g bf bl n0;
           counted = absent;
           count = sym r0;
-          refs = rw (empty (r .refs) (omega (arith, g .count))) tt;
+          refs = rw (nothing-in (r .refs) (omega (arith, g .count))) tt;
           size = present;
           truelen = absent;
           true-enough = λ z. absurd (z refl);

@@ -72,9 +72,9 @@ width-some c = pow-pos c
 
 -- ---- good records
 
-pub empty : (l : List ℕ) → length l ≡ 0 → l ≡ []
-empty [] e = refl
-empty (x ∷ l) e = absurd (omega arith)
+pub nothing-in : (l : List ℕ) → length l ≡ 0 → l ≡ []
+nothing-in [] e = refl
+nothing-in (x ∷ l) e = absurd (omega arith)
 
 pub len-small : (r : Row) (name : List ℕ) → Kinded r name → r .len < 2 ^ 31
 len-small r name (a-class _ _ _ e _ _ _ _) = omega arith

@@ -23,7 +23,7 @@ use Rattle.phd_rows.specs.Rows.{Rec}
 use Rattle.phd_rows.specs.Kept.{Good}
 use Rattle.phd_form.specs.Form.{measure, flagged, tag-of, hash-flags, class-flags, flags-of, slot-of}
 use Rattle.phd_put.specs.Fit.{given, Refs, Named, unnamed, Says, Sound}
-use Rattle.phd_put.specs.Formed.{Wide, Opt, absent, present, given-all, there-given, width-some, empty, refs-fit, good-refs, counts, Formed, fit-of}
+use Rattle.phd_put.specs.Formed.{Wide, Opt, absent, present, given-all, there-given, width-some, nothing-in, refs-fit, good-refs, counts, Formed, fit-of}
 use Rattle.phd_put.specs.Bits.{Bits, Kinds, true-false, no-bits, low-bits, class-bits, hash-flags-lt, class-flags-lt, short-tag, medium-tag, long-flags, slot-back}
 
 -- A good record r after one at `before`, with the cache c.
@@ -72,7 +72,7 @@ module _ (h : Facts) (c : Cache) (before index : ℕ) (r : Rec)
   word-ok = given-all (h .word / 8) (r .row .word) (omega (arith, g .word, w .top))
 
   pub no-name : r .row .namelen ≡ 0 → Named 0 (r .name)
-  no-name e = unnamed (empty (r .name) (omega (arith, g .namelen)))
+  no-name e = unnamed (nothing-in (r .name) (omega (arith, g .namelen)))
 
   -- an object: the fields that only other kinds use are 0
   module _ (k2 : r .row .kind ≡ 2) (s0 : r .row .size ≡ 0) (l0 : r .row .len ≡ 0) (y0 : r .row .prim ≡ 0) (n0 : r .row .namelen ≡ 0) where

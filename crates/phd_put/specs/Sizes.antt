@@ -69,9 +69,9 @@ flag-most false = omega arith
 pub links-most : (sh : Shape) (n : ℕ) → sh .link ≤ 8 → n * sh .link ≤ n * 8
 links-most sh n h = mul-le-mul-left n h
 
-pub size-most : (p : Plan) (r : Row) → Narrow (p .shape) → p .shape .name ≤ 2 → size-of p r ≤ 128 + r .namelen + r .count * 8
+pub size-most : (p : Plan) (r : Row) → Narrow (p .shape) → size-of p r ≤ 128 + r .namelen + r .count * 8
 unfolding size-of
-size-most p r n l =
+size-most p r n =
     let a = flag-most (ltb (p .tag) 0x20) in
     let b = hash-narrow (r .hashkind) in
     let c = links-most (p .shape) (r .count) (n .link) in

@@ -26,7 +26,7 @@ fn flag_bytes(tag: u64) -> usize
 
 // How many bytes a record has.
 pub fn size(p: Plan, row: Row) -> usize
-    requires { ⌜ Narrow (p .shape) × (p .shape .name ≤ 2) × (row .count < 2 ^ 31) × (row .namelen < 2 ^ 16) ⌝ }
+    requires { ⌜ Narrow (p .shape) × (row .count < 2 ^ 31) × (row .namelen < 2 ^ 16) ⌝ }
     ensures { λ r. ⌜ r ≡ size-of p row ⌝ }
 {
     let sh = p.shape;

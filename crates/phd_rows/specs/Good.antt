@@ -3,13 +3,13 @@
 use Prim.Native.Nat.{ℕ, zero, suc, _+_, _%_, _^_}
 use mathlib.Core.Bool.{Bool, true, false, not}
 use mathlib.Core.List.{List, [], _∷_}
-use lib.ListN.{length, take, drop}
+use lib.ListN.{length}
 use lib.Dec.{leb, ltb, eqb}
 use Rattle.layout.specs.Numbers.{pick, both, either, within}
 use Rattle.layout.specs.declared.Text.{Text}
 use Rattle.phd.specs.Phd.{highest, hash-bytes}
 use Rattle.phd.specs.declared.Facts.{Facts}
-use Rattle.phd_rows.specs.Rows.{row-at, refs-of, name-of, row-count}
+use Rattle.phd_rows.specs.Rows.{row-at, refs-of, name-of, vm-text, row-count}
 use Rattle.phd_rows.specs.declared.Row.{Row}
 use Rattle.phd_rows.specs.declared.FirstBad.{FirstBad}
 use Rattle.phd_rows.specs.declared.FirstBad.the-variants.{Row as BadRow, Nowhere}
@@ -26,7 +26,7 @@ unfoldable pub good-vm : List ℕ → Text → Bool
 good-vm names t = either (not (t .there)) (every (
     ltb (t .len) 65536
     ∷ leb (t .place + t .len) (length names)
-    ∷ within 0x20 0x7E (take (t .len) (drop (t .place) names)) ∷ []))
+    ∷ within 0x20 0x7E (vm-text names t) ∷ []))
 
 -- W is 32 or 64, the VM string is good, and not over 2^30 rows or reference numbers are lent
 unfoldable pub good-header : Facts → List ℕ → List ℕ → List ℕ → Bool

@@ -3,6 +3,7 @@
 use Prim.Native.Nat.{ℕ, zero, suc, _+_, _*_, _/_}
 use mathlib.Core.List.{List, [], _∷_}
 use lib.ListN.{length, getD, take, drop}
+use Rattle.layout.specs.declared.Text.{Text}
 use Rattle.phd.specs.Phd.{row-width}
 use Rattle.phd_rows.specs.declared.Row.{Row}
 
@@ -31,6 +32,10 @@ refs-of refs r = take (r .count) (drop (r .first) refs)
 
 unfoldable pub name-of : List ℕ → Row → List ℕ
 name-of names r = take (r .namelen) (drop (r .place) names)
+
+-- the bytes of a VM string, out of the dump or of the name bytes lent
+abbrev pub vm-text : List ℕ → Text → List ℕ
+vm-text names t = take (t .len) (drop (t .place) names)
 
 -- a row without its name's place
 unfoldable pub bare : Row → Row

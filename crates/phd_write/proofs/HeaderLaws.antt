@@ -4,7 +4,7 @@ use Prim.Native.Nat.{ℕ, _+_}
 use mathlib.Core.Bool.{true}
 use mathlib.Core.List.{List, [], _++_, append-nil}
 use native.Mathlib.Omega.{arith}
-use lib.ListN.{length, take, drop, length-append}
+use lib.ListN.{length, length-append}
 use lib.Seq.{sets}
 use Rattle.layout.specs.declared.Text.{Text}
 use Rattle.layout_put.specs.Put.{be}
@@ -12,8 +12,9 @@ use Rattle.layout_put.specs.Bytes.{length-be}
 use Rattle.layout_put.specs.Stores.{stored-two, behind, be-two, be-three}
 use Rattle.phd.specs.Phd.{opening}
 use Rattle.phd.specs.declared.Facts.{Facts}
-use Rattle.phd_write.specs.Write.{header-flags, put-vm, put-header}
-use Rattle.phd_write.specs.Sizes.{put-preamble, length-preamble, header-parts, Vm, vm-size, length-vm}
+use Rattle.phd_rows.specs.Rows.{vm-text}
+use Rattle.phd_write.specs.Write.{header-flags, put-preamble, put-vm, put-header}
+use Rattle.phd_write.specs.Sizes.{length-preamble, header-parts, Vm, vm-size, length-vm}
 
 -- ---- how many bytes they are
 
@@ -35,7 +36,7 @@ preamble-stored out {out₁} {out₂} flags a b c d e =
 
 pub vm-stored : (names : List ℕ) (t : Text) (out : List ℕ) (at : ℕ) {out₁ out₂ out₃ : List ℕ} → t .there ≡ true
     → out₁ ≡ sets out at (be 1 4) → out₂ ≡ sets out₁ (at + 1) (be 2 (t .len))
-    → out₃ ≡ sets out₂ (at + 3) (take (t .len) (drop (t .place) names)) → out₃ ≡ sets out at (put-vm names t)
+    → out₃ ≡ sets out₂ (at + 3) (vm-text names t) → out₃ ≡ sets out at (put-vm names t)
 unfolding put-vm
 vm-stored names t out at {out₁} {out₂} h a b c =
     let e : at + 3 ≡ at + 1 + 2 = omega arith in

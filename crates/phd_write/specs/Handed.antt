@@ -26,7 +26,7 @@ use Rattle.phd_write.specs.Terms.{all-refs, within-cut}
 use Rattle.phd_write.specs.Within.{AllGood}
 use Rattle.phd_put.specs.Back.{name-place, refs-place, record-back}
 
--- a row has its twelve numbers
+-- a row has as many numbers as every row
 pub length-numbers : (place : ℕ) (r : Rec) → length (numbers place r) ≡ row-width
 unfolding numbers
 length-numbers place r = refl

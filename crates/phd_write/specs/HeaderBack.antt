@@ -2,14 +2,14 @@
 -- Assumes nothing.
 use mathlib.Core.Path.{_≡_, refl}
 use mathlib.Core.Logic.{⊎-elim}
-use Prim.Native.Nat.{ℕ, _+_, _^_, _≤_, _<_}
+use Prim.Native.Nat.{ℕ, _+_, _^_, _<_}
 use mathlib.Core.Bool.{Bool, true, false}
 use mathlib.Core.List.{List, [], _∷_, _++_, append-nil, append-assoc}
-use lib.ListN.{length, take, drop, length-append, length-take, length-drop}
+use lib.ListN.{length, length-append}
 use lib.Seq.{take-at, drop-at}
-use lib.Dec.{leb, ltb, eqb, lit<}
+use lib.Dec.{eqb, lit<}
 use native.Mathlib.Omega.{arith}
-use borrow.Author.Tests.{eq-eqb, lt-ltb, leb-true, ltb-true}
+use borrow.Author.Tests.{eq-eqb, lt-ltb}
 use Rattle.layout.specs.Numbers.{pick, within}
 use Rattle.layout.specs.Layout.{Layout, field, raw, _>>_}
 use Rattle.layout.specs.Fields.{exactly, below, string, no-text}
@@ -21,10 +21,11 @@ use Rattle.layout_put.specs.Back.{reads-string}
 use Rattle.phd.specs.Phd.{bit, same, opening, opening-bytes, preamble, after-vm, header-records, header-facts, header}
 use Rattle.phd.specs.Shapes.{Word}
 use Rattle.phd.specs.declared.Facts.{Facts}
-use Rattle.phd_rows.specs.Good.{every, good-vm}
-use Rattle.phd_rows.specs.Kept.{every-at}
+use Rattle.phd_rows.specs.Rows.{vm-text}
+use Rattle.phd_rows.specs.Good.{good-vm}
 use Rattle.phd_put.specs.Record.{join}
-use Rattle.phd_write.specs.Write.{flag, header-flags, put-vm, put-header}
+use Rattle.phd_write.specs.Write.{flag, header-flags, put-preamble, put-vm, put-header}
+use Rattle.phd_write.specs.Sizes.{length-preamble, header-parts, Vm, vm-lent, length-text}
 
 -- the VM string stands 32 bytes into a dump
 unfoldable pub written-vm : Text → Text
@@ -59,28 +60,17 @@ opening-back : (p : ℕ) → Reads p opening-bytes opening tt
 unfolding opening-bytes opening same
 opening-back p = reads-end p (raw 18) _ opening opening tt (reads-raw p opening) (reads-check _ 3 true refl)
 
-abbrev put-preamble : ℕ → List ℕ
-put-preamble f = be 2 18 ++ (opening ++ (be 4 6 ++ (be 4 f ++ be 1 1)))
-
 preamble-back : (f : ℕ) → f < 8 → Reads 0 preamble (put-preamble f) f
-unfolding preamble opening
+unfolding preamble opening put-preamble
 preamble-back f l =
     let b : f < 256 ^ 4 = omega arith in
     then-exactly 0 2 18 3 _ _ f (lit< tt)
     (reads-then 2 opening-bytes _ opening _ tt f (opening-back 2)
     (then-exactly 20 4 6 4 _ _ f (lit< tt)
-    (reads-then 24 (below 4 8 5) _ (be 4 f) (be 1 1) f f (reads-below 24 4 8 5 f b l)
-    (reads-end _ (exactly 1 1 6) _ (be 1 1) 1 f (reads-exactly _ 1 1 6 (lit< tt)) (reads-yield _ f)))))
-
-length-preamble : (f : ℕ) → length (put-preamble f) ≡ 29
-unfolding opening be
-length-preamble f = refl
+    (reads-then 24 (below 4 8 5) _ (be 4 f) _ f f (reads-below 24 4 8 5 f b l)
+    (then-exactly _ 1 1 6 _ [] f (lit< tt) (reads-yield _ f)))))
 
 -- ---- the VM string
-
--- its bytes
-abbrev pub vm-text : List ℕ → Text → List ℕ
-vm-text names t = take (t .len) (drop (t .place) names)
 
 -- a VM string is read behind its tag
 string-back : (text : List ℕ) (n : ℕ) → length text ≡ n → n < 65536 → within 0x20 0x7E text ≡ true
@@ -98,29 +88,18 @@ string-back text n l short seen =
     (reads-skip _ _ _ _ tt tt (reads-check _ 7 true refl) (reads-check _ 6 true refl)))
     (reads-yield _ _)))))
 
--- what the tests of a VM string say
-record Vm (names : List ℕ) (t : Text) : Type 0 where
-  short : t .len < 65536
-  many : length (vm-text names t) ≡ t .len
-  seen : within 0x20 0x7E (vm-text names t) ≡ true
-
-vm-is : (names : List ℕ) (t : Text) → good-vm names t ≡ true → t .there ≡ true → Vm names t
-unfolding good-vm
-vm-is names t g there =
-    let tests : List Bool = ltb (t .len) 65536 ∷ leb (t .place + t .len) (length names) ∷ within 0x20 0x7E (vm-text names t) ∷ [] in
-    let e : every tests ≡ true = rw there at g in
-    let inside : t .place + t .len ≤ length names = leb-true _ _ (every-at tests e 1) in
-    record { short = ltb-true _ _ (every-at tests e 0); many = simp (length-take, length-drop) (omega arith); seen = every-at tests e 2 }
-
 vm-back : (names : List ℕ) (t : Text) → good-vm names t ≡ true → Reads 29 header-records (put-vm names t ++ be 1 2) (written-vm t)
 unfolding header-records put-vm written-vm
-vm-back names t g = by (t .there) (vm-is names t g)
+vm-back names t g = by (t .there) refl
   where
-    by : (b : Bool) → (b ≡ true → Vm names t)
+    v : Vm names t
+    v = vm-lent names t g
+
+    by : (b : Bool) → t .there ≡ b
         → Reads 29 header-records (pick b (join (be 1 4 ∷ be 2 (t .len) ∷ vm-text names t ∷ [])) [] ++ be 1 2)
         (pick b (record { there = true; place = 32; len = t .len }) no-text)
-    by true v = string-back (vm-text names t) (t .len) (v refl .many) (v refl .short) (v refl .seen)
-    by false v = reads-end 29 (field 1) _ (be 1 2) 2 no-text (reads-field 29 1 2 (lit< tt)) (reads-yield _ no-text)
+    by true e = string-back (vm-text names t) (t .len) (length-text names t v e) (v .short e) (v .seen e)
+    by false e = reads-end 29 (field 1) _ (be 1 2) 2 no-text (reads-field 29 1 2 (lit< tt)) (reads-yield _ no-text)
 
 -- ---- the flags
 
@@ -150,16 +129,11 @@ flags-few h = flags-back (eqb (h .word) 64) (h .hashed) (h .openj9) .0
 
 -- ---- the header
 
--- its parts, as they are read
-header-parts : (names : List ℕ) (h : Facts) → put-header names h ≡ put-preamble (header-flags h) ++ ((put-vm names (h .vm) ++ be 1 2) ++ be 1 2)
-unfolding put-header
-header-parts names h = simp (append-nil, append-assoc)
-
 pub header-back : (names : List ℕ) (h : Facts) → Word (h .word) → good-vm names (h .vm) ≡ true → Reads 0 header (put-header names h) (written-facts h)
 unfolding header
 header-back names h w g =
     let f : ℕ = header-flags h in
-    rw (header-parts names h, ← facts-back h w)
+    rw (header-parts names h, ← append-assoc (put-vm names (h .vm)) (be 1 2) (be 1 2), ← facts-back h w)
     (reads-then 0 preamble _ (put-preamble f) _ f _ (preamble-back f (flags-few h))
     (rw (length-preamble f)
     (reads-then 29 header-records _ (put-vm names (h .vm) ++ be 1 2) (be 1 2) (written-vm (h .vm)) _ (vm-back names (h .vm) g)
@@ -190,4 +164,4 @@ vm-stands names h rest g there =
     let parts : put-header names h ++ rest ≡ front ++ (vm-text names t ++ back) = rw (header-parts names h, there) (simp (append-nil, append-assoc)) in
     let l : length front ≡ 32 =
     rw (length-append (put-preamble f) (be 1 4 ++ be 2 (t .len)), length-preamble f, length-append (be 1 4) (be 2 (t .len)), length-be 1 4, length-be 2 (t .len)) in
-    rw (vm-there t there, parts, drop-at front (vm-text names t ++ back) 32 l, take-at (vm-text names t) back (t .len) (vm-is names t g there .many))
+    rw (vm-there t there, parts, drop-at front (vm-text names t ++ back) 32 l, take-at (vm-text names t) back (t .len) (length-text names t (vm-lent names t g) there))

@@ -24,20 +24,12 @@ use Rattle.phd_form.specs.Form.{Bounded, measure}
 use Rattle.phd_form.specs.declared.Plan.{Plan}
 use Rattle.phd_put.specs.Record.{put-planned, size-of}
 use Rattle.phd_write.specs.Write.{put-records}
-use Rattle.phd_write.specs.Turns.{plan-at, left, Halfway, Next, next, left-none}
+use Rattle.phd_write.specs.Turns.{plan-at, left, plan, bytes-at, size-at, cache-on, Halfway, Next, next, left-none}
 
 module _ (h : Facts) (names refs rows : List ℕ) where
   -- all rows and the end tag
   abbrev pub all : List ℕ
   all = put-records h 0 empty (recs names refs rows)
-
-  -- the cache after the row number i, which stands after a record at `before`
-  abbrev pub cache-on : ℕ → ℕ → Cache → Cache
-  cache-on i before c = pick (plan-at h refs before c (row-at rows i) .shape .cached) (put c (row-at rows i .word)) c
-
-  -- the bytes of the row number i
-  abbrev pub bytes-at : ℕ → ℕ → Cache → List ℕ
-  bytes-at i before c = put-planned before (plan-at h refs before c (row-at rows i)) (row-at rows i) (refs-of refs (row-at rows i)) (name-of names (row-at rows i))
 
   left-all : left h names refs rows 0 0 empty ≡ all
   unfolding recs
@@ -60,14 +52,14 @@ module _ (h : Facts) (names refs rows : List ℕ) where
   sizing-begins header l e = record { index = 0; halfway = begin e; few = omega arith; small = omega arith; sum = rw left-all }
 
   pub sizing-next : (header i before total : ℕ) (c : Cache) → Word (h .word) → Sizing header i before total c → i < row-count rows
-      → Sizing header (i + 1) (row-at rows i .address) (total + size-of (plan-at h refs before c (row-at rows i)) (row-at rows i)) (cache-on i before c)
+      → Sizing header (i + 1) (row-at rows i .address) (total + size-at h names refs rows i before c) (cache-on h names refs rows i before c)
   sizing-next header i before total c w z l =
       let n : Next h names refs rows i (z .index) before c = next h names refs rows i (z .index) before c w (z .halfway) l in
       let r : Row = row-at rows i in
       let b = n .begins in
       let s = n .lent .span in
       let m = n .size-small in
-      let t : total + length (bytes-at i before c ++ left h names refs rows (i + 1) (r .address) (cache-on i before c)) ≡ header + length all = rw (n .more) at (z .sum) in
+      let t : total + length (bytes-at h names refs rows i before c ++ left h names refs rows (i + 1) (r .address) (cache-on h names refs rows i before c)) ≡ header + length all = rw (n .more) at (z .sum) in
       let u = n .size in
       record {
         index = z .index + r .count;
@@ -95,20 +87,20 @@ module _ (h : Facts) (names refs rows : List ℕ) where
 
   module _ (at₀ : ℕ) (out₀ : List ℕ) (i before to : ℕ) (c : Cache) (out : List ℕ) (z : Putting at₀ out₀ i before to c out) where
     -- the row that is put has room
-    pub putting-room : Word (h .word) → i < row-count rows → to + length (bytes-at i before c) ≤ length out
+    pub putting-room : Word (h .word) → i < row-count rows → to + length (bytes-at h names refs rows i before c) ≤ length out
     putting-room w l =
         let n : Next h names refs rows i (z .index) before c = next h names refs rows i (z .index) before c w (z .halfway) l in
         omega (arith, rw (n .more, length-append) at (z .room))
 
     pub putting-next : Word (h .word) → i < row-count rows → (to′ : ℕ) (out′ : List ℕ)
-        → to′ ≡ to + length (bytes-at i before c) → out′ ≡ sets out to (bytes-at i before c)
-        → Putting at₀ out₀ (i + 1) (row-at rows i .address) to′ (cache-on i before c) out′
+        → to′ ≡ to + length (bytes-at h names refs rows i before c) → out′ ≡ sets out to (bytes-at h names refs rows i before c)
+        → Putting at₀ out₀ (i + 1) (row-at rows i .address) to′ (cache-on h names refs rows i before c) out′
     putting-next w l to′ out′ e f =
         let n : Next h names refs rows i (z .index) before c = next h names refs rows i (z .index) before c w (z .halfway) l in
-        let rest : List ℕ = left h names refs rows (i + 1) (row-at rows i .address) (cache-on i before c) in
+        let rest : List ℕ = left h names refs rows (i + 1) (row-at rows i .address) (cache-on h names refs rows i before c) in
         let g : length out′ ≡ length out = rw (f, length-sets) in
-        let s : sets (sets out to (bytes-at i before c)) (to + length (bytes-at i before c)) rest ≡ sets out₀ at₀ all
-        = sym (sets-append out to (bytes-at i before c) rest) ∙ rw (n .more) at (z .same) in
+        let s : sets (sets out to (bytes-at h names refs rows i before c)) (to + length (bytes-at h names refs rows i before c)) rest ≡ sets out₀ at₀ all
+        = sym (sets-append out to (bytes-at h names refs rows i before c) rest) ∙ rw (n .more) at (z .same) in
         record {
           index = z .index + row-at rows i .count;
           halfway = n .halfway;
@@ -133,19 +125,19 @@ module _ (h : Facts) (names refs rows : List ℕ) where
     row-bound = rw e (n .bound)
 
     module _ (p : Plan) (f : p ≡ plan-at h refs before c r) where
-      plan-is : p ≡ plan-at h refs before c (row-at rows i)
+      plan-is : p ≡ plan h names refs rows i before c
       plan-is = f ∙ ap (plan-at h refs before c) e
 
-      pub plan-narrow : Narrow (p .shape) × (p .shape .name ≤ 2) × (r .count < 2 ^ 31) × (r .namelen < 2 ^ 16)
-      plan-narrow = rw (plan-is, e) (n .narrow, n .name-short, n .lent .few, n .lent .short)
+      pub plan-narrow : Narrow (p .shape) × (r .count < 2 ^ 31) × (r .namelen < 2 ^ 16)
+      plan-narrow = rw (plan-is, e) (n .narrow, n .lent .few, n .lent .short)
 
-      bytes-is : put-planned before p r (refs-of refs r) (name-of names r) ≡ bytes-at i before c
+      bytes-is : put-planned before p r (refs-of refs r) (name-of names r) ≡ bytes-at h names refs rows i before c
       bytes-is = rw (plan-is, e)
 
-      cache-is : (k : Cache) → k ≡ pick (p .shape .cached) (put c (r .word)) c → k ≡ cache-on i before c
+      cache-is : (k : Cache) → k ≡ pick (p .shape .cached) (put c (r .word)) c → k ≡ cache-on h names refs rows i before c
       cache-is k g = rw (plan-is, e) at g
 
-      size-is : (s : ℕ) → s ≡ size-of p r → s ≡ size-of (plan-at h refs before c (row-at rows i)) (row-at rows i)
+      size-is : (s : ℕ) → s ≡ size-of p r → s ≡ size-at h names refs rows i before c
       size-is s g = rw (plan-is, e) at g
 
       pub sizing-on : (header total s : ℕ) (k : Cache) → s ≡ size-of p r → k ≡ pick (p .shape .cached) (put c (r .word)) c

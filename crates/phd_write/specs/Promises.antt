@@ -14,7 +14,7 @@ use Rattle.layout.specs.Numbers.{pick}
 use Rattle.phd.specs.Phd.{limit, row-width, empty, Result, reading}
 use Rattle.phd.specs.declared.Facts.{Facts}
 use Rattle.phd_read.specs.Answer.{answer, stored}
-use Rattle.phd_rows.specs.Rows.{Rec, recs-from, row-count, recs}
+use Rattle.phd_rows.specs.Rows.{Rec, vm-text, recs-from, row-count, recs}
 use Rattle.phd_rows.specs.Good.{good-vm, good-header}
 use Rattle.phd_rows.specs.declared.FirstBad.the-variants.{Row as BadRow}
 use Rattle.phd_write.specs.Write.{put-header, put-records, put-dump, Outcome, refused, writing}
@@ -102,7 +102,7 @@ pub record SameHeader (h : Facts) (names : List ℕ) (f : Facts) (bytes : List �
   pub hashed : f .hashed ≡ h .hashed
   pub openj9 : f .openj9 ≡ h .openj9
   pub there : f .vm .there ≡ h .vm .there
-  pub text : h .vm .there ≡ true → take (f .vm .len) (drop (f .vm .place) bytes) ≡ take (h .vm .len) (drop (h .vm .place) names)
+  pub text : h .vm .there ≡ true → vm-text bytes (f .vm) ≡ vm-text names (h .vm)
 
 -- What holds of the reading of the bytes written.
 pub record Back (h : Facts) (names refs rows bytes : List ℕ) (rd : Result) : Type 0 where

@@ -4,7 +4,6 @@ use mathlib.Core.Path.{_≡_, refl}
 use Prim.Native.Nat.{ℕ, suc, _+_, _-_, _*_, _/_, _%_, _≤_, _<_}
 use native.Mathlib.Omega.{arith}
 use mathlib.Core.List.{List, _++_}
-use mathlib.Core.Logic.{⊎-elim}
 use lib.ListN.{length}
 use Rattle.layout_put.specs.Put.{be}
 use Rattle.layout.specs.Numbers.{pick}
@@ -12,8 +11,6 @@ use Rattle.phd.specs.Phd.{highest, put, shape}
 use Rattle.phd.specs.Shapes.{Word, Narrow, shape-narrow}
 use Rattle.phd.specs.declared.classes.Cache.{Cache}
 use Rattle.phd.specs.declared.Facts.{Facts}
-use Rattle.phd.specs.declared.Form.{Form}
-use Rattle.phd.specs.declared.Form.the-variants.{Short, Medium, Long, Class, ObjectArray, Primitive, LongPrimitive}
 use Rattle.phd_rows.specs.Rows.{row-at, refs-of, name-of, bare, rec-of, recs-from, row-count}
 use Rattle.phd_rows.specs.Good.{first-bad}
 use Rattle.phd_rows.specs.Kept.{Good, Lent, lent-of, good-of, none-bad}
@@ -23,22 +20,9 @@ use Rattle.phd_form.specs.Form.{Bounded, measure, planned}
 use Rattle.phd_form.specs.declared.Plan.{Plan}
 use Rattle.phd_put.specs.Record.{put-front, put-middle, put-name, put-links, put-tail, put-fields, put-planned, plan-of, put-record, cache-after, size-of}
 use Rattle.phd_put.specs.Sizes.{length-refs-of, length-name-of, length-planned, size-most}
+use Rattle.phd_put.specs.Formed.{wide}
 use Rattle.phd_put.specs.Forms.{bounded}
 use Rattle.phd_write.specs.Write.{put-records}
-
--- the name of a class has a length of two bytes, and other forms have none
-name-narrow : (w : ℕ) (fm : Form) (t f : ℕ) → shape w fm t f .name ≤ 2
-unfolding shape
-name-narrow w Short t f = omega arith
-name-narrow w Medium t f = omega arith
-name-narrow w Long t f = omega arith
-name-narrow w Class t f = omega arith
-name-narrow w ObjectArray t f = omega arith
-name-narrow w Primitive t f = omega arith
-name-narrow w LongPrimitive t f = omega arith
-
-word-small : (w : ℕ) → Word w → w / 8 ≤ 8
-word-small w = ⊎-elim (λ e. rw e (omega arith)) (λ e. rw e (omega arith))
 
 -- how a row is planned, out of a table of references
 abbrev pub plan-at : Facts → List ℕ → ℕ → Cache → Row → Plan
@@ -54,6 +38,20 @@ module _ (h : Facts) (names refs rows : List ℕ) where
   abbrev pub left : ℕ → ℕ → Cache → List ℕ
   left i before c = put-records h before c (recs-from names refs rows i (row-count rows - i))
 
+  -- The row number i, which stands after a record at `before`, with the cache c: how it is planned, its bytes, how many they
+  -- are, and the cache after it.
+  abbrev pub plan : ℕ → ℕ → Cache → Plan
+  plan i before c = plan-at h refs before c (row-at rows i)
+
+  abbrev pub bytes-at : ℕ → ℕ → Cache → List ℕ
+  bytes-at i before c = put-planned before (plan i before c) (row-at rows i) (refs-of refs (row-at rows i)) (name-of names (row-at rows i))
+
+  abbrev pub size-at : ℕ → ℕ → Cache → ℕ
+  size-at i before c = size-of (plan i before c) (row-at rows i)
+
+  abbrev pub cache-on : ℕ → ℕ → Cache → Cache
+  cache-on i before c = pick (plan i before c .shape .cached) (put c (row-at rows i .word)) c
+
   -- Between two rows: the next has number i, its references begin at `index`, and it stands after a record at `before`.
   pub record Halfway (i index before : ℕ) : Type 0 where
     pub at-most : i ≤ row-count rows
@@ -65,15 +63,11 @@ module _ (h : Facts) (names refs rows : List ℕ) where
   pub record Next (i index before : ℕ) (c : Cache) : Type 0 where
     pub lent : Lent names refs (row-at rows i)
     pub bound : Bounded (measure c before (row-at rows i) (refs-of refs (row-at rows i)))
-    pub narrow : Narrow (plan-at h refs before c (row-at rows i) .shape)
-    pub name-short : plan-at h refs before c (row-at rows i) .shape .name ≤ 2
+    pub narrow : Narrow (plan i before c .shape)
     pub begins : row-at rows i .first ≡ index
-    pub size-small : size-of (plan-at h refs before c (row-at rows i)) (row-at rows i) ≤ 65664 + row-at rows i .count * 8
-    pub size : length (put-planned before (plan-at h refs before c (row-at rows i)) (row-at rows i) (refs-of refs (row-at rows i)) (name-of names (row-at rows i)))
-        ≡ size-of (plan-at h refs before c (row-at rows i)) (row-at rows i)
-    pub more : left i before c
-        ≡ put-planned before (plan-at h refs before c (row-at rows i)) (row-at rows i) (refs-of refs (row-at rows i)) (name-of names (row-at rows i))
-        ++ left (i + 1) (row-at rows i .address) (pick (plan-at h refs before c (row-at rows i) .shape .cached) (put c (row-at rows i .word)) c)
+    pub size : length (bytes-at i before c) ≡ size-at i before c
+    pub size-small : size-at i before c ≤ 65664 + row-at rows i .count * 8
+    pub more : left i before c ≡ bytes-at i before c ++ left (i + 1) (row-at rows i .address) (cache-on i before c)
     pub halfway : Halfway (i + 1) (index + row-at rows i .count) (row-at rows i .address)
 
   pub next : (i index before : ℕ) (c : Cache) → Word (h .word) → Halfway i index before → i < row-count rows → Next i index before c
@@ -84,29 +78,19 @@ module _ (h : Facts) (names refs rows : List ℕ) where
       let b = none-bad h names refs rows (row-count rows - (i + 1)) i index (rw n at (v .none)) in
       let g : Good h index (rec-of names refs r) = good-of h names refs index r (b .0) in
       let t : Lent names refs r = lent-of h names refs index r (b .0) in
-      let p : Plan = plan-at h refs before c r in
-      let sn : Narrow (p .shape) = shape-narrow _ _ _ _ (word-small (h .word) w) in
-      let nm : p .shape .name ≤ 2 = name-narrow _ _ _ _ in
+      let p : Plan = plan i before c in
+      let k : Narrow (p .shape) = shape-narrow _ _ _ _ (wide (h .word) w .most) in
+      let s : i + 1 ≡ suc i = omega arith in
       record {
         lent = t;
         bound = bounded h c before index (rec-of names refs r) w g (v .fours) (v .most);
-        narrow = sn;
-        name-short = nm;
+        narrow = k;
         begins = g .first;
-        size-small = let z = size-most p r sn nm in let y = t .short in omega arith;
         size = length-planned before p r _ _ (length-refs-of refs r (t .span)) (length-name-of names r (t .named));
-        more = more-rows n;
-        halfway = record { at-most = omega arith; none = rw (← suc-one) at (b .1); fours = g .fours; most = g .most };
+        size-small = let z = size-most p r k in let y = t .short in omega arith;
+        more = rw (n, s, bare-same);
+        halfway = record { at-most = omega arith; none = rw (← s) at (b .1); fours = g .fours; most = g .most };
       }
-    where
-      suc-one : i + 1 ≡ suc i
-      suc-one = omega arith
-
-      more-rows : row-count rows - i ≡ suc (row-count rows - (i + 1))
-          → left i before c
-          ≡ put-planned before (plan-at h refs before c (row-at rows i)) (row-at rows i) (refs-of refs (row-at rows i)) (name-of names (row-at rows i))
-          ++ left (i + 1) (row-at rows i .address) (pick (plan-at h refs before c (row-at rows i) .shape .cached) (put c (row-at rows i .word)) c)
-      more-rows n = rw (n, suc-one, bare-same)
 
   -- no row is left
   pub left-none : (i before : ℕ) (c : Cache) → row-count rows ≤ i → left i before c ≡ be 1 3

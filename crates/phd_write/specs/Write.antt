@@ -3,7 +3,7 @@
 use Prim.Native.Nat.{ℕ, _+_}
 use mathlib.Core.Bool.{Bool, true, false}
 use mathlib.Core.List.{List, [], _∷_, _++_}
-use lib.ListN.{length, take, drop}
+use lib.ListN.{length}
 use lib.Dec.{leb, eqb}
 use Rattle.layout.specs.Numbers.{pick, both}
 use Rattle.layout.specs.declared.Text.{Text}
@@ -11,7 +11,7 @@ use Rattle.layout_put.specs.Put.{be}
 use Rattle.phd.specs.Phd.{limit, opening, empty}
 use Rattle.phd.specs.declared.classes.Cache.{Cache}
 use Rattle.phd.specs.declared.Facts.{Facts}
-use Rattle.phd_rows.specs.Rows.{Rec, recs, row-count}
+use Rattle.phd_rows.specs.Rows.{Rec, vm-text, recs, row-count}
 use Rattle.phd_rows.specs.Good.{good-header, first-bad}
 use Rattle.phd_rows.specs.declared.FirstBad.{FirstBad}
 use Rattle.phd_rows.specs.declared.FirstBad.the-variants.{Row as BadRow, Nowhere}
@@ -29,12 +29,15 @@ header-flags h = flag (eqb (h .word) 64) 1 + flag (h .hashed) 2 + flag (h .openj
 
 -- the header record of the VM string, whose place and length are those in the name bytes
 unfoldable pub put-vm : List ℕ → Text → List ℕ
-put-vm names t = pick (t .there) (join (be 1 4 ∷ be 2 (t .len) ∷ take (t .len) (drop (t .place) names) ∷ [])) []
+put-vm names t = pick (t .there) (join (be 1 4 ∷ be 2 (t .len) ∷ vm-text names t ∷ [])) []
 
--- the opening string, version, flags and byte 1; the VM string; the byte 2 that ends the header and the one that begins the body
+-- the opening string, the version, the flags and the byte 1
+unfoldable pub put-preamble : ℕ → List ℕ
+put-preamble flags = join (be 2 18 ∷ opening ∷ be 4 6 ∷ be 4 flags ∷ be 1 1 ∷ [])
+
+-- these; the VM string; the byte 2 that ends the header and the one that begins the body
 unfoldable pub put-header : List ℕ → Facts → List ℕ
-put-header names h =
-    join (be 2 18 ∷ opening ∷ be 4 6 ∷ be 4 (header-flags h) ∷ be 1 1 ∷ put-vm names (h .vm) ∷ be 1 2 ∷ be 1 2 ∷ [])
+put-header names h = join (put-preamble (header-flags h) ∷ put-vm names (h .vm) ∷ be 1 2 ∷ be 1 2 ∷ [])
 
 -- Records one after another, and the end tag; the first stands after one at the address `before`, with the cache c.
 unfoldable pub put-records : Facts → ℕ → Cache → List Rec → List ℕ

@@ -4,8 +4,8 @@ ghost use Prim.Native.Nat.{_+_, _≤_};
 ghost use lib.ListN.{length};
 ghost use lib.Seq.{sets};
 ghost use Rattle.phd.specs.Phd.{opening};
-ghost use Rattle.phd_write.specs.Write.{flag as flagOf, header-flags, put-vm, put-header};
-ghost use Rattle.phd_write.specs.Sizes.{put-preamble, Vm};
+ghost use Rattle.phd_write.specs.Write.{flag as flagOf, header-flags, put-preamble, put-vm, put-header};
+ghost use Rattle.phd_write.specs.Sizes.{Vm};
 use layout::Text;
 use phd::Facts;
 

@@ -17,12 +17,12 @@ flag-small : (c : tie.After-flag-bytes) → c .flag-bytes .result ≤ 1
 flag-small c = let e = c .flag-bytes .ensures in let h = flag-most (ltb (c .before .before .args .p .tag) 0x20) in omega arith
 
 links-small : (c : tie.Start) → c .args .row .count * c .args .p .shape .link < 2 ^ 34
-links-small c = let h = links-most (c .args .p .shape) (c .args .row .count) (c .pre .0 .link) in let f = c .pre .2 in omega arith
+links-small c = let h = links-most (c .args .p .shape) (c .args .row .count) (c .pre .0 .link) in let f = c .pre .1 in omega arith
 
 -- all that is added
 all-small : (c : tie.After-struct-known8) → let a = c .before .before .before .before .before .before .before .before .before .before .before .args in let sh = a .p .shape in
     (c .before .before .before .before .before .before .before .before .before .flag-bytes .result ≤ 1) × (c .before .before .before .before .before .before .hash-bytes-of .result ≤ 8) × (a .row .count * sh .link < 2 ^ 34)
-    × (sh .gap + sh .word + sh .len + sh .inst + sh .superclass + sh .counted + sh .size + sh .truelen ≤ 64)
+    × (sh .gap + sh .word + sh .len + sh .inst + sh .superclass + sh .name + sh .counted + sh .size + sh .truelen ≤ 72)
 all-small c =
     let d = c .before .before .before .before .before .before .before .before .before .before .before in
     let n = d .pre .0 in

@@ -49,7 +49,7 @@ put-bytes-requires : tie.Need-put-bytes-requires
 put-bytes-requires c κs =
     let d = first (second (c .before)) in
     let r = room d in
-    (start d .pre .0 .within (d .if1 .taken), omega arith)
+    (start d .pre .0 .inside (d .if1 .taken), omega arith)
 
 add-result : tie.Need-add-result
 add-result c = search needs
