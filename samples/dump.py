@@ -10,7 +10,7 @@ ROW = (
     "kind", "address", "word", "hash_kind", "hash", "first", "count", "size", "length", "name_place", "name_length", "type",
 )  # fmt: skip
 
-# The room that the program has: whole rows, and references.
+# The room that a program has if nothing else is said: whole rows, and references.
 ROWS, REFS = 48, 70
 
 OPENING = b"\x00\x12portable heap dump"
@@ -55,7 +55,8 @@ def line(answer):
 
 
 class Dump:
-    def __init__(self):
+    def __init__(self, room_rows=ROWS, room_refs=REFS):
+        self.room_rows, self.room_refs = room_rows, room_refs
         self.bytes = b""
         self.facts = dict(word=0, hashed=0, openj9=0, vm=0, place=0, len=0)
         self.rows, self.refs = [], []
@@ -182,9 +183,9 @@ class Dump:
         """A record whole. Room is asked last, rows before references; one without room adds nothing."""
         tag = len(self.bytes)
         self.bytes += data
-        if len(self.rows) == ROWS:
+        if len(self.rows) == self.room_rows:
             self.stop(13, tag)
-        elif len(self.refs) + len(refs) > REFS:
+        elif len(self.refs) + len(refs) > self.room_refs:
             self.stop(14, tag)
         if not self.over:
             numbers.update(first=len(self.refs), count=len(refs))

@@ -14,7 +14,7 @@ use Rattle.layout_put.specs.Bytes.{length-be}
 use Rattle.layout_put.specs.Stores.{sets-append}
 
 -- the last of a run of stores may go first
-sets-snoc : (vs l : List ℕ) (i x : ℕ) → sets l i (vs ++ (x ∷ [])) ≡ sets (set l (i + length vs) x) i vs
+pub sets-snoc : (vs l : List ℕ) (i x : ℕ) → sets l i (vs ++ (x ∷ [])) ≡ sets (set l (i + length vs) x) i vs
 sets-snoc [] l i x = rw add-zero
 sets-snoc (a ∷ vs) l i x =
     let e : i + suc (length vs) ≡ suc i + length vs = omega arith in

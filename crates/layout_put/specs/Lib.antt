@@ -1,9 +1,12 @@
 -- Put (the bytes of numbers, gaps and references, and the least widths that hold them), Widths (laws of those widths), Bytes
--- (numbers read back from their bytes), Reads (what was put is read), Back (so for addresses, references, counts and strings)
--- and Stores (storing one list behind another).
+-- (numbers read back from their bytes), Reads (what was put is read), Back (so for addresses, references, counts and strings),
+-- Stores (storing one list behind another), Puts (what a function leaves that puts bytes at a place) and Partly (bytes put in
+-- several parts).
 pub mod Put
 pub mod Widths
 pub mod Bytes
 pub mod Reads
 pub mod Back
 pub mod Stores
+pub mod Puts
+pub mod Partly

@@ -7,6 +7,11 @@ use lib.Dec.{leb, ltb}
 use lib.IntN.{ℤ, pos, negsuc}
 use Rattle.layout.specs.Numbers.{pick}
 
+-- lists one after another
+abbrev pub join : List (List ℕ) → List ℕ
+join [] = []
+join (x ∷ xs) = x ++ join xs
+
 -- the lowest n bytes of v, the highest first
 unfoldable pub be : ℕ → ℕ → List ℕ
 be zero v = []

@@ -12,7 +12,7 @@ use lib.Dec.{ltb, eqb}
 use borrow.Author.Tests.{eqb-true}
 use Rattle.layout.specs.Numbers.{pick, both, either}
 use Rattle.layout.specs.declared.Text.{Text}
-use Rattle.layout_put.specs.Put.{be, links as put-all}
+use Rattle.layout_put.specs.Put.{join, be, links as put-all}
 use Rattle.layout_put.specs.Bytes.{length-be}
 use Rattle.layout_put.specs.Reads.{Reads, reads-then, reads-end, reads-skip, reads-yield, reads-field, reads-check, reads-need}
 use Rattle.phd.specs.Phd.{highest, put, tagged, formed, moved-bit, hashed-bit, flag-byte, hash-bytes, shape, row, Item, item, linked, fields, record-of, entry}
@@ -28,7 +28,7 @@ use Rattle.phd.specs.declared.Tail.{Tail}
 use Rattle.phd_rows.specs.Rows.{Rec, numbers}
 use Rattle.phd_rows.specs.declared.Row.{Row}
 use Rattle.phd_form.specs.declared.Plan.{Plan}
-use Rattle.phd_put.specs.Record.{join, put-tag, put-front, put-middle, put-name, put-links, put-tail, put-fields, put-planned}
+use Rattle.phd_put.specs.Record.{put-tag, put-front, put-middle, put-name, put-links, put-tail, put-fields, put-planned}
 use Rattle.phd_put.specs.Sizes.{length-front, length-middle, length-name}
 use Rattle.phd_put.specs.Fit.{given, Named, unnamed, named, Fit, Says, Sound}
 use Rattle.phd_put.specs.Fields.{text, front-reads, middle-reads, class-name-reads, link-count-reads, links-read, tail-reads}

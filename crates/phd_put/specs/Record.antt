@@ -5,7 +5,7 @@ use Prim.Native.Nat.{ℕ, _+_, _*_, _/_}
 use mathlib.Core.List.{List, [], _∷_, _++_}
 use lib.Dec.{ltb}
 use Rattle.layout.specs.Numbers.{pick}
-use Rattle.layout_put.specs.Put.{be, gap, complement, links}
+use Rattle.layout_put.specs.Put.{join, be, gap, complement, links}
 use Rattle.phd.specs.Phd.{hash-bytes, put}
 use Rattle.phd.specs.declared.classes.Cache.{Cache}
 use Rattle.phd.specs.declared.Facts.{Facts}
@@ -14,11 +14,6 @@ use Rattle.phd_rows.specs.Rows.{Rec}
 use Rattle.phd_rows.specs.declared.Row.{Row}
 use Rattle.phd_form.specs.Form.{measure, planned}
 use Rattle.phd_form.specs.declared.Plan.{Plan}
-
--- lists one after another
-abbrev pub join : List (List ℕ) → List ℕ
-join [] = []
-join (x ∷ xs) = x ++ join xs
 
 -- the tag, and the flag byte where the form has one
 unfoldable pub put-tag : Plan → List ℕ

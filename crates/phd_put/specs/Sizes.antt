@@ -6,7 +6,7 @@ use native.Mathlib.Nat.{mul-le-mul-left}
 use native.Mathlib.Omega.{arith}
 use mathlib.Core.Bool.{Bool, true, false}
 use mathlib.Core.List.{List}
-use lib.ListN.{length, length-append, length-take, length-drop}
+use lib.ListN.{length, length-append}
 use lib.Dec.{ltb}
 use Rattle.layout.specs.Numbers.{pick}
 use Rattle.layout_put.specs.Bytes.{length-be}
@@ -15,18 +15,8 @@ use Rattle.phd.specs.Phd.{hash-bytes}
 use Rattle.phd.specs.Shapes.{Narrow, hash-narrow}
 use Rattle.phd.specs.declared.Shape.{Shape}
 use Rattle.phd_form.specs.declared.Plan.{Plan}
-use Rattle.phd_rows.specs.Rows.{refs-of, name-of}
 use Rattle.phd_rows.specs.declared.Row.{Row}
 use Rattle.phd_put.specs.Record.{put-tag, put-front, put-middle, put-name, put-links, put-tail, put-fields, put-planned, size-of}
-
--- a row's references and its name, which lie within what is lent, are as long as the row says
-pub length-refs-of : (refs : List ℕ) (r : Row) → r .first + r .count ≤ length refs → length (refs-of refs r) ≡ r .count
-unfolding refs-of
-length-refs-of refs r h = simp (length-take, length-drop) (omega arith)
-
-pub length-name-of : (names : List ℕ) (r : Row) → r .place + r .namelen ≤ length names → length (name-of names r) ≡ r .namelen
-unfolding name-of
-length-name-of names r h = simp (length-take, length-drop) (omega arith)
 
 pub length-tag : (p : Plan) → length (put-tag p) ≡ 1 + pick (ltb (p .tag) 0x20) 1 0
 unfolding put-tag

@@ -5,7 +5,7 @@ use Prim.Native.Nat.{ℕ, suc, _+_, _<_, _≤_}
 use native.Mathlib.Omega.{arith}
 use lib.ListN.{length, take, drop, getD, set, length-append, take-append-drop}
 use lib.Seq.{sets, drop-cons, sets-eq, take-at, drop-at, length-take-le}
-use Rattle.phd_read.specs.Answer.{stored}
+use Rattle.layout.specs.Lent.{stored}
 
 -- the next of a row's numbers
 pub store-next : (table row : List ℕ) (at i : ℕ) → i < length row

@@ -7,7 +7,8 @@ use lib.ListN.{length, take, drop}
 use lib.Seq.{length-take-le, drop-drop}
 use Rattle.phd.specs.Phd.{limit, row-width, empty, Result, go, halt, ended, step, records, first}
 use Rattle.phd.specs.declared.Facts.{Facts}
-use Rattle.phd_read.specs.Answer.{answer, stored}
+use Rattle.layout.specs.Lent.{stored}
+use Rattle.phd_read.specs.Answer.{answer}
 use Rattle.phd_read.specs.Steps.{records-halt, records-on, step-onward, Onward}
 use Rattle.phd_read.specs.Stepping.{state-of, Went, Stayed, Halfway}
 use Rattle.phd_read.specs.declared.records.Cursor.{Cursor}

@@ -10,7 +10,8 @@ use native.Mathlib.Omega.{arith}
 use Rattle.layout.specs.Numbers.{within}
 use Rattle.phd.specs.Phd.{limit, row-width, highest, Result, reading}
 use Rattle.phd.specs.Cases.{computing, dump, its, table, case-f, cases, tried, as-said}
-use Rattle.phd_read.specs.Answer.{answer, stored}
+use Rattle.layout.specs.Lent.{stored}
+use Rattle.phd_read.specs.Answer.{answer}
 use Rattle.phd_read.specs.Cut.{Begins, Final, Agree, more-agree, cuts-agree}
 use Rattle.phd_read.specs.Ranges.{addresses, reading-ranged}
 use Rattle.phd_read.specs.Replies.{reading-answers}

@@ -3,7 +3,8 @@
 ghost use mathlib.Core.Path.{_≡_};
 ghost use lib.ListN.{length};
 ghost use Rattle.phd.specs.Phd.{reading, nothing as nothingOf};
-ghost use Rattle.phd_read.specs.Answer.{answer, stored};
+ghost use Rattle.layout.specs.Lent.{stored};
+ghost use Rattle.phd_read.specs.Answer.{answer};
 use layout::Text;
 use phd::Facts;
 use phd_header::HeaderRead;

@@ -18,7 +18,7 @@ use Rattle.layout.proofs.Laws.{part-cons}
 use Rattle.phd_rows.specs.Rows.{row-at, refs-of, name-of, row-count}
 use Rattle.phd_rows.specs.Good.{every, good-vm, good-numbers, good-ref, good-refs, good-row, first-bad}
 use Rattle.phd_rows.specs.declared.Row.{Row}
-use Rattle.phd_rows.specs.declared.FirstBad.the-variants.{Row as BadRow}
+use Rattle.phd_rows.specs.declared.Found.the-variants.{At}
 
 -- ---- lists of tests
 
@@ -182,11 +182,11 @@ byte-good names k end h room e = rw (byte-step names k end h room, e)
 -- a row taken off
 module _ (h : Facts) (names refs rows : List ℕ) (i index n : ℕ) (l : i < n) where
   row-step : first-bad h names refs rows i index (n - i)
-      ≡ pick (good-row h names refs index (row-at rows i)) (first-bad h names refs rows (i + 1) (index + row-at rows i .count) (n - (i + 1))) (BadRow i)
+      ≡ pick (good-row h names refs index (row-at rows i)) (first-bad h names refs rows (i + 1) (index + row-at rows i .count) (n - (i + 1))) (At i)
   unfolding first-bad
   row-step = let e : n - i ≡ suc (n - (i + 1)) = omega arith in rw (e, add-one)
 
-  pub bad-here : good-row h names refs index (row-at rows i) ≡ false → first-bad h names refs rows i index (n - i) ≡ BadRow i
+  pub bad-here : good-row h names refs index (row-at rows i) ≡ false → first-bad h names refs rows i index (n - i) ≡ At i
   bad-here e = rw (row-step, e)
 
   pub bad-later : good-row h names refs index (row-at rows i) ≡ true

@@ -11,8 +11,8 @@ use Rattle.phd.specs.Phd.{highest, hash-bytes}
 use Rattle.phd.specs.declared.Facts.{Facts}
 use Rattle.phd_rows.specs.Rows.{row-at, refs-of, name-of, vm-text, row-count}
 use Rattle.phd_rows.specs.declared.Row.{Row}
-use Rattle.phd_rows.specs.declared.FirstBad.{FirstBad}
-use Rattle.phd_rows.specs.declared.FirstBad.the-variants.{Row as BadRow, Nowhere}
+use Rattle.phd_rows.specs.declared.Found.{Found}
+use Rattle.phd_rows.specs.declared.Found.the-variants.{At, Nowhere}
 
 -- every test of a list holds
 unfoldable pub every : List Bool → Bool
@@ -99,7 +99,11 @@ good-row h names refs index r = every (
     ∷ within 0x21 0x7E (name-of names r) ∷ [])
 
 -- The first bad one of n rows, of which the first is number i and its references begin at `index`.
-unfoldable pub first-bad : Facts → List ℕ → List ℕ → List ℕ → ℕ → ℕ → ℕ → FirstBad
+unfoldable pub first-bad : Facts → List ℕ → List ℕ → List ℕ → ℕ → ℕ → ℕ → Found
 first-bad h names refs rows i index zero = Nowhere
 first-bad h names refs rows i index (suc n) =
-    pick (good-row h names refs index (row-at rows i)) (first-bad h names refs rows (suc i) (index + row-at rows i .count) n) (BadRow i)
+    pick (good-row h names refs index (row-at rows i)) (first-bad h names refs rows (suc i) (index + row-at rows i .count) n) (At i)
+
+-- the first bad row of all
+abbrev pub bad-of : Facts → (names refs rows : List ℕ) → Found
+bad-of h names refs rows = first-bad h names refs rows 0 0 (row-count rows)

@@ -10,14 +10,15 @@ use lib.Dec.{ltb, eqb}
 use lib.ListN.{length, getD, length-take, length-drop}
 use borrow.Author.Tests.{leb-true, ltb-true, eqb-true, eqb-false, not-true}
 use Rattle.layout.specs.Numbers.{pick, both, within}
+use Rattle.layout.specs.declared.Text.{Text}
 use Rattle.phd.specs.Phd.{highest, hash-bytes}
 use Rattle.phd.specs.Shapes.{Word}
 use Rattle.phd.specs.declared.Facts.{Facts}
-use Rattle.phd_rows.specs.Rows.{Rec, row-at, refs-of, name-of, bare, rec-of, row-count}
+use Rattle.phd_rows.specs.Rows.{Rec, row-at, refs-of, name-of, vm-text, bare, rec-of, row-count}
 use Rattle.phd_rows.specs.Good.{every, good-vm, good-header, good-hash, good-class, no-name, good-object, good-array, good-primitive, good-kind, good-place, good-span, good-numbers, good-ref, good-refs, good-row, first-bad}
 use Rattle.phd_rows.specs.declared.Row.{Row}
-use Rattle.phd_rows.specs.declared.FirstBad.{FirstBad}
-use Rattle.phd_rows.specs.declared.FirstBad.the-variants.{Row as BadRow, Nowhere}
+use Rattle.phd_rows.specs.declared.Found.{Found}
+use Rattle.phd_rows.specs.declared.Found.the-variants.{At, Nowhere}
 
 pub record GoodRef (top a : ℕ) : Type 0 where
   pub fours : a % 4 ≡ 0
@@ -190,7 +191,7 @@ module _ (h : Facts) (names refs : List ℕ) (index : ℕ) (r : Row) (g : good-r
 
 -- ---- no bad row
 
-by-none : (b : Bool) (x : FirstBad) (i : ℕ) → pick b x (BadRow i) ≡ Nowhere → (b ≡ true) × (x ≡ Nowhere)
+by-none : (b : Bool) (x : Found) (i : ℕ) → pick b x (At i) ≡ Nowhere → (b ≡ true) × (x ≡ Nowhere)
 by-none true x i e = (refl, e)
 by-none false x i e = let z : _≡_ {A = ℕ} 0 1 = cc in absurd (omega arith)
 
@@ -218,3 +219,31 @@ module _ (h : Facts) (names rows refs : List ℕ) (g : good-header h names rows 
   pub vm-of : good-vm names (h .vm) ≡ true
   unfolding good-header
   vm-of = every-at _ g 3
+
+-- A good VM string, if there is one, is short, lies within the name bytes, and has good bytes.
+pub record Vm (names : List ℕ) (t : Text) : Type 0 where
+  pub short : t .there ≡ true → t .len < 65536
+  pub inside : t .there ≡ true → t .place + t .len ≤ length names
+  pub seen : t .there ≡ true → within 0x20 0x7E (vm-text names t) ≡ true
+
+pub vm-lent : (names : List ℕ) (t : Text) → good-vm names t ≡ true → Vm names t
+unfolding good-vm
+vm-lent names t g = record {
+  short = λ e. ltb-true _ _ (every-at _ (rw e at g) 0);
+  inside = λ e. leb-true _ _ (every-at _ (rw e at g) 1);
+  seen = λ e. every-at _ (rw e at g) 2;
+}
+
+-- ---- how many bytes and references
+
+pub length-text : (names : List ℕ) (t : Text) → Vm names t → t .there ≡ true → length (vm-text names t) ≡ t .len
+length-text names t v e = let l = v .inside e in simp (length-take, length-drop) (omega arith)
+
+-- a row's references and its name, which lie within what is lent, are as long as the row says
+pub length-refs-of : (refs : List ℕ) (r : Row) → r .first + r .count ≤ length refs → length (refs-of refs r) ≡ r .count
+unfolding refs-of
+length-refs-of refs r h = simp (length-take, length-drop) (omega arith)
+
+pub length-name-of : (names : List ℕ) (r : Row) → r .place + r .namelen ≤ length names → length (name-of names r) ≡ r .namelen
+unfolding name-of
+length-name-of names r h = simp (length-take, length-drop) (omega arith)

@@ -1,4 +1,7 @@
--- Rows (the rows of a table, as records), Good (which rows and which header may be written) and Kept (what that says, as facts).
+-- Rows (the rows of a table, as records), Good (which rows and which header may be written), Judged (what the writer and the
+-- text give, by 01's order of tests, and that each reply is given exactly in its case) and Kept (what good rows and headers
+-- are, as facts).
 pub mod Rows
 pub mod Good
+pub mod Judged
 pub mod Kept

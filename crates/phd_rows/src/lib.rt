@@ -32,10 +32,20 @@ pub struct Row {
     pub prim: u64,
 }
 
-// The first bad row, by its number from 0.
-pub enum FirstBad {
-    Row(usize),
+// What a search over rows finds: a row, by its number from 0, or none.
+pub enum Found {
+    At(usize),
     Nowhere,
+}
+
+// A header to write: W, all objects hashed, from OpenJ9, and where the VM string stands in the name bytes, if one does. It
+// is what a reading hands out, with the dump as the name bytes.
+pub type Header = Facts;
+
+// What the writer and the text answer: the reply and its place. For 0 the place is how many bytes were written.
+pub struct Written {
+    pub reply: u64,
+    pub place: usize,
 }
 
 // The row number i.
@@ -91,7 +101,7 @@ pub fn header_good(facts: Facts, names: &[u8], rows: &[u64], refs: &[u64]) -> bo
 }
 
 // The first bad row.
-pub fn find_bad(facts: Facts, names: &[u8], refs: &[u64], rows: &[u64]) -> FirstBad
+pub fn find_bad(facts: Facts, names: &[u8], refs: &[u64], rows: &[u64]) -> Found
     requires { ⌜ Word (facts .word) ⌝ }
     ensures { λ r. ⌜ r ≡ first-bad facts (now (names .entry)) (now (refs .entry)) (now (rows .entry)) 0 0 (row-count (now (rows .entry))) ⌝ }
 {
@@ -124,7 +134,7 @@ pub fn find_bad(facts: Facts, names: &[u8], refs: &[u64], rows: &[u64]) -> First
         i += 1;
     }
     if i < n {
-        return FirstBad::Row(i);
+        return Found::At(i);
     }
-    FirstBad::Nowhere
+    Found::Nowhere
 }

@@ -13,8 +13,9 @@ use Rattle.layout_put.specs.Stores.{stored-two, behind, be-two, be-three}
 use Rattle.phd.specs.Phd.{opening}
 use Rattle.phd.specs.declared.Facts.{Facts}
 use Rattle.phd_rows.specs.Rows.{vm-text}
+use Rattle.phd_rows.specs.Kept.{Vm}
 use Rattle.phd_write.specs.Write.{header-flags, put-preamble, put-vm, put-header}
-use Rattle.phd_write.specs.Sizes.{length-preamble, header-parts, Vm, vm-size, length-vm}
+use Rattle.phd_write.specs.Sizes.{length-preamble, header-parts, vm-size, length-vm}
 
 -- ---- how many bytes they are
 

@@ -14,7 +14,7 @@ use Rattle.layout.specs.Numbers.{pick, within}
 use Rattle.layout.specs.Layout.{Layout, field, raw, _>>_}
 use Rattle.layout.specs.Fields.{exactly, below, string, no-text}
 use Rattle.layout.specs.declared.Text.{Text}
-use Rattle.layout_put.specs.Put.{be}
+use Rattle.layout_put.specs.Put.{join, be}
 use Rattle.layout_put.specs.Bytes.{length-be}
 use Rattle.layout_put.specs.Reads.{Reads, reads-then, reads-end, reads-skip, reads-yield, reads-field, reads-raw, reads-check}
 use Rattle.layout_put.specs.Back.{reads-string}
@@ -23,9 +23,9 @@ use Rattle.phd.specs.Shapes.{Word}
 use Rattle.phd.specs.declared.Facts.{Facts}
 use Rattle.phd_rows.specs.Rows.{vm-text}
 use Rattle.phd_rows.specs.Good.{good-vm}
-use Rattle.phd_put.specs.Record.{join}
 use Rattle.phd_write.specs.Write.{flag, header-flags, put-preamble, put-vm, put-header}
-use Rattle.phd_write.specs.Sizes.{length-preamble, header-parts, Vm, vm-lent, length-text}
+use Rattle.phd_rows.specs.Kept.{Vm, vm-lent, length-text}
+use Rattle.phd_write.specs.Sizes.{length-preamble, header-parts}
 
 -- the VM string stands 32 bytes into a dump
 unfoldable pub written-vm : Text → Text

@@ -18,7 +18,7 @@ use Rattle.phd.specs.declared.classes.Cache.{Cache}
 use Rattle.phd.specs.declared.Facts.{Facts}
 use Rattle.phd_rows.specs.Rows.{row-at, refs-of, name-of, recs, row-count}
 use Rattle.phd_rows.specs.Good.{first-bad}
-use Rattle.phd_rows.specs.declared.FirstBad.the-variants.{Nowhere}
+use Rattle.phd_rows.specs.declared.Found.the-variants.{Nowhere}
 use Rattle.phd_rows.specs.declared.Row.{Row}
 use Rattle.phd_form.specs.Form.{Bounded, measure}
 use Rattle.phd_form.specs.declared.Plan.{Plan}

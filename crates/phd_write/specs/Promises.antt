@@ -1,7 +1,7 @@
 -- The promises about writing, of `writing` and of the reading of what was written, in reading order.
 -- A reader must believe the statements and their records. Assumes nothing.
 use mathlib.Core.Path.{_≡_, refl, ap, _∙_}
-use mathlib.Core.Logic.{_↔_, _⊎_}
+use mathlib.Core.Logic.{_↔_, _⊎_, inl, inr}
 use Prim.Native.Nat.{ℕ, _*_, _≤_}
 use mathlib.Core.Bool.{true, false}
 use mathlib.Core.List.{List, [], _++_, append-nil}
@@ -13,16 +13,18 @@ use borrow.Author.Tests.{le-leb}
 use Rattle.layout.specs.Numbers.{pick}
 use Rattle.phd.specs.Phd.{limit, row-width, empty, Result, reading}
 use Rattle.phd.specs.declared.Facts.{Facts}
-use Rattle.phd_read.specs.Answer.{answer, stored}
+use Rattle.layout.specs.Lent.{stored}
+use Rattle.phd_read.specs.Answer.{answer}
 use Rattle.phd_rows.specs.Rows.{Rec, vm-text, recs-from, row-count, recs}
-use Rattle.phd_rows.specs.Good.{good-vm, good-header}
-use Rattle.phd_rows.specs.declared.FirstBad.the-variants.{Row as BadRow}
-use Rattle.phd_write.specs.Write.{put-header, put-records, put-dump, Outcome, refused, writing}
-use Rattle.phd_write.specs.Terms.{dump-of, bad-of, AllRight, TooLong, Ends, all-refs, kept}
+use Rattle.phd_rows.specs.Good.{good-vm, good-header, bad-of}
+use Rattle.phd_rows.specs.Judged.{Outcome, done, AllRight, Exact as ByTests}
+use Rattle.phd_rows.specs.declared.Found.the-variants.{At, Nowhere}
+use Rattle.phd_write.specs.Write.{put-header, put-records, put-dump, has-room, writing}
+use Rattle.phd_write.specs.Terms.{dump-of, TooLong, Ends, all-refs, kept}
 use Rattle.phd_write.specs.Within.{within-all, ends-behind, records-end}
 use Rattle.phd_write.specs.HeaderBack.{written-facts, vm-kept, vm-stands}
 use Rattle.phd_write.specs.Whole.{ReadsCut, reads-cut, kept-count, kept-records}
-use Rattle.phd_write.specs.Ways.{done, length-recs, rows-enough, refs-lent, bad-header, bad-row, no-room, fits, said-15, said-16, said-17, said-0, replies, refusal, good-dump}
+use Rattle.phd_write.specs.Ways.{length-recs, rows-enough, refs-lent, has, lacks, has-it, lacks-it, by-tests, said-0, good-dump}
 
 -- ---- each reply exactly in its case
 
@@ -32,7 +34,7 @@ pub record Exact (h : Facts) (names refs rows : List ℕ) (room : ℕ) (w : Outc
   pub header : (w .answer .reply ≡ 15) ↔ (good-header h names rows refs ≡ false)
   -- 16 with the place i: the header is good, and the first bad row is the row i
   pub row : (i : ℕ) → ((w .answer .reply ≡ 16) × (w .answer .place ≡ i))
-      ↔ ((good-header h names rows refs ≡ true) × (bad-of h names refs rows ≡ BadRow i))
+      ↔ ((good-header h names rows refs ≡ true) × (bad-of h names refs rows ≡ At i))
   -- 17: the header is good and no row is bad, and the dump is longer than the room or than the size limit
   pub no-room : (w .answer .reply ≡ 17) ↔ ((AllRight h names refs rows) × (TooLong room (dump-of h names refs rows)))
   -- 0: the header is good and no row is bad, and the dump fits the room and the size limit
@@ -48,24 +50,31 @@ pub record Exact (h : Facts) (names refs rows : List ℕ) (room : ℕ) (w : Outc
 
 -- So it is of any header, any tables and any room.
 pub exact : (h : Facts) (names refs rows : List ℕ) (room : ℕ) → Exact h names refs rows room (writing h names refs rows room)
-unfolding refused done
 exact h names refs rows room = record {
-  header = (λ z. said-15 h names refs rows room z .0, λ e. rw (bad-header h names refs rows room e));
-  row = λ i. (λ z. the-row i z, λ e. rw (bad-row h names refs rows room (e .0) i (e .1)) (refl, refl));
-  no-room = (λ z. let s = said-17 h names refs rows room z in (s .0, s .1), λ e. rw (no-room h names refs rows room (e .0) (e .1)));
-  done = (λ z. let s = said-0 h names refs rows room z in (s .0, s .1, s .2), λ e. rw (fits h names refs rows room (e .0) (e .1) (e .2)));
-  any = replies h names refs rows room;
-  place-15 = λ z. rw (said-15 h names refs rows room z .1);
-  place-17 = λ z. rw (said-17 h names refs rows room z .2);
-  nothing = refusal h names refs rows room;
+  header = t .header;
+  row = t .row;
+  no-room = (λ z. let s = t .no-room .0 z in ((s .0, s .1), lacks-it room dump (s .3)), λ e. t .no-room .1 (e .0 .0, e .0 .1, refl, lacks room dump (e .1)));
+  done = (λ z. let s = t .all-good .0 z in let l = has-it room dump (s .3) in ((s .0, s .1), l .0, l .1), λ e. t .all-good .1 (e .0 .0, e .0 .1, refl, has room dump (e .1) (e .2)));
+  any = four (t .any);
+  place-15 = t .place-15;
+  place-17 = t .place-17;
+  nothing = t .nothing;
 }
   where
-    the-row : (i : ℕ) → (writing h names refs rows room .answer .reply ≡ 16) × (writing h names refs rows room .answer .place ≡ i)
-        → (good-header h names rows refs ≡ true) × (bad-of h names refs rows ≡ BadRow i)
-    the-row i z =
-        let s = said-16 h names refs rows room (z .0) in
-        let e : s .0 ≡ i = rw (s .3) at (z .1) in
-        (s .1, s .2 ∙ ap BadRow e)
+    dump : List ℕ
+    dump = dump-of h names refs rows
+
+    t : ByTests (good-header h names rows refs) (bad-of h names refs rows) Nowhere (has-room room (dump-of h names refs rows)) (dump-of h names refs rows) (writing h names refs rows room)
+    t = by-tests h names refs rows room
+
+    -- no row lacks its class, since none is asked for
+    four : (let n = writing h names refs rows room .answer .reply in (n ≡ 0) ⊎ ((n ≡ 15) ⊎ ((n ≡ 16) ⊎ ((n ≡ 17) ⊎ (n ≡ 18)))))
+        → (let n = writing h names refs rows room .answer .reply in (n ≡ 0) ⊎ ((n ≡ 15) ⊎ ((n ≡ 16) ⊎ (n ≡ 17))))
+    four (inl e) = inl e
+    four (inr (inl e)) = inr (inl e)
+    four (inr (inr (inl e))) = inr (inr (inl e))
+    four (inr (inr (inr (inl e)))) = inr (inr (inr e))
+    four (inr (inr (inr (inr e)))) = let s = t .class (writing h names refs rows room .answer .place) .0 (e, refl) in let z : _≡_ {A = ℕ} 0 1 = cc (s .2) in absurd (omega arith)
 
 -- ---- what a writing with reply 0 wrote
 

@@ -3,7 +3,6 @@
 use mathlib.Core.Path.{_≡_}
 use mathlib.Core.Logic.{_⊎_}
 use Prim.Native.Nat.{ℕ, _+_, _<_}
-use mathlib.Core.Bool.{true}
 use mathlib.Core.List.{List, [], _∷_, _++_}
 use lib.ListN.{length}
 use lib.Dec.{leb}
@@ -11,10 +10,7 @@ use Rattle.layout.specs.Numbers.{pick}
 use Rattle.phd.specs.Phd.{limit, empty}
 use Rattle.phd.specs.declared.classes.Cache.{Cache}
 use Rattle.phd.specs.declared.Facts.{Facts}
-use Rattle.phd_rows.specs.Rows.{Rec, row-count, recs}
-use Rattle.phd_rows.specs.Good.{good-header, first-bad}
-use Rattle.phd_rows.specs.declared.FirstBad.{FirstBad}
-use Rattle.phd_rows.specs.declared.FirstBad.the-variants.{Nowhere}
+use Rattle.phd_rows.specs.Rows.{Rec, recs}
 use Rattle.phd_put.specs.Record.{put-record, cache-after}
 use Rattle.phd_write.specs.Write.{put-header, put-dump}
 
@@ -23,14 +19,6 @@ use Rattle.phd_write.specs.Write.{put-header, put-dump}
 -- the bytes of the whole rows lent, in order, under their header
 abbrev pub dump-of : Facts → (names refs rows : List ℕ) → List ℕ
 dump-of h names refs rows = put-dump names h (recs names refs rows)
-
--- the first bad row of all
-abbrev pub bad-of : Facts → (names refs rows : List ℕ) → FirstBad
-bad-of h names refs rows = first-bad h names refs rows 0 0 (row-count rows)
-
--- the header is good, and no row is bad
-abbrev pub AllRight : Facts → (names refs rows : List ℕ) → Type 0
-AllRight h names refs rows = (good-header h names rows refs ≡ true) × (bad-of h names refs rows ≡ Nowhere)
 
 -- ---- of a dump
 

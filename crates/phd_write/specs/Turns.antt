@@ -13,13 +13,13 @@ use Rattle.phd.specs.declared.classes.Cache.{Cache}
 use Rattle.phd.specs.declared.Facts.{Facts}
 use Rattle.phd_rows.specs.Rows.{row-at, refs-of, name-of, bare, rec-of, recs-from, row-count}
 use Rattle.phd_rows.specs.Good.{first-bad}
-use Rattle.phd_rows.specs.Kept.{Good, Lent, lent-of, good-of, none-bad}
-use Rattle.phd_rows.specs.declared.FirstBad.the-variants.{Nowhere}
+use Rattle.phd_rows.specs.Kept.{Good, Lent, lent-of, good-of, none-bad, length-refs-of, length-name-of}
+use Rattle.phd_rows.specs.declared.Found.the-variants.{Nowhere}
 use Rattle.phd_rows.specs.declared.Row.{Row}
 use Rattle.phd_form.specs.Form.{Bounded, measure, planned}
 use Rattle.phd_form.specs.declared.Plan.{Plan}
 use Rattle.phd_put.specs.Record.{put-front, put-middle, put-name, put-links, put-tail, put-fields, put-planned, plan-of, put-record, cache-after, size-of}
-use Rattle.phd_put.specs.Sizes.{length-refs-of, length-name-of, length-planned, size-most}
+use Rattle.phd_put.specs.Sizes.{length-planned, size-most}
 use Rattle.phd_put.specs.Formed.{wide}
 use Rattle.phd_put.specs.Forms.{bounded}
 use Rattle.phd_write.specs.Write.{put-records}

@@ -1,4 +1,4 @@
--- The four ways of a writing, and that what is written is a good dump.
+-- A writing by its tests, and that what is written is a good dump.
 -- Assumes nothing.
 use mathlib.Core.Path.{_≡_, refl, ap}
 use mathlib.Core.Logic.{_⊎_, inl, inr}
@@ -9,22 +9,18 @@ use lib.ListN.{length, length-append}
 use lib.Dec.{leb}
 use native.Mathlib.Omega.{arith}
 use borrow.Author.Tests.{le-leb, lt-leb, leb-true, leb-false}
-use Rattle.layout.specs.Numbers.{pick, both}
+use Rattle.layout.specs.Numbers.{both}
 use Rattle.phd.specs.Phd.{limit, row-width}
 use Rattle.phd.specs.declared.Facts.{Facts}
 use Rattle.phd_rows.specs.Rows.{bare, refs-of, rec-of, row-at, recs-from, row-count, recs}
-use Rattle.phd_rows.specs.Good.{good-header, first-bad}
-use Rattle.phd_rows.specs.Kept.{good-of, lent-of, none-bad, word-of, vm-of}
-use Rattle.phd_rows.specs.declared.FirstBad.{FirstBad}
-use Rattle.phd_rows.specs.declared.FirstBad.the-variants.{Row as BadRow, Nowhere}
-use Rattle.phd_write.specs.Write.{Outcome, refused, fitted, judged, writing}
-use Rattle.phd_write.specs.Terms.{dump-of, bad-of, AllRight, TooLong, all-refs}
+use Rattle.phd_rows.specs.Good.{good-header, first-bad, bad-of}
+use Rattle.phd_rows.specs.Judged.{Outcome, refused, done, judged, AllRight, Exact, exact}
+use Rattle.phd_rows.specs.Kept.{both-left, both-right, good-of, lent-of, none-bad, word-of, vm-of}
+use Rattle.phd_rows.specs.declared.Found.the-variants.{At, Nowhere}
+use Rattle.phd_write.specs.Write.{has-room, writing}
+use Rattle.phd_write.specs.Terms.{dump-of, TooLong, all-refs}
 use Rattle.phd_write.specs.Within.{AllGood}
 use Rattle.phd_write.specs.Whole.{GoodDump}
-
--- a dump that was written
-unfoldable pub done : List ℕ → Outcome
-done dump = record { answer = record { reply = 0; place = length dump }; bytes = dump }
 
 -- ---- rows of which none is bad
 
@@ -64,140 +60,78 @@ rows-enough names refs rows R l = let e = length-recs names refs rows in omega a
 
 -- ---- the ways
 
+-- room that there is or not, as a test
+both-true : (a b : Bool) → a ≡ true → b ≡ true → both a b ≡ true
+both-true a b p q = rw (p, q)
+
+not-both : (a b : Bool) → (a ≡ false) ⊎ (b ≡ false) → both a b ≡ false
+not-both a b (inl p) = rw p
+not-both true b (inr p) = p
+not-both false b (inr p) = refl
+
+which : (a b : Bool) → both a b ≡ false → (a ≡ false) ⊎ (b ≡ false)
+which true b e = inr e
+which false b e = inl refl
+
+pub has : (room : ℕ) (dump : List ℕ) → length dump ≤ room → length dump ≤ limit → has-room room dump ≡ true
+unfolding has-room
+has room dump l m = both-true _ _ (le-leb _ _ l) (le-leb _ _ m)
+
+pub lacks : (room : ℕ) (dump : List ℕ) → TooLong room dump → has-room room dump ≡ false
+unfolding has-room
+lacks room dump (inl p) = not-both (leb (length dump) room) (leb (length dump) limit) (inl (lt-leb (length dump) room p))
+lacks room dump (inr p) = not-both (leb (length dump) room) (leb (length dump) limit) (inr (lt-leb (length dump) limit p))
+
+pub has-it : (room : ℕ) (dump : List ℕ) → has-room room dump ≡ true → (length dump ≤ room) × (length dump ≤ limit)
+unfolding has-room
+has-it room dump e =
+    (leb-true _ _ (both-left (leb (length dump) room) (leb (length dump) limit) e), leb-true _ _ (both-right (leb (length dump) room) (leb (length dump) limit) e))
+
+pub lacks-it : (room : ℕ) (dump : List ℕ) → has-room room dump ≡ false → TooLong room dump
+unfolding has-room
+lacks-it room dump e = by (which (leb (length dump) room) (leb (length dump) limit) e)
+  where
+    by : (leb (length dump) room ≡ false) ⊎ (leb (length dump) limit ≡ false) → TooLong room dump
+    by (inl p) = inl (leb-false _ _ p)
+    by (inr p) = inr (leb-false _ _ p)
+
 module _ (h : Facts) (names refs rows : List ℕ) (room : ℕ) where
   abbrev dump : List ℕ
   dump = dump-of h names refs rows
 
-  abbrev bad : FirstBad
-  bad = bad-of h names refs rows
-
   abbrev given : Outcome
   given = writing h names refs rows room
 
-  pub bad-header : good-header h names rows refs ≡ false → given ≡ refused 15 0
+  -- by the tests, each reply exactly in its case
+  pub by-tests : Exact (good-header h names rows refs) (bad-of h names refs rows) Nowhere (has-room room dump) dump given
   unfolding writing
-  bad-header e = rw (e, writing)
+  by-tests = exact _ _ _ _ _
 
-  pub bad-row : good-header h names rows refs ≡ true → (i : ℕ) → bad ≡ BadRow i → given ≡ refused 16 i
+  pub bad-header : good-header h names rows refs ≡ false → given ≡ refused 15 0
   unfolding writing judged
-  bad-row e i f = rw (e, f, writing)
+  bad-header e = rw e
 
-  all-right : AllRight h names refs rows → given ≡ fitted room dump
+  pub bad-row : good-header h names rows refs ≡ true → (i : ℕ) → bad-of h names refs rows ≡ At i → given ≡ refused 16 i
   unfolding writing judged
-  all-right a = rw (a .0, a .1, writing)
+  bad-row e i f = rw (e, f)
 
   pub no-room : AllRight h names refs rows → TooLong room dump → given ≡ refused 17 0
-  unfolding fitted done
-  no-room a l = rw (all-right a) (over l)
-    where
-      -- too long for either is no room
-      either-way : (a b : Bool) (x y : Outcome) → (a ≡ false) ⊎ (b ≡ false) → pick (both a b) x y ≡ y
-      either-way a b x y (inl p) = rw p
-      either-way true b x y (inr p) = rw p
-      either-way false b x y (inr p) = refl
-
-      over : TooLong room dump → fitted room dump ≡ refused 17 0
-      over (inl p) = either-way (leb (length dump) room) (leb (length dump) limit) (done dump) (refused 17 0) (inl (lt-leb (length dump) room p))
-      over (inr p) = either-way (leb (length dump) room) (leb (length dump) limit) (done dump) (refused 17 0) (inr (lt-leb (length dump) limit p))
+  unfolding writing judged
+  no-room a l = rw (a .0, a .1, lacks room dump l)
 
   pub fits : AllRight h names refs rows → length dump ≤ room → length dump ≤ limit → given ≡ done dump
-  unfolding fitted done
-  fits a l m = rw (all-right a, le-leb _ _ l, le-leb _ _ m)
+  unfolding writing judged
+  fits a l m = rw (a .0, a .1, has room dump l m)
 
-  -- what held, by the way that a writing went
-  data Way (w : Outcome) : Type 0 where
-    by-header : good-header h names rows refs ≡ false → w ≡ refused 15 0 → Way w
-    by-row : (i : ℕ) → good-header h names rows refs ≡ true → bad ≡ BadRow i → w ≡ refused 16 i → Way w
-    by-room : AllRight h names refs rows → TooLong room dump → w ≡ refused 17 0 → Way w
-    by-fit : AllRight h names refs rows → length dump ≤ room → length dump ≤ limit → w ≡ done dump → Way w
-
-  way : Way given
-  way = by (good-header h names rows refs) bad refl refl
-    where
-      fit : AllRight h names refs rows → (x y : Bool) → leb (length dump) room ≡ x → leb (length dump) limit ≡ y → Way given
-      fit a true true p q = by-fit a (leb-true _ _ p) (leb-true _ _ q) (fits a (leb-true _ _ p) (leb-true _ _ q))
-      fit a true false p q = by-room a (inr (leb-false _ _ q)) (no-room a (inr (leb-false _ _ q)))
-      fit a false y p q = by-room a (inl (leb-false _ _ p)) (no-room a (inl (leb-false _ _ p)))
-
-      by : (x : Bool) (o : FirstBad) → good-header h names rows refs ≡ x → bad ≡ o → Way given
-      by false o e f = by-header e (bad-header e)
-      by true (BadRow i) e f = by-row i e f (bad-row e i f)
-      by true Nowhere e f = fit (e, f) (leb (length dump) room) (leb (length dump) limit) refl refl
-
-  -- ---- what a reply says
-
-  reply-of : (w v : Outcome) → w ≡ v → w .answer .reply ≡ v .answer .reply
-  reply-of w v e = rw e
-
-  abbrev Said : ℕ → Type 0 → Type 0
-  Said n P = given .answer .reply ≡ n → P
-
-  pub said-15 : Said 15 ((good-header h names rows refs ≡ false) × (given ≡ refused 15 0))
-  unfolding refused done
-  said-15 z = by way
-    where
-      by : Way given → (good-header h names rows refs ≡ false) × (given ≡ refused 15 0)
-      by (by-header e q) = (e, q)
-      by (by-row i e f q) = absurd (omega (arith, z, reply-of _ _ q))
-      by (by-room a l q) = absurd (omega (arith, z, reply-of _ _ q))
-      by (by-fit a l m q) = absurd (omega (arith, z, reply-of _ _ q))
-
-  pub said-16 : Said 16 ((i : ℕ) × (good-header h names rows refs ≡ true) × (bad ≡ BadRow i) × (given ≡ refused 16 i))
-  unfolding refused done
-  said-16 z = by way
-    where
-      by : Way given → (i : ℕ) × (good-header h names rows refs ≡ true) × (bad ≡ BadRow i) × (given ≡ refused 16 i)
-      by (by-header e q) = absurd (omega (arith, z, reply-of _ _ q))
-      by (by-row i e f q) = (i, e, f, q)
-      by (by-room a l q) = absurd (omega (arith, z, reply-of _ _ q))
-      by (by-fit a l m q) = absurd (omega (arith, z, reply-of _ _ q))
-
-  pub said-17 : Said 17 ((AllRight h names refs rows) × (TooLong room dump) × (given ≡ refused 17 0))
-  unfolding refused done
-  said-17 z = by way
-    where
-      by : Way given → (AllRight h names refs rows) × (TooLong room dump) × (given ≡ refused 17 0)
-      by (by-header e q) = absurd (omega (arith, z, reply-of _ _ q))
-      by (by-row i e f q) = absurd (omega (arith, z, reply-of _ _ q))
-      by (by-room a l q) = (a, l, q)
-      by (by-fit a l m q) = absurd (omega (arith, z, reply-of _ _ q))
-
-  pub said-0 : Said 0 ((AllRight h names refs rows) × (length dump ≤ room) × (length dump ≤ limit) × (given ≡ done dump))
-  unfolding refused done
-  said-0 z = by way
-    where
-      by : Way given → (AllRight h names refs rows) × (length dump ≤ room) × (length dump ≤ limit) × (given ≡ done dump)
-      by (by-header e q) = absurd (omega (arith, z, reply-of _ _ q))
-      by (by-row i e f q) = absurd (omega (arith, z, reply-of _ _ q))
-      by (by-room a l q) = absurd (omega (arith, z, reply-of _ _ q))
-      by (by-fit a l m q) = (a, l, m, q)
-
-  -- one of four replies is given, and a refusal writes nothing
-  pub replies : (given .answer .reply ≡ 0) ⊎ ((given .answer .reply ≡ 15) ⊎ ((given .answer .reply ≡ 16) ⊎ (given .answer .reply ≡ 17)))
-  unfolding refused done
-  replies = by way
-    where
-      by : Way given → (given .answer .reply ≡ 0) ⊎ ((given .answer .reply ≡ 15) ⊎ ((given .answer .reply ≡ 16) ⊎ (given .answer .reply ≡ 17)))
-      by (by-header e q) = inr (inl (reply-of _ _ q))
-      by (by-row i e f q) = inr (inr (inl (reply-of _ _ q)))
-      by (by-room a l q) = inr (inr (inr (reply-of _ _ q)))
-      by (by-fit a l m q) = inl (reply-of _ _ q)
-
-  pub refusal : (given .answer .reply ≡ 0 → ⊥) → given .bytes ≡ []
-  unfolding refused done
-  refusal z = by way
-    where
-      bytes-of : (w : Outcome) → given ≡ w → given .bytes ≡ w .bytes
-      bytes-of w e = rw e
-
-      by : Way given → given .bytes ≡ []
-      by (by-header e q) = bytes-of _ q
-      by (by-row i e f q) = bytes-of _ q
-      by (by-room a l q) = bytes-of _ q
-      by (by-fit a l m q) = absurd (z (reply-of _ _ q))
+  -- what holds where a dump was written
+  pub said-0 : given .answer .reply ≡ 0 → (AllRight h names refs rows) × (length dump ≤ room) × (length dump ≤ limit) × (given ≡ done dump)
+  said-0 z =
+      let g = by-tests .all-good .0 z in
+      let l = has-it room dump (g .3) in
+      ((g .0, g .1), l .0, l .1, by-tests .written z)
 
   -- What is written is a good dump.
-  pub good-dump : Said 0 (GoodDump names h (recs names refs rows))
+  pub good-dump : given .answer .reply ≡ 0 → GoodDump names h (recs names refs rows)
   unfolding recs
   good-dump z =
       let s = said-0 z in

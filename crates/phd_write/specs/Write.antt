@@ -1,22 +1,21 @@
 -- Writing tables as a dump: the bytes of the whole dump, and what a writing gives, refusals included.
 -- A reader must believe these definitions.
 use Prim.Native.Nat.{ℕ, _+_}
-use mathlib.Core.Bool.{Bool, true, false}
+use mathlib.Core.Bool.{Bool}
 use mathlib.Core.List.{List, [], _∷_, _++_}
 use lib.ListN.{length}
 use lib.Dec.{leb, eqb}
 use Rattle.layout.specs.Numbers.{pick, both}
 use Rattle.layout.specs.declared.Text.{Text}
-use Rattle.layout_put.specs.Put.{be}
+use Rattle.layout_put.specs.Put.{join, be}
 use Rattle.phd.specs.Phd.{limit, opening, empty}
 use Rattle.phd.specs.declared.classes.Cache.{Cache}
 use Rattle.phd.specs.declared.Facts.{Facts}
-use Rattle.phd_rows.specs.Rows.{Rec, vm-text, recs, row-count}
-use Rattle.phd_rows.specs.Good.{good-header, first-bad}
-use Rattle.phd_rows.specs.declared.FirstBad.{FirstBad}
-use Rattle.phd_rows.specs.declared.FirstBad.the-variants.{Row as BadRow, Nowhere}
-use Rattle.phd_put.specs.Record.{join, put-record, cache-after}
-use Rattle.phd_write.specs.declared.Written.{Written}
+use Rattle.phd_rows.specs.Rows.{Rec, vm-text, recs}
+use Rattle.phd_rows.specs.Good.{good-header, bad-of}
+use Rattle.phd_rows.specs.Judged.{Outcome, judged}
+use Rattle.phd_rows.specs.declared.Found.the-variants.{Nowhere}
+use Rattle.phd_put.specs.Record.{put-record, cache-after}
 
 -- ---- the bytes of a dump
 
@@ -49,32 +48,13 @@ put-dump names h rs = put-header names h ++ put-records h 0 empty rs
 
 -- ---- a writing
 
--- what a writing gives: the answer, and the bytes written
-pub record Outcome : Type 0 where
-  pub answer : Written
-  pub bytes : List ℕ
-
--- a refusal writes nothing
-unfoldable pub refused : ℕ → ℕ → Outcome
-refused reply place = record { answer = record { reply = reply; place = place }; bytes = [] }
-
--- A dump, if there is room for it within the size limit.
-unfoldable pub fitted : ℕ → List ℕ → Outcome
-fitted room dump =
-    pick (both (leb (length dump) room) (leb (length dump) limit))
-    (record { answer = record { reply = 0; place = length dump }; bytes = dump })
-    (refused 17 0)
-
--- by the first bad row
-unfoldable pub judged : Facts → List ℕ → List ℕ → List ℕ → ℕ → FirstBad → Outcome
-judged h names refs rows room (BadRow i) = refused 16 i
-judged h names refs rows room Nowhere = fitted room (put-dump names h (recs names refs rows))
+-- a dump has room in the output, and is within the size limit
+unfoldable pub has-room : ℕ → List ℕ → Bool
+has-room room dump = both (leb (length dump) room) (leb (length dump) limit)
 
 -- What writing the whole rows and their references under the header h gives, with the name bytes lent and `room` bytes of
--- output.
+-- output. The writer asks for no class.
 unfoldable pub writing : Facts → List ℕ → List ℕ → List ℕ → ℕ → Outcome
 writing h names refs rows room =
-    elim (good-header h names rows refs) [
-      | true ↦ judged h names refs rows room (first-bad h names refs rows 0 0 (row-count rows))
-      | false ↦ refused 15 0
-    ]
+    let dump : List ℕ = put-dump names h (recs names refs rows) in
+    judged (good-header h names rows refs) (bad-of h names refs rows) Nowhere (has-room room dump) dump

@@ -5,7 +5,7 @@ ghost use lib.ListN.{length};
 ghost use lib.Seq.{sets};
 ghost use Rattle.phd.specs.Phd.{opening};
 ghost use Rattle.phd_write.specs.Write.{flag as flagOf, header-flags, put-preamble, put-vm, put-header};
-ghost use Rattle.phd_write.specs.Sizes.{Vm};
+ghost use Rattle.phd_rows.specs.Kept.{Vm};
 use layout::Text;
 use phd::Facts;
 

@@ -3,26 +3,17 @@
 ghost use mathlib.Core.Path.{_≡_};
 ghost use mathlib.Core.Bool.{true};
 ghost use lib.ListN.{length};
-ghost use Rattle.phd_read.specs.Answer.{stored};
+ghost use Rattle.layout.specs.Lent.{stored};
 ghost use Rattle.phd_rows.specs.Rows.{row-count};
 ghost use Rattle.phd_rows.specs.Good.{good-header, first-bad};
-ghost use Rattle.phd_rows.specs.declared.FirstBad.the-variants.{Nowhere};
+ghost use Rattle.phd_rows.specs.declared.Found.the-variants.{Nowhere};
 ghost use Rattle.phd_write.specs.Write.{writing};
-use phd::Facts;
-use phd_rows::FirstBad;
+use phd_rows::Found;
+use phd_rows::Header;
+use phd_rows::Written;
 
 mod header;
 mod rows;
-
-// A header to write: W, all objects hashed, from OpenJ9, and where the VM string stands in the name bytes, if one does. It
-// is what a reading hands out, with the dump as the name bytes.
-pub type Header = Facts;
-
-// What a writing answers: the reply and its place. For 0 the place is how many bytes were written.
-pub struct Written {
-    pub reply: u64,
-    pub place: usize,
-}
 
 // Puts the dump of a good header and good rows, if there is room for it within the size limit.
 fn fit(header: Header, rows: &[u64], refs: &[u64], names: &[u8], out: &mut [u8]) -> Written
@@ -61,13 +52,13 @@ pub fn write(header: Header, rows: &[u64], refs: &[u64], names: &[u8], out: &mut
 {
     if phd_rows::header_good(header, names, rows, refs) {
         match phd_rows::find_bad(header, names, refs, rows) {
-            FirstBad::Row(i) => {
+            Found::At(i) => {
                 return Written {
                     reply: 16,
                     place: i,
                 };
             }
-            FirstBad::Nowhere => {
+            Found::Nowhere => {
                 return fit(header, rows, refs, names, out);
             }
         }

@@ -7,7 +7,7 @@ ghost use lib.Seq.{sets};
 ghost use Rattle.phd.specs.Phd.{empty};
 ghost use Rattle.phd_rows.specs.Rows.{refs-of, recs, row-count};
 ghost use Rattle.phd_rows.specs.Good.{good-header, first-bad};
-ghost use Rattle.phd_rows.specs.declared.FirstBad.the-variants.{Nowhere};
+ghost use Rattle.phd_rows.specs.declared.Found.the-variants.{Nowhere};
 ghost use Rattle.phd_form.specs.Form.{Bounded, measure};
 ghost use Rattle.phd_write.specs.Write.{put-records};
 ghost use Rattle.phd_write.specs.Turns.{plan-at};

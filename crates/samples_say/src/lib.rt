@@ -1,9 +1,12 @@
-// What the programs over the sample dumps print alike: numbers with their labels, tables in lines, and what a reading gives.
+// What the programs over the sample dumps print alike: numbers with their labels, tables in lines, what a reading gives, and
+// what became of an output.
 use libc::STDOUT_FILENO;
 use phd::Facts;
 use phd_read::Reading;
+use phd_rows::Written;
 ghost use Prim.Native.Nat.{_≤_, _<_};
 ghost use lib.ListN.{length};
+ghost use Rattle.io.specs.Counts.{Counts};
 
 pub fn say(text: &[u8]) {
     io::write_all(STDOUT_FILENO, text);
@@ -102,4 +105,52 @@ pub fn tell_whole(r: Reading, rows: &[u64], refs: &[u64]) {
     tell_facts(r.facts);
     tell_table(b"row", rows, phd::ROW, used(rows, r.rows, phd::ROW));
     tell_table(b"refs", refs, 8, used(refs, r.refs, 1));
+}
+
+// n, or how many bytes there are, if that is less.
+pub fn within(n: usize, bytes: &[u8]) -> usize
+    ensures { λ r. ⌜ Counts r (now (bytes .entry)) ⌝ }
+{
+    if bytes.len() < n {
+        return bytes.len();
+    }
+    n
+}
+
+// How many bytes a writing says that it wrote, at most all that there are.
+pub fn written(w: Written, out: &[u8]) -> usize
+    ensures { λ r. ⌜ Counts r (now (out .entry)) ⌝ }
+{
+    if w.reply != 0 {
+        return within(0, out);
+    }
+    within(w.place, out)
+}
+
+// `reply R place P`
+pub fn tell_written(w: Written) {
+    tell(b"reply ", w.reply);
+    tell(b" place ", w.place as u64);
+}
+
+// Whether all bytes of an output from an index on are what they were before, each x.
+pub fn kept(out: &[u8], from: usize, x: u8) -> bool {
+    let mut i = from;
+    while i < out.len() {
+        if out[i] != x {
+            return false;
+        }
+        i += 1;
+    }
+    true
+}
+
+// `kept` or `changed`
+pub fn tell_kept(label: &[u8], k: bool) {
+    say(label);
+    if k {
+        say(b"kept\n");
+    } else {
+        say(b"changed\n");
+    }
 }

@@ -16,15 +16,17 @@ mod tables;
 
 use libc::STDOUT_FILENO;
 use phd::Facts;
-use phd_write::Written;
+use samples_say::kept;
 use samples_say::line_end;
 use samples_say::say;
 use samples_say::tell;
+use samples_say::tell_kept;
 use samples_say::tell_whole;
+use samples_say::tell_written;
+use samples_say::written;
 ghost use Prim.Native.Nat.{_≤_, _<_};
 ghost use mathlib.Core.Path.{_≡_};
 ghost use lib.ListN.{length};
-ghost use Rattle.io.specs.Counts.{Counts};
 
 // The bytes of a line.
 const LINE: usize = 32;
@@ -38,18 +40,6 @@ fn filled(x: u8) -> [u8; BYTES]
     ensures { λ r. ⌜ 0x11000 ≡ length r ⌝ }
 {
     [x; BYTES]
-}
-
-// Whether all bytes of the output from an index on are untouched.
-fn kept(out: &[u8], from: usize) -> bool {
-    let mut i = from;
-    while i < out.len() {
-        if out[i] != UNTOUCHED {
-            return false;
-        }
-        i += 1;
-    }
-    true
 }
 
 fn tell_byte(x: u8) {
@@ -115,27 +105,6 @@ fn tell_bytes(s: &[u8]) {
     tell_again(again);
 }
 
-fn tell_rest(k: bool) {
-    if k {
-        say(b"rest kept\n");
-    } else {
-        say(b"rest changed\n");
-    }
-}
-
-// How many bytes a writing says that it wrote, at most all that there are.
-fn written(w: Written, out: &[u8]) -> usize
-    ensures { λ r. ⌜ Counts r (now (out .entry)) ⌝ }
-{
-    if w.reply != 0 {
-        return 0;
-    }
-    if out.len() < w.place {
-        return out.len();
-    }
-    w.place
-}
-
 // What reading a dump gives.
 fn read_back(dump: &[u8]) {
     let mut rows = [0; tables::ROWS];
@@ -148,12 +117,11 @@ fn read_back(dump: &[u8]) {
 // Writes tables to untouched output.
 fn write(facts: Facts, rows: &[u64], refs: &[u64], names: &[u8], out: &mut [u8]) {
     let w = phd_write::write(facts, rows, refs, names, out);
-    tell(b"reply ", w.reply);
-    tell(b" place ", w.place as u64);
+    tell_written(w);
     say(b"\n");
     let n = written(w, out);
     tell_bytes(&out[..n]);
-    tell_rest(kept(out, n));
+    tell_kept(b"rest ", kept(out, n, UNTOUCHED));
     if w.reply == 0 {
         read_back(&out[..n]);
     }

@@ -7,7 +7,8 @@ use lib.ListN.{length}
 use Rattle.layout.specs.Layout.{whole, stops, run, inside}
 use Rattle.phd.specs.Phd.{limit, header, nothing}
 use Rattle.phd_header.specs.Header.{header-outcome, header-word}
-use Rattle.phd_read.specs.Answer.{answer, stored}
+use Rattle.layout.specs.Lent.{stored}
+use Rattle.phd_read.specs.Answer.{answer}
 use Rattle.phd_read.specs.Steps.{reading-over, reading-opens, reading-stops}
 use Rattle.phd_read.proofs.read.Statement.{statement}
 use Rattle.phd_read.proofs.read.Tie as tie

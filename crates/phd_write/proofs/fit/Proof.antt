@@ -7,12 +7,13 @@ use native.Mathlib.Omega.{arith}
 use lib.ListN.{length, length-append}
 use Rattle.phd.specs.Phd.{limit, empty}
 use Rattle.phd_rows.specs.Rows.{recs}
-use Rattle.phd_rows.specs.Kept.{vm-of}
+use Rattle.phd_rows.specs.Judged.{refused-keeps, done-stores}
+use Rattle.phd_rows.specs.Kept.{vm-of, Vm, vm-lent}
 use Rattle.phd_write.specs.Write.{put-header, put-records, put-dump}
 use Rattle.phd_write.specs.Terms.{dump-of}
-use Rattle.phd_write.specs.Sizes.{Vm, vm-lent, length-header, header-small}
+use Rattle.phd_write.specs.Sizes.{length-header, header-small}
 use Rattle.phd_write.specs.Ways.{no-room, fits}
-use Rattle.phd_write.proofs.Laws.{refused-keeps, sized, done-stores}
+use Rattle.phd_write.proofs.Laws.{sized, dump-stored}
 use Rattle.phd_write.proofs.fit.Statement.{statement}
 use Rattle.phd_write.proofs.fit.Tie as tie
 
@@ -78,8 +79,8 @@ returns-3 c =
     let a = d .args in
     let e = enough (c .before .before .before .before .before .before .before .before) in
     let q = c .before .before .before .before .before .before .put .ensures in
-    done-stores (a .header) (a .names .now) (a .refs .now) (a .rows .now) _ _ _ _ _ _
-    (fits _ _ _ _ _ (d .pre) (e .0) (e .1)) (found (c .before .before .before .before .before .before .before .before .before .before)) (e .0) (q .0) (q .1) (c .before .before .put2 .ensures)
+    done-stores _ _ _ _ _ (fits _ _ _ _ _ (d .pre) (e .0) (e .1)) (found (c .before .before .before .before .before .before .before .before .before .before)) (e .0)
+    (dump-stored (a .header) (a .names .now) (a .refs .now) (a .rows .now) _ (q .0) (q .1) (c .before .before .put2 .ensures))
 
 pub fit-spec : {M : Type 1} → statement M
 fit-spec =

@@ -3,9 +3,9 @@ use borrow.Author.Needs.{needs}
 use mathlib.Core.Path.{_≡_, sym, _∙_}
 use mathlib.Core.Bool.{true}
 use Rattle.phd_rows.specs.Good.{good-header}
+use Rattle.phd_rows.specs.Judged.{refused-keeps}
 use Rattle.phd_rows.specs.Kept.{word-of}
 use Rattle.phd_write.specs.Ways.{bad-header, bad-row}
-use Rattle.phd_write.proofs.Laws.{refused-keeps}
 use Rattle.phd_write.proofs.write.Statement.{statement}
 use Rattle.phd_write.proofs.write.Tie as tie
 

@@ -5,7 +5,8 @@ use Prim.Native.Nat.{_+_, _^_, _≤_, _<_}
 use lib.ListN.{length}
 use Rattle.phd_rows.specs.Rows.{name-of}
 use Rattle.phd_put.specs.Record.{put-name}
-use Rattle.phd_put.specs.Sizes.{length-name, length-name-of}
+use Rattle.phd_rows.specs.Kept.{length-name-of}
+use Rattle.phd_put.specs.Sizes.{length-name}
 use Rattle.layout_put.specs.Stores.{be-two}
 use Rattle.phd_put.proofs.parts.put_name.Statement.{statement}
 use Rattle.phd_put.proofs.parts.put_name.Tie as tie

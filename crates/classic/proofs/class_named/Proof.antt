@@ -1,0 +1,56 @@
+-- `class_named` meets its contract: the rows from here on say what all rows say.
+use mathlib.Core.Path.{sym, _∙_}
+use Prim.Native.Nat.{_-_}
+use native.Mathlib.Omega.{arith}
+use Rattle.phd_rows.specs.Rows.{row-count}
+use Rattle.classic.specs.Classic.{signature, is-class-named}
+use Rattle.classic.specs.Search.{Searched, search-begins, search-found, search-next, search-ends}
+use Rattle.classic.proofs.class_named.Statement.{statement}
+use Rattle.classic.proofs.class_named.Tie as tie
+
+abbrev Inv-loop : tie.InvT-loop
+Inv-loop names rows prim n i₀ i = Searched (is-class-named names (signature prim)) rows n i
+
+abbrev μ-loop : tie.MeasureT-loop
+μ-loop names rows prim n i₀ i = n - i
+
+loop-holds : tie.Need-loop-holds Inv-loop μ-loop
+loop-holds c = search-begins _ _ _
+
+row-at-requires : tie.Need-row-at-requires Inv-loop μ-loop
+unfolding row-count
+row-at-requires c κs = omega arith
+
+named-requires : tie.Need-named-requires Inv-loop μ-loop
+unfolding row-count
+named-requires c κs =
+    let l = c .before .before in
+    let s = l .before .before .before in
+    (s .pre .0, rw (c .row-at .ensures) (s .pre .1 .row (l .loop .i) (omega arith) .named))
+
+returns : tie.Need-returns Inv-loop μ-loop
+unfolding row-count
+returns c =
+    let d = c .before .before in
+    let l = d .before .before in
+    search-found _ _ _ _ _ (l .loop .inv) (omega arith) (d .row-at .ensures) (sym (c .before .named .ensures) ∙ c .if1 .taken)
+
+add-i : tie.Need-add-i Inv-loop μ-loop
+add-i c = omega arith
+
+loop-less : tie.Need-loop-less Inv-loop μ-loop
+loop-less c = omega arith
+
+loop-again : tie.Need-loop-again Inv-loop μ-loop
+loop-again c =
+    let d = c .before .before in
+    let l = d .before .before in
+    search-next _ _ _ _ _ (l .loop .inv) (omega arith) (d .row-at .ensures) (sym (c .before .named .ensures) ∙ c .if1 .left)
+
+returns-2 : tie.Need-returns-2 Inv-loop μ-loop
+unfolding row-count
+returns-2 c = search-ends _ _ _ _ (c .before .loop .inv) (omega arith)
+
+pub class-named-spec : {M : Type 1} → statement M
+class-named-spec =
+    tie.close (tie.spec Inv-loop μ-loop loop-holds row-at-requires named-requires returns add-i loop-less loop-again returns-2)

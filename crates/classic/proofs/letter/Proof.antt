@@ -1,0 +1,16 @@
+-- `letter` meets its contract: its table is the letters.
+use mathlib.Core.Path.{refl}
+use borrow.Author.Needs.{needs}
+use Rattle.classic.specs.Classic.{letters}
+use Rattle.classic.proofs.letter.Statement.{statement}
+use Rattle.classic.proofs.letter.Tie as tie
+
+array-read-result : tie.Need-array-read-result
+array-read-result c = search needs
+
+returns : tie.Need-returns
+unfolding letters
+returns c = refl
+
+pub letter-spec : {M : Type 1} → statement M
+letter-spec = tie.close (tie.spec array-read-result returns)

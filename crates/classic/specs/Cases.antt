@@ -1,0 +1,48 @@
+-- 01's dump, as classic text: its reading's tables give 01's eleven lines. It holds by computing.
+-- A reader must believe that the dump (Phd's Cases) and the lines are 01's.
+use mathlib.Core.Path.{_≡_, refl}
+use Prim.Native.Nat.{_*_}
+use mathlib.Core.List.{List, [], _∷_, map}
+use Rattle.phd.specs.Phd.{row-width, limit, bit, highest, same, hash-bytes, Result, reading}
+use Rattle.phd.specs.Cases.{dump, computing as reads-computing}
+use Rattle.layout.specs.Numbers.{within}
+use Rattle.phd_rows.specs.Rows.{row-at, refs-of, name-of, row-count}
+use Rattle.phd_rows.specs.Good.{every, good-vm, good-header, good-hash, good-class, no-name, good-object, good-array, good-primitive, good-kind, good-place, good-span, good-numbers, good-ref, good-refs, good-row, first-bad}
+use Rattle.phd_rows.specs.Judged.{refused, done, judged}
+use Rattle.classic.specs.Classic.{ascii, places-in, places, decimal, capital, numeral, address, first-from, is-class-at, is-class-named, is-lost, found-row, letters, signature, array-type, naming, type-of, bytes-of, word-of, first-line, listed, second-line, row-lines, version, sum-from, nulls, breakdown, totals, ended, lines, text-of, texting}
+use Prim.Native.String.{String}
+
+-- for a proof by computing: whoever unfolds this unfolds all that a text is made of
+unfoldable pub computing : Unit {0}
+unfolding within limit bit highest same hash-bytes row-at refs-of name-of row-count every good-vm good-header good-hash good-class no-name good-object good-array good-primitive good-kind good-place good-span good-numbers good-ref good-refs good-row first-bad refused done judged places-in places decimal capital numeral address first-from is-class-at is-class-named is-lost found-row letters signature array-type naming type-of bytes-of word-of first-line listed second-line row-lines version sum-from nulls breakdown totals ended lines text-of texting
+computing = tt
+
+-- 01's lines
+unfoldable pub said : List String
+said =
+    "// Version: Test"
+    ∷ "0x00001000 [0] CLS A"
+    ∷ "0x00000000"
+    ∷ "0x00001010 [16] OBJ A"
+    ∷ "0x00001000 0x00001020"
+    ∷ "0x00001020 [16] OBJ A"
+    ∷ "0x00001000"
+    ∷ "0x00001030 [24] OBJ [C"
+    ∷ "0x00000000"
+    ∷ "// Breakdown - Classes: 1, Objects: 2, ObjectArrays: 0, PrimitiveArrays: 1"
+    ∷ "// EOF:  Total 'Objects',Refs(null) : 4,1(0)"
+    ∷ []
+
+-- the dump, read with room for four rows and a reference
+abbrev it : Result
+it = reading dump (4 * row-width) 1
+
+-- the text of what was read, with the dump as the name bytes and room for its 280 bytes
+pub as-said : texting (it .facts) dump (it .refs) (it .rows) 280 ≡ done (ended (map ascii said))
+unfolding computing reads-computing dump said
+as-said = refl
+
+-- and with a byte less it is refused
+pub too-small : texting (it .facts) dump (it .refs) (it .rows) 279 ≡ refused 17 0
+unfolding computing reads-computing dump
+too-small = refl

@@ -1,0 +1,115 @@
+// Classic text: the definition of the text (specs/Classic.antt), and the search for class rows. Each function's contract is an
+// equation with the definition.
+ghost use mathlib.Core.Path.{_≡_};
+ghost use Prim.Native.Nat.{_+_, _≤_, _<_};
+ghost use lib.ListN.{length, getD};
+ghost use Rattle.classic.specs.Classic.{letters, signature, first-row, is-class-named, is-lost, class-at, class-named, found-row, lost-reply};
+ghost use Rattle.classic.specs.Fine.{AllShort};
+use phd_rows::Found;
+use phd_rows::Row;
+use phd_rows::Written;
+
+// The signature letters of the primitive types, by type.
+const LETTERS: [u8; 8] = [0x5A, 0x43, 0x46, 0x44, 0x42, 0x53, 0x49, 0x4A];
+
+// The letter of a primitive type.
+pub fn letter(prim: u64) -> u8
+    requires { ⌜ prim < 8 ⌝ }
+    ensures { λ r. ⌜ r ≡ getD letters prim 0 ⌝ }
+{
+    let i = prim as usize;
+    LETTERS[i]
+}
+
+// The first class row with that address.
+pub fn class_at(rows: &[u64], address: u64) -> Found
+    ensures { λ r. ⌜ r ≡ class-at (now (rows .entry)) address ⌝ }
+{
+    let n = rows.len() / phd::ROW;
+    let mut i: usize = 0;
+    while i < n {
+        let row = phd_rows::row_at(rows, i);
+        if (row.kind == 1) & (row.address == address) {
+            return Found::At(i);
+        }
+        i += 1;
+    }
+    Found::Nowhere
+}
+
+// Whether a row is a class row, named as an array of a primitive type is.
+fn named(names: &[u8], row: Row, prim: u64) -> bool
+    requires { ⌜ prim < 8 ⌝ }
+    requires { ⌜ row .place + row .namelen ≤ length (now names) ⌝ }
+    ensures { λ r. ⌜ r ≡ is-class-named (now (names .entry)) (signature prim) row ⌝ }
+{
+    if (row.kind == 1) & (row.namelen == 2) {
+        let at = row.place as usize;
+        return (names[at] == 0x5B) & (names[at + 1] == letter(prim));
+    }
+    false
+}
+
+// The first class row so named.
+pub fn class_named(names: &[u8], rows: &[u64], prim: u64) -> Found
+    requires { ⌜ prim < 8 ⌝ }
+    requires { ⌜ AllShort (now names) (now rows) ⌝ }
+    ensures { λ r. ⌜ r ≡ class-named (now (names .entry)) (now (rows .entry)) (signature prim) ⌝ }
+{
+    let n = rows.len() / phd::ROW;
+    let mut i: usize = 0;
+    while i < n {
+        let row = phd_rows::row_at(rows, i);
+        if named(names, row, prim) {
+            return Found::At(i);
+        }
+        i += 1;
+    }
+    Found::Nowhere
+}
+
+// The class row with that address; where there is none, a row of zeros.
+pub fn class_row(rows: &[u64], address: u64) -> Row
+    ensures { λ r. ⌜ r ≡ found-row (now (rows .entry)) (class-at (now (rows .entry)) address) ⌝ }
+{
+    let found = class_at(rows, address);
+    let Found::At(i) = found else {
+        return Row {
+            kind: 0,
+            address: 0,
+            word: 0,
+            hashkind: 0,
+            hash: 0,
+            first: 0,
+            count: 0,
+            size: 0,
+            len: 0,
+            place: 0,
+            namelen: 0,
+            prim: 0,
+        };
+    };
+    phd_rows::row_at(rows, i)
+}
+
+// 18 with the first object or object array for whose class word there is no class row; else 0.
+pub fn check_classes(rows: &[u64]) -> Written
+    ensures { λ r. ⌜ r ≡ lost-reply (first-row (is-lost (now (rows .entry))) (now (rows .entry))) ⌝ }
+{
+    let n = rows.len() / phd::ROW;
+    let mut i: usize = 0;
+    while i < n {
+        let row = phd_rows::row_at(rows, i);
+        if (row.kind == 2) | (row.kind == 3) {
+            let found = class_at(rows, row.word);
+            let Found::At(_) = found else {
+                return Written {
+                    reply: 18,
+                    place: i,
+                };
+            };
+        }
+        i += 1;
+    }
+    Written { reply: 0, place: 0 }
+}

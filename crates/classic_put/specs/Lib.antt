@@ -1,0 +1,2 @@
+-- Digits: how many digits and bytes the parts of a text are.
+pub mod Digits

@@ -1,0 +1,95 @@
+-- `put` meets its contract: the lines and their ends, one behind the other, are the row's text.
+use mathlib.Core.Path.{_≡_}
+use mathlib.Core.List.{List, [], _∷_, _++_}
+use Prim.Native.Nat.{ℕ}
+use borrow.Author.Needs.{needs}
+use Rattle.layout_put.specs.Puts.{Room, puts-then, room-behind, room-first}
+use Rattle.phd_rows.specs.Rows.{refs-of}
+use Rattle.classic.specs.Classic.{address, listed}
+use Rattle.classic_row.specs.Row.{row-text, entry-line}
+use Rattle.classic_row.proofs.RowLaws.{entry-small, text-is}
+use Rattle.classic_row.proofs.put.Statement.{statement}
+use Rattle.classic_row.proofs.put.Tie as tie
+
+abbrev start : tie.After-word-of → tie.Start
+start c = c .before .before .before .before .before .before
+
+-- the row's text, by what was found out: the first line, its end, and the second line with its end
+abbrev first : tie.After-word-of → List ℕ
+first c = let a = start c .args in entry-line (a .word) (a .names .now) (a .row) (c .before .entry-of .result)
+
+abbrev second : tie.After-word-of → List ℕ
+second c = let a = start c .args in address (a .word) (c .word-of .result) ++ listed (a .word) (refs-of (a .refs .now) (a .row))
+
+abbrev rest : tie.After-word-of → List ℕ
+rest c = second c ++ (0x0A ∷ [])
+
+text : (c : tie.After-word-of) → let a = start c .args in
+    row-text (a .word) (a .names .now) (a .refs .now) (a .rows .now) (a .row) ≡ first c ++ ((0x0A ∷ []) ++ rest c)
+text c = text-is _ _ _ _ _ _ _ (c .before .entry-of .ensures) (c .word-of .ensures)
+
+-- the room for it, and for what is left of it
+room : (c : tie.After-word-of) → Room (start c .args .out .now) (start c .args .at) (first c ++ ((0x0A ∷ []) ++ rest c))
+room c = rw (text c) at (start c .pre .1 .1 .1 .1)
+
+behind-first : (c : tie.After-put-first) → Room (c .put-first .last .0) (c .put-first .result) ((0x0A ∷ []) ++ rest (c .before .before))
+behind-first c = room-behind (c .put-first .ensures) ((0x0A ∷ []) ++ rest (c .before .before)) (room (c .before .before))
+
+behind-byte : (c : tie.After-put-byte) → Room (c .put-byte .last .0) (c .put-byte .result) (rest (c .before .before .before .before .before .before))
+behind-byte c =
+    let f = c .before .before .before .before in
+    room-behind (c .put-byte .ensures) (rest (f .before .before)) (behind-first f)
+
+entry-of-requires : tie.Need-entry-of-requires
+entry-of-requires c κs = search needs
+
+word-of-requires : tie.Need-word-of-requires
+word-of-requires c κs = search needs
+
+put-first-requires : tie.Need-put-first-requires
+put-first-requires c κs =
+    let w = c .before in
+    let p = start w .pre in
+    let e = entry-small _ _ _ _ (p .1 .0) (p .1 .1 .0) (w .before .entry-of .ensures) in
+    (p .0, (p .1 .1 .0 .type, (e .named .0, room-first (start w .args .out .now) _ (first w) ((0x0A ∷ []) ++ rest w) (room w))))
+
+put-byte-requires : tie.Need-put-byte-requires
+put-byte-requires c κs =
+    let f = c .before .before .before in
+    room-first (f .put-first .last .0) _ (0x0A ∷ []) (rest (f .before .before)) (behind-first f)
+
+put-second-requires : tie.Need-put-second-requires
+put-second-requires c κs =
+    let b = c .before .before .before in
+    let w = b .before .before .before .before .before .before in
+    let p = start w .pre in
+    (p .0, (p .1 .1 .1 .0, room-first (b .put-byte .last .0) _ (second w) (0x0A ∷ []) (behind-byte b)))
+
+put-byte-requires-2 : tie.Need-put-byte-requires-2
+put-byte-requires-2 c κs =
+    let g = c .before .before .before in
+    room-behind (g .put-second .ensures) (0x0A ∷ []) (behind-byte (g .before .before .before .before))
+
+same-length : tie.Need-same-length
+same-length c = search needs
+
+returns : tie.Need-returns
+returns c =
+    let h = c .before .before in
+    let g = h .before .before .before .before in
+    let b = g .before .before .before .before in
+    let f = b .before .before .before .before in
+    rw (text (f .before .before)) (puts-then (f .put-first .ensures) (puts-then (b .put-byte .ensures) (puts-then (g .put-second .ensures) (h .put-byte2 .ensures))))
+
+pub put-spec : {M : Type 1} → statement M
+put-spec =
+    tie.close
+    (tie.spec
+    entry-of-requires
+    word-of-requires
+    put-first-requires
+    put-byte-requires
+    put-second-requires
+    put-byte-requires-2
+    same-length
+    returns)

@@ -1,0 +1,115 @@
+// The parts of a row's two lines.
+ghost use mathlib.Core.Path.{_≡_};
+ghost use mathlib.Core.Bool.{Bool};
+ghost use Prim.Native.Nat.{_+_, _≤_, _<_};
+ghost use mathlib.Core.List.{_++_};
+ghost use lib.ListN.{length, take, drop, getD};
+ghost use lib.Dec.{eqb};
+ghost use Rattle.layout_put.specs.Puts.{Puts, Room};
+ghost use Rattle.phd.specs.Shapes.{Word};
+ghost use Rattle.phd_rows.specs.Rows.{refs-of};
+ghost use Rattle.classic.specs.Classic.{array-type, address, listed};
+ghost use Rattle.classic_row.specs.Row.{entry-name, entry-type, mark, entry-line};
+use super::Entry;
+use phd_rows::Row;
+
+// Whether a name begins with `[`.
+fn is_array(names: &[u8], e: Entry) -> bool
+    requires { ⌜ e .place + e .len ≤ length (now names) ⌝ }
+    ensures { λ r. ⌜ r ≡ eqb (getD (entry-name (now (names .entry)) e) 0 0) 0x5B ⌝ }
+{
+    let at = e.place;
+    if e.len == 0 {
+        return false;
+    }
+    names[at] == 0x5B
+}
+
+// How many bytes the type has.
+pub fn type_size(names: &[u8], kind: u64, e: Entry) -> usize
+    requires { ⌜ (e .place + e .len ≤ length (now names)) × (e .len < 65536) ⌝ }
+    ensures { λ r. ⌜ r ≡ length (entry-type (now (names .entry)) kind 0 e) ⌝ }
+{
+    if kind == 4 {
+        return 2;
+    }
+    if kind == 3 {
+        if is_array(names, e) {
+            return 1 + e.len;
+        }
+        return 3 + e.len;
+    }
+    e.len
+}
+
+// Puts the type of an array of objects.
+fn put_array(out: &mut [u8], at: usize, names: &[u8], e: Entry) -> usize
+    requires { ⌜ e .place + e .len ≤ length (now names) ⌝ }
+    requires { ⌜ Room (now out) at (array-type (entry-name (now names) e)) ⌝ }
+    ensures { λ r. ⌜ Puts (now (out .entry)) at (array-type (entry-name (now (names .entry)) e)) (now (out .exit)) r ⌝ }
+{
+    if is_array(names, e) {
+        let inner = classic_put::put_all(out, at, b"[");
+        return classic_put::put_part(out, inner, names, e.place, e.len);
+    }
+    let name = classic_put::put_all(out, at, b"[L");
+    let end = classic_put::put_part(out, name, names, e.place, e.len);
+    classic_put::put_all(out, end, b";")
+}
+
+// Puts the type.
+fn put_type(out: &mut [u8], at: usize, names: &[u8], kind: u64, prim: u64, e: Entry) -> usize
+    requires { ⌜ prim < 8 ⌝ }
+    requires { ⌜ e .place + e .len ≤ length (now names) ⌝ }
+    requires { ⌜ Room (now out) at (entry-type (now names) kind prim e) ⌝ }
+    ensures { λ r. ⌜ Puts (now (out .entry)) at (entry-type (now (names .entry)) kind prim e) (now (out .exit)) r ⌝ }
+{
+    if kind == 4 {
+        let name = classic_put::put_all(out, at, b"[");
+        return classic_put::put_byte(out, name, classic::letter(prim));
+    }
+    if kind == 3 {
+        return put_array(out, at, names, e);
+    }
+    classic_put::put_part(out, at, names, e.place, e.len)
+}
+
+// Puts `CLS` or `OBJ`, and a space.
+fn put_mark(out: &mut [u8], at: usize, kind: u64) -> usize
+    requires { ⌜ Room (now out) at (mark kind) ⌝ }
+    ensures { λ r. ⌜ Puts (now (out .entry)) at (mark kind) (now (out .exit)) r ⌝ }
+{
+    if kind == 1 {
+        return classic_put::put_all(out, at, b"CLS ");
+    }
+    classic_put::put_all(out, at, b"OBJ ")
+}
+
+// Puts the first line.
+pub fn put_first(out: &mut [u8], at: usize, word: u64, names: &[u8], row: Row, e: Entry) -> usize
+    requires { ⌜ Word word ⌝ }
+    requires { ⌜ row .prim < 8 ⌝ }
+    requires { ⌜ e .place + e .len ≤ length (now names) ⌝ }
+    requires { ⌜ Room (now out) at (entry-line word (now names) row e) ⌝ }
+    ensures { λ r. ⌜ Puts (now (out .entry)) at (entry-line word (now (names .entry)) row e) (now (out .exit)) r ⌝ }
+{
+    let a = classic_put::put_address(out, at, word, row.address);
+    let b = classic_put::put_all(out, a, b" [");
+    let c = classic_put::put_decimal(out, b, e.bytes);
+    let d = classic_put::put_all(out, c, b"] ");
+    let f = put_mark(out, d, row.kind);
+    put_type(out, f, names, row.kind, row.prim, e)
+}
+
+// Puts the second line: the class word and the references.
+pub fn put_second(out: &mut [u8], at: usize, word: u64, class: u64, refs: &[u64], row: Row) -> usize
+    requires { ⌜ Word word ⌝ }
+    requires { ⌜ row .first + row .count ≤ length (now refs) ⌝ }
+    requires { ⌜ Room (now out) at (address word class ++ listed word (refs-of (now refs) row)) ⌝ }
+    ensures { λ r. ⌜ Puts (now (out .entry)) at (address word class ++ listed word (refs-of (now (refs .entry)) row)) (now (out .exit)) r ⌝ }
+{
+    let first = row.first as usize;
+    let count = row.count as usize;
+    let next = classic_put::put_address(out, at, word, class);
+    classic_put::put_listed(out, next, word, refs, first, count)
+}

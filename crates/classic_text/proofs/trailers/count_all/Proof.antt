@@ -1,0 +1,58 @@
+-- `count_all` meets its contract: what is counted, and what the rows that are left add to it, is the sum over all.
+use Prim.Native.Nat.{_-_}
+use native.Mathlib.Omega.{arith}
+use Rattle.phd_rows.specs.Rows.{row-count}
+use Rattle.classic_text.specs.Counts.{Counting, counting-begins, counting-next, counting-small, counting-ends}
+use Rattle.classic_text.proofs.trailers.count_all.Statement.{statement}
+use Rattle.classic_text.proofs.trailers.count_all.Tie as tie
+
+abbrev Inv-loop : tie.InvT-loop
+Inv-loop rows n t₀ i₀ t i = Counting rows i t
+
+abbrev μ-loop : tie.MeasureT-loop
+μ-loop rows n t₀ i₀ t i = n - i
+
+loop-holds : tie.Need-loop-holds Inv-loop μ-loop
+loop-holds c = counting-begins _
+
+row-at-requires : tie.Need-row-at-requires Inv-loop μ-loop
+unfolding row-count
+row-at-requires c κs = omega arith
+
+counted-requires : tie.Need-counted-requires Inv-loop μ-loop
+unfolding row-count
+counted-requires c κs =
+    let l = c .before .before in
+    let d = l .before .before in
+    counting-small _ (l .loop .i) _ (l .loop .inv) _ (c .before .loop-test .taken) (c .row-at .ensures) (d .pre)
+
+add-i : tie.Need-add-i Inv-loop μ-loop
+add-i c = omega arith
+
+loop-less : tie.Need-loop-less Inv-loop μ-loop
+loop-less c = omega arith
+
+loop-again : tie.Need-loop-again Inv-loop μ-loop
+unfolding row-count
+loop-again c =
+    let d = c .before in
+    let l = d .before .before in
+    counting-next _ (l .loop .i) _ (l .loop .inv) _ _ (d .before .loop-test .taken) (d .row-at .ensures) (c .counted .ensures)
+
+returns : tie.Need-returns Inv-loop μ-loop
+unfolding row-count
+returns c = let l = c .before in counting-ends _ (l .loop .i) _ (l .loop .inv) (c .loop-test .left)
+
+pub count-all-spec : {M : Type 1} → statement M
+count-all-spec =
+    tie.close
+    (tie.spec
+    Inv-loop
+    μ-loop
+    loop-holds
+    row-at-requires
+    counted-requires
+    add-i
+    loop-less
+    loop-again
+    returns)

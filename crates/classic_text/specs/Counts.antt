@@ -1,0 +1,122 @@
+-- What holds between two rows when rows are counted: of each count, what is counted and what the rows that are left add to it
+-- is the sum over all. It begins so, each row keeps it, and at the end it is what was asked.
+-- Assumes nothing.
+use mathlib.Core.Path.{_≡_, refl}
+use Prim.Native.Nat.{ℕ, zero, suc, _+_, _-_, _≤_, _<_}
+use native.Mathlib.Nat.{sub-zero}
+use native.Mathlib.Numerals.{add-one}
+use native.Mathlib.Omega.{arith}
+use mathlib.Core.Bool.{Bool, true, false}
+use mathlib.Core.List.{List}
+use Rattle.layout.specs.Numbers.{pick}
+use Rattle.phd_rows.specs.Rows.{row-at, row-count}
+use Rattle.phd_rows.specs.declared.Row.{Row}
+use Rattle.classic.specs.Classic.{sum-from, sum, of-kind, one-of, count-of, nulls}
+use Rattle.classic_text.specs.Parts.{tally-of, counted, Small, Few}
+use Rattle.classic_text.specs.declared.trailers.Tally.{Tally}
+
+-- ---- a sum over the rows
+
+module _ (f : Row → ℕ) (rows : List ℕ) where
+  -- over those that are left, from number i on
+  abbrev pub left : ℕ → ℕ
+  left i = sum-from f rows i (row-count rows - i)
+
+  pub sum-next : (i : ℕ) → i < row-count rows → left i ≡ f (row-at rows i) + left (i + 1)
+  unfolding sum-from
+  sum-next i l = let e : row-count rows - i ≡ suc (row-count rows - (i + 1)) = omega arith in rw (e, add-one)
+
+  pub sum-done : (i : ℕ) → row-count rows ≤ i → left i ≡ 0
+  unfolding sum-from
+  sum-done i l = let e : row-count rows - i ≡ 0 = omega arith in rw e
+
+  -- n is the sum over the rows before number i
+  abbrev pub Summed : ℕ → ℕ → Type 0
+  Summed i n = n + left i ≡ sum f rows
+
+  pub summed-begins : Summed 0 0
+  summed-begins = rw sub-zero (omega arith)
+
+  pub summed-next : (i n : ℕ) → i < row-count rows → Summed i n → Summed (i + 1) (n + f (row-at rows i))
+  summed-next i n l z = omega (arith, sum-next i l)
+
+  pub summed-ends : (i n : ℕ) → row-count rows ≤ i → Summed i n → n ≡ sum f rows
+  summed-ends i n l z = omega (arith, sum-done i l)
+
+-- at most one a row
+pub one-most : (b : Bool) → pick b 1 0 ≤ 1
+one-most true = omega arith
+one-most false = omega arith
+
+pub sum-most : (k : ℕ) (rows : List ℕ) (i n : ℕ) → sum-from (one-of k) rows i n ≤ n
+unfolding sum-from
+sum-most k rows i zero = omega arith
+sum-most k rows i (suc n) = omega (arith, one-most (of-kind k (row-at rows i)), sum-most k rows (suc i) n)
+
+-- ---- a tally of the rows before number i
+
+pub record Counting (rows : List ℕ) (i : ℕ) (t : Tally) : Type 0 where
+  pub classes : Summed (one-of 1) rows i (t .classes)
+  pub objects : Summed (one-of 2) rows i (t .objects)
+  pub arrays : Summed (one-of 3) rows i (t .arrays)
+  pub primitives : Summed (one-of 4) rows i (t .primitives)
+  pub passed : t .rows ≡ i
+  pub at-most : i ≤ row-count rows
+  pub refs : Summed count-of rows i (t .refs)
+  pub nulls : t .nulls ≡ nulls rows
+
+pub counting-begins : (rows : List ℕ) → Counting rows 0 (record { classes = 0; objects = 0; arrays = 0; primitives = 0; rows = 0; refs = 0; nulls = 0 })
+unfolding nulls
+counting-begins rows = record {
+  classes = summed-begins (one-of 1) rows;
+  objects = summed-begins (one-of 2) rows;
+  arrays = summed-begins (one-of 3) rows;
+  primitives = summed-begins (one-of 4) rows;
+  passed = refl;
+  at-most = omega arith;
+  refs = summed-begins count-of rows;
+  nulls = refl;
+}
+
+module _ (rows : List ℕ) (i : ℕ) (t : Tally) (z : Counting rows i t) where
+  pub counting-next : (r : Row) (t′ : Tally) → i < row-count rows → r ≡ row-at rows i → t′ ≡ counted t r → Counting rows (i + 1) t′
+  unfolding counted
+  counting-next r t′ l e f = rw (f, e) (record {
+    classes = summed-next (one-of 1) rows i (t .classes) l (z .classes);
+    objects = summed-next (one-of 2) rows i (t .objects) l (z .objects);
+    arrays = summed-next (one-of 3) rows i (t .arrays) l (z .arrays);
+    primitives = summed-next (one-of 4) rows i (t .primitives) l (z .primitives);
+    passed = omega arith;
+    at-most = omega arith;
+    refs = summed-next count-of rows i (t .refs) l (z .refs);
+    nulls = z .nulls;
+  })
+
+  -- no count can leave 64 bits
+  pub counting-small : (r : Row) → i < row-count rows → r ≡ row-at rows i → Few rows → Small t r
+  counting-small r l e few =
+      let n : ℕ = row-count rows in
+      let c = sum-next count-of rows i l in
+      rw e (record {
+        classes = omega (arith, sum-most 1 rows 0 n);
+        objects = omega (arith, sum-most 2 rows 0 n);
+        arrays = omega (arith, sum-most 3 rows 0 n);
+        primitives = omega (arith, sum-most 4 rows 0 n);
+        rows = omega arith;
+        refs = omega arith;
+        count = omega arith;
+      })
+
+  pub counting-ends : row-count rows ≤ i → t ≡ tally-of rows
+  unfolding tally-of
+  counting-ends l =
+      let r : t .rows ≡ row-count rows = omega arith in
+      rw (
+        ← (summed-ends (one-of 1) rows i (t .classes) l (z .classes)),
+        ← (summed-ends (one-of 2) rows i (t .objects) l (z .objects)),
+        ← (summed-ends (one-of 3) rows i (t .arrays) l (z .arrays)),
+        ← (summed-ends (one-of 4) rows i (t .primitives) l (z .primitives)),
+        ← (summed-ends count-of rows i (t .refs) l (z .refs)),
+        ← (z .nulls),
+        ← r,
+      )

@@ -1,0 +1,95 @@
+-- The text in its three parts, as they are sized and put: the version line, the lines of the rows, and the trailers by a tally
+-- of the rows. That they are the text of the definition (Classic) is proved.
+use mathlib.Core.Path.{_≡_, refl}
+use Prim.Native.Nat.{ℕ, _+_, _^_, _≤_, _<_}
+use mathlib.Core.List.{List, [], _∷_, _++_, append-assoc}
+use Rattle.layout.specs.declared.Text.{Text}
+use Rattle.layout_put.specs.Put.{join}
+use Rattle.phd.specs.declared.Facts.{Facts}
+use Rattle.phd_rows.specs.Rows.{row-count}
+use Rattle.phd_rows.specs.declared.Row.{Row}
+use Rattle.classic.specs.Classic.{ascii, decimal, row-lines, version, sum, one-of, count-of, nulls, breakdown, totals, ended, lines, text-of}
+use Rattle.classic_row.specs.Row.{row-size}
+use Rattle.classic_text.specs.declared.trailers.Tally.{Tally}
+
+-- ---- the version line
+
+unfoldable pub version-text : List ℕ → Text → List ℕ
+version-text names t = ended (version names t ∷ [])
+
+-- ---- the rows
+
+unfoldable pub rows-text : ℕ → (names refs rows : List ℕ) → List ℕ
+rows-text word names refs rows = ended (row-lines word names refs rows 0 (row-count rows))
+
+unfoldable pub rows-size : ℕ → (names rows : List ℕ) → ℕ
+rows-size word names rows = sum (row-size word names rows) rows
+
+-- ---- the trailers
+
+unfoldable pub tally-of : List ℕ → Tally
+tally-of rows = record {
+  classes = sum (one-of 1) rows;
+  objects = sum (one-of 2) rows;
+  arrays = sum (one-of 3) rows;
+  primitives = sum (one-of 4) rows;
+  rows = row-count rows;
+  refs = sum count-of rows;
+  nulls = nulls rows;
+}
+
+-- a tally with a row more
+unfoldable pub counted : Tally → Row → Tally
+counted t r = record {
+  classes = t .classes + one-of 1 r;
+  objects = t .objects + one-of 2 r;
+  arrays = t .arrays + one-of 3 r;
+  primitives = t .primitives + one-of 4 r;
+  rows = t .rows + 1;
+  refs = t .refs + count-of r;
+  nulls = t .nulls;
+}
+
+-- no count of it can leave 64 bits
+pub record Small (t : Tally) (r : Row) : Type 0 where
+  pub classes : t .classes < 2 ^ 62
+  pub objects : t .objects < 2 ^ 62
+  pub arrays : t .arrays < 2 ^ 62
+  pub primitives : t .primitives < 2 ^ 62
+  pub rows : t .rows < 2 ^ 62
+  pub refs : t .refs < 2 ^ 62
+  pub count : r .count < 2 ^ 62
+
+-- the rows and references of a table are few
+pub record Few (rows : List ℕ) : Type 0 where
+  pub few-rows : row-count rows ≤ 2 ^ 30
+  pub few-refs : sum count-of rows ≤ 2 ^ 30
+
+unfoldable pub breakdown-by : Tally → List ℕ
+breakdown-by t = join (
+    ascii "// Breakdown - Classes: " ∷ decimal (t .classes)
+    ∷ ascii ", Objects: " ∷ decimal (t .objects)
+    ∷ ascii ", ObjectArrays: " ∷ decimal (t .arrays)
+    ∷ ascii ", PrimitiveArrays: " ∷ decimal (t .primitives) ∷ [])
+
+unfoldable pub totals-by : Tally → List ℕ
+totals-by t = join (
+    ascii "// EOF:  Total 'Objects',Refs(null) : " ∷ decimal (t .rows)
+    ∷ ascii "," ∷ decimal (t .refs)
+    ∷ ascii "(" ∷ decimal (t .nulls) ∷ ascii ")" ∷ [])
+
+unfoldable pub trailers-by : Tally → List ℕ
+trailers-by t = ended (breakdown-by t ∷ totals-by t ∷ [])
+
+-- ---- all of it
+
+-- lines behind lines
+pub ended-append : (ls ms : List (List ℕ)) → ended (ls ++ ms) ≡ ended ls ++ ended ms
+unfolding ended
+ended-append [] ms = refl
+ended-append (l ∷ ls) ms = rw (ended-append ls ms, append-assoc)
+
+pub text-parts : (h : Facts) (names refs rows : List ℕ)
+    → text-of h names refs rows ≡ version-text names (h .vm) ++ (rows-text (h .word) names refs rows ++ trailers-by (tally-of rows))
+unfolding text-of lines version-text rows-text trailers-by breakdown-by totals-by tally-of breakdown totals ended
+text-parts h names refs rows = simp (ended-append, append-assoc)

@@ -1,0 +1,116 @@
+-- The promises about the text, of `texting`, in reading order.
+-- A reader must believe the statements and their records, and those of Firsts. Assumes nothing.
+use mathlib.Core.Path.{_≡_, refl}
+use mathlib.Core.Logic.{_↔_, _⊎_}
+use Prim.Native.Nat.{ℕ, zero, suc, _+_, _*_, _≤_, _<_}
+use native.Mathlib.Omega.{arith}
+use mathlib.Core.Bool.{true, false}
+use mathlib.Core.List.{List, []}
+use lib.ListN.{length, length-append}
+use lib.Dec.{leb}
+use borrow.Author.Tests.{le-leb, lt-leb, leb-true, leb-false}
+use Rattle.phd.specs.declared.Facts.{Facts}
+use Rattle.phd_rows.specs.Rows.{row-count}
+use Rattle.phd_rows.specs.Good.{good-header, bad-of}
+use Rattle.phd_rows.specs.Judged.{Outcome, done, AllRight, Exact as ByTests}
+use Rattle.phd_rows.specs.declared.Found.the-variants.{At, Nowhere}
+use Rattle.classic.specs.Classic.{first-row, is-class-at, class-at, is-lost, row-lines, lines, text-of, texting}
+use Rattle.classic.specs.Fine.{all-linked}
+use Rattle.classic_text.specs.Parts.{version-text, rows-size, tally-of, trailers-by, text-parts}
+use Rattle.classic_text.specs.Sizes.{rows-long}
+use Rattle.classic.specs.Firsts.{First, None, ClassRow, Classless, first-is, none-is, class-row-is, classless-is}
+use Rattle.classic_text.specs.Ways.{by-tests}
+
+-- ---- each reply exactly in its case
+
+-- What holds of what a text of these tables gives, with `room` bytes of output.
+pub record Exact (h : Facts) (names refs rows : List ℕ) (room : ℕ) (w : Outcome) : Type 0 where
+  -- 15: the header is bad
+  pub header : (w .answer .reply ≡ 15) ↔ (good-header h names rows refs ≡ false)
+  -- 16 with the place i: the header is good, and the first bad row is the row i
+  pub row : (i : ℕ) → ((w .answer .reply ≡ 16) × (w .answer .place ≡ i))
+      ↔ ((good-header h names rows refs ≡ true) × (bad-of h names refs rows ≡ At i))
+  -- 18 with the place i: the header is good and no row is bad, and the first row without its class is the row i
+  pub class : (i : ℕ) → ((w .answer .reply ≡ 18) × (w .answer .place ≡ i)) ↔ ((AllRight h names refs rows) × (first-row (is-lost rows) rows ≡ At i))
+  -- 17: the header is good, no row is bad and none lacks its class, and the text is longer than the room
+  pub no-room : (w .answer .reply ≡ 17)
+      ↔ ((AllRight h names refs rows) × (first-row (is-lost rows) rows ≡ Nowhere) × (room < length (text-of h names refs rows)))
+  -- 0: all that is good, and the text fits the room
+  pub done : (w .answer .reply ≡ 0)
+      ↔ ((AllRight h names refs rows) × (first-row (is-lost rows) rows ≡ Nowhere) × (length (text-of h names refs rows) ≤ room))
+  -- there is no other reply
+  pub any : (w .answer .reply ≡ 0) ⊎ ((w .answer .reply ≡ 15) ⊎ ((w .answer .reply ≡ 16) ⊎ ((w .answer .reply ≡ 17) ⊎ (w .answer .reply ≡ 18))))
+  -- 15 and 17 have the place 0
+  pub place-15 : w .answer .reply ≡ 15 → w .answer .place ≡ 0
+  pub place-17 : w .answer .reply ≡ 17 → w .answer .place ≡ 0
+  -- a refusal writes nothing
+  pub nothing : (w .answer .reply ≡ 0 → ⊥) → w .bytes ≡ []
+  -- with 0 the bytes are the text, and the place is how many they are
+  pub bytes : w .answer .reply ≡ 0 → w .bytes ≡ text-of h names refs rows
+  pub place-0 : w .answer .reply ≡ 0 → w .answer .place ≡ length (w .bytes)
+
+-- So it is of any header, any tables and any room.
+pub exact : (h : Facts) (names refs rows : List ℕ) (room : ℕ) → Exact h names refs rows room (texting h names refs rows room)
+unfolding done
+exact h names refs rows room = record {
+  header = t .header;
+  row = t .row;
+  class = λ i. (λ z. let s = t .class i .0 z in ((s .0, s .1), s .2), λ e. t .class i .1 (e .0 .0, e .0 .1, e .1));
+  no-room = (λ z. let s = t .no-room .0 z in ((s .0, s .1), s .2, leb-false _ _ (s .3)), λ e. t .no-room .1 (e .0 .0, e .0 .1, e .1, lt-leb _ _ (e .2)));
+  done = (λ z. let s = t .all-good .0 z in ((s .0, s .1), s .2, leb-true _ _ (s .3)), λ e. t .all-good .1 (e .0 .0, e .0 .1, e .1, le-leb _ _ (e .2)));
+  any = t .any;
+  place-15 = t .place-15;
+  place-17 = t .place-17;
+  nothing = t .nothing;
+  bytes = λ z. rw (t .written z);
+  place-0 = λ z. rw (t .written z);
+}
+  where
+    text : List ℕ
+    text = text-of h names refs rows
+
+    t : ByTests (good-header h names rows refs) (bad-of h names refs rows) (first-row (is-lost rows) rows) (leb (length text) room) text (texting h names refs rows room)
+    t = by-tests h names refs rows room
+
+-- ---- the first row without its class, and the class row of an address
+
+-- The row that is found is the first object or object array for whose class word there is no class row; where no row is found,
+-- none is such.
+pub first-lost : (rows : List ℕ) (i : ℕ) → (first-row (is-lost rows) rows ≡ At i) ↔ First (Classless rows) rows i
+first-lost rows = first-is (Classless rows) (is-lost rows) rows (classless-is rows)
+
+pub none-lost : (rows : List ℕ) → (first-row (is-lost rows) rows ≡ Nowhere) ↔ None (Classless rows) rows
+none-lost rows = none-is (Classless rows) (is-lost rows) rows (classless-is rows)
+
+-- So it is of 18's row.
+pub row-18 : (h : Facts) (names refs rows : List ℕ) (room i : ℕ)
+    → ((texting h names refs rows room .answer .reply ≡ 18) × (texting h names refs rows room .answer .place ≡ i))
+    ↔ ((AllRight h names refs rows) × First (Classless rows) rows i)
+row-18 h names refs rows room i =
+    let x = exact h names refs rows room .class i in
+    (λ z. (x .0 z .0, first-lost rows i .0 (x .0 z .1)), λ e. x .1 (e .0, first-lost rows i .1 (e .1)))
+
+-- The class row of an address is the first that has it; where none is found, there is none.
+pub class-first : (rows : List ℕ) (a i : ℕ) → (class-at rows a ≡ At i) ↔ First (ClassRow a) rows i
+class-first rows a = first-is (ClassRow a) (is-class-at a) rows (class-row-is a)
+
+pub class-none : (rows : List ℕ) (a : ℕ) → (class-at rows a ≡ Nowhere) ↔ None (ClassRow a) rows
+class-none rows a = none-is (ClassRow a) (is-class-at a) rows (class-row-is a)
+
+-- ---- how long the text is
+
+-- The text of good tables is as long as its parts, summed before a byte is put, say.
+pub sized : (h : Facts) (names refs rows : List ℕ) → AllRight h names refs rows
+    → length (text-of h names refs rows) ≡ length (version-text names (h .vm)) + rows-size (h .word) names rows + length (trailers-by (tally-of rows))
+sized h names refs rows a =
+    let l = rows-long (h .word) names refs rows (all-linked h names refs rows a) in
+    rw (text-parts h names refs rows, length-append, length-append, l) (omega arith)
+
+-- Two lines a row, and three: the version and the trailers.
+pub line-count : (h : Facts) (names refs rows : List ℕ) → length (lines h names refs rows) ≡ 2 * row-count rows + 3
+unfolding lines row-lines
+line-count h names refs rows = let e = from 0 (row-count rows) in simp length-append (omega arith)
+  where
+    from : (i n : ℕ) → length (row-lines (h .word) names refs rows i n) ≡ 2 * n
+    from i zero = refl
+    from i (suc n) = let e = from (suc i) n in omega arith

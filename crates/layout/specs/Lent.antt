@@ -1,0 +1,22 @@
+-- Memory that is lent, after a list was stored at its start.
+-- A reader must believe `stored`.
+use mathlib.Core.Path.{_≡_, refl}
+use Prim.Native.Nat.{ℕ, _≤_}
+use native.Mathlib.Nat.{zero-add}
+use mathlib.Core.List.{List, [], _++_}
+use lib.ListN.{length, drop}
+use lib.Seq.{sets, sets-eq}
+
+-- a lent table in which xs was stored from its start; the rest stays as it was
+unfoldable pub stored : List ℕ → List ℕ → List ℕ
+stored table xs = xs ++ drop (length xs) table
+
+-- nothing stored leaves it
+pub stored-none : (table : List ℕ) → stored table [] ≡ table
+unfolding stored
+stored-none table = refl
+
+-- what was stored one number after another, from the place 0 on
+pub stored-whole : (table xs : List ℕ) → length xs ≤ length table → sets table 0 xs ≡ stored table xs
+unfolding stored
+stored-whole table xs l = rw zero-add at (sets-eq xs table 0 (rw zero-add l))

@@ -1,0 +1,151 @@
+-- What the writer and the text give of a header and tables that are lent: the tests in 01's order, 15, 16, 18, 17, and what
+-- each of them answers. A reader must believe the definitions and the statement `Exact`.
+use mathlib.Core.Path.{_≡_, refl, sym, ap, _∙_}
+use mathlib.Core.Logic.{_↔_, _⊎_, inl, inr}
+use Prim.Native.Nat.{ℕ, _≤_}
+use mathlib.Core.Bool.{Bool, true, false}
+use mathlib.Core.List.{List, []}
+use lib.ListN.{length}
+use lib.Seq.{sets}
+use native.Mathlib.Omega.{arith}
+use Rattle.layout.specs.Lent.{stored, stored-none, stored-whole}
+use Rattle.phd.specs.declared.Facts.{Facts}
+use Rattle.phd_rows.specs.Good.{good-header, bad-of}
+use Rattle.phd_rows.specs.declared.Found.{Found}
+use Rattle.phd_rows.specs.declared.Found.the-variants.{At, Nowhere}
+use Rattle.phd_rows.specs.declared.Written.{Written}
+
+-- what is given: the answer, and the bytes written
+pub record Outcome : Type 0 where
+  pub answer : Written
+  pub bytes : List ℕ
+
+-- a refusal writes nothing
+unfoldable pub refused : ℕ → ℕ → Outcome
+refused reply place = record { answer = record { reply = reply; place = place }; bytes = [] }
+
+-- bytes that were written
+unfoldable pub done : List ℕ → Outcome
+done bytes = record { answer = record { reply = 0; place = length bytes }; bytes = bytes }
+
+-- By whether the header is good, by the first bad row, by the first row without its class, and by whether the bytes have room.
+unfoldable pub judged : Bool → Found → Found → Bool → List ℕ → Outcome
+judged false bad lost fits bytes = refused 15 0
+judged true (At i) lost fits bytes = refused 16 i
+judged true Nowhere (At i) fits bytes = refused 18 i
+judged true Nowhere Nowhere false bytes = refused 17 0
+judged true Nowhere Nowhere true bytes = done bytes
+
+-- the header is good, and no row is bad
+abbrev pub AllRight : Facts → (names refs rows : List ℕ) → Type 0
+AllRight h names refs rows = (good-header h names rows refs ≡ true) × (bad-of h names refs rows ≡ Nowhere)
+
+-- ---- each reply exactly in its case
+
+-- Of an outcome w, by the same four tests.
+pub record Exact (good : Bool) (bad lost : Found) (fits : Bool) (bytes : List ℕ) (w : Outcome) : Type 0 where
+  -- 15: the header is bad
+  pub header : (w .answer .reply ≡ 15) ↔ (good ≡ false)
+  -- 16 with the place i: the header is good, and the first bad row is the row i
+  pub row : (i : ℕ) → ((w .answer .reply ≡ 16) × (w .answer .place ≡ i)) ↔ ((good ≡ true) × (bad ≡ At i))
+  -- 18 with the place i: the header is good and no row is bad, and the first row without its class is the row i
+  pub class : (i : ℕ) → ((w .answer .reply ≡ 18) × (w .answer .place ≡ i)) ↔ ((good ≡ true) × (bad ≡ Nowhere) × (lost ≡ At i))
+  -- 17: all that is good, and there is no room
+  pub no-room : (w .answer .reply ≡ 17) ↔ ((good ≡ true) × (bad ≡ Nowhere) × (lost ≡ Nowhere) × (fits ≡ false))
+  -- 0: all that is good, and there is room
+  pub all-good : (w .answer .reply ≡ 0) ↔ ((good ≡ true) × (bad ≡ Nowhere) × (lost ≡ Nowhere) × (fits ≡ true))
+  -- there is no other reply
+  pub any : (w .answer .reply ≡ 0) ⊎ ((w .answer .reply ≡ 15) ⊎ ((w .answer .reply ≡ 16) ⊎ ((w .answer .reply ≡ 17) ⊎ (w .answer .reply ≡ 18))))
+  -- 15 and 17 have the place 0
+  pub place-15 : w .answer .reply ≡ 15 → w .answer .place ≡ 0
+  pub place-17 : w .answer .reply ≡ 17 → w .answer .place ≡ 0
+  -- a refusal writes nothing, and 0 the bytes
+  pub nothing : (w .answer .reply ≡ 0 → ⊥) → w .bytes ≡ []
+  pub written : w .answer .reply ≡ 0 → w ≡ done bytes
+
+-- what cannot be: a test both ways, a row both found and not, two replies
+clash {ℓ} : {P : Type ℓ} → true ≡ false → P
+clash e = let z : _≡_ {A = ℕ} 0 1 = cc in absurd (omega arith)
+
+found {ℓ} : {P : Type ℓ} {i : ℕ} → At i ≡ Nowhere → P
+found e = let z : _≡_ {A = ℕ} 0 1 = cc in absurd (omega arith)
+
+at-same : {i j : ℕ} → At i ≡ At j → i ≡ j
+at-same e = cc
+
+pub exact : (good : Bool) (bad lost : Found) (fits : Bool) (bytes : List ℕ) → Exact good bad lost fits bytes (judged good bad lost fits bytes)
+unfolding judged refused done
+exact false bad lost fits bytes = record {
+  header = (λ _. refl, λ _. refl);
+  row = λ i. (λ z. absurd (omega (arith, z .0)), λ e. clash (cc (e .0)));
+  class = λ i. (λ z. absurd (omega (arith, z .0)), λ e. clash (cc (e .0)));
+  no-room = (λ z. absurd (omega arith), λ e. clash (cc (e .0)));
+  all-good = (λ z. absurd (omega arith), λ e. clash (cc (e .0)));
+  any = inr (inl refl);
+  place-15 = λ _. refl;
+  place-17 = λ _. refl;
+  nothing = λ _. refl;
+  written = λ z. absurd (omega arith);
+}
+exact true (At j) lost fits bytes = record {
+  header = (λ z. absurd (omega arith), λ e. clash e);
+  row = λ i. (λ z. (refl, ap At (z .1)), λ e. (refl, at-same (e .1)));
+  class = λ i. (λ z. absurd (omega (arith, z .0)), λ e. found (e .1));
+  no-room = (λ z. absurd (omega arith), λ e. found (e .1));
+  all-good = (λ z. absurd (omega arith), λ e. found (e .1));
+  any = inr (inr (inl refl));
+  place-15 = λ z. absurd (omega arith);
+  place-17 = λ z. absurd (omega arith);
+  nothing = λ _. refl;
+  written = λ z. absurd (omega arith);
+}
+exact true Nowhere (At j) fits bytes = record {
+  header = (λ z. absurd (omega arith), λ e. clash e);
+  row = λ i. (λ z. absurd (omega (arith, z .0)), λ e. found (sym (e .1)));
+  class = λ i. (λ z. (refl, refl, ap At (z .1)), λ e. (refl, at-same (e .2)));
+  no-room = (λ z. absurd (omega arith), λ e. found (e .2));
+  all-good = (λ z. absurd (omega arith), λ e. found (e .2));
+  any = inr (inr (inr (inr refl)));
+  place-15 = λ z. absurd (omega arith);
+  place-17 = λ z. absurd (omega arith);
+  nothing = λ _. refl;
+  written = λ z. absurd (omega arith);
+}
+exact true Nowhere Nowhere false bytes = record {
+  header = (λ z. absurd (omega arith), λ e. clash e);
+  row = λ i. (λ z. absurd (omega (arith, z .0)), λ e. found (sym (e .1)));
+  class = λ i. (λ z. absurd (omega (arith, z .0)), λ e. found (sym (e .2)));
+  no-room = (λ _. (refl, refl, refl, refl), λ _. refl);
+  all-good = (λ z. absurd (omega arith), λ e. clash (sym (e .3)));
+  any = inr (inr (inr (inl refl)));
+  place-15 = λ z. absurd (omega arith);
+  place-17 = λ _. refl;
+  nothing = λ _. refl;
+  written = λ z. absurd (omega arith);
+}
+exact true Nowhere Nowhere true bytes = record {
+  header = (λ z. absurd (omega arith), λ e. clash e);
+  row = λ i. (λ z. absurd (omega (arith, z .0)), λ e. found (sym (e .1)));
+  class = λ i. (λ z. absurd (omega (arith, z .0)), λ e. found (sym (e .2)));
+  no-room = (λ z. absurd (omega arith), λ e. clash (e .3));
+  all-good = (λ _. (refl, refl, refl, refl), λ _. refl);
+  any = inl refl;
+  place-15 = λ z. absurd (omega arith);
+  place-17 = λ z. absurd (omega arith);
+  nothing = λ z. absurd (z refl);
+  written = λ _. refl;
+}
+
+-- ---- the answer and the output, as a function gives them
+
+-- a refusal leaves the output as it was
+pub refused-keeps : (out : List ℕ) (w : Outcome) (reply place : ℕ) → w ≡ refused reply place
+    → (record { reply = reply; place = place } ≡ w .answer) × (out ≡ stored out (w .bytes))
+unfolding refused
+refused-keeps out w reply place e = rw (e, stored-none) (refl, refl)
+
+-- bytes that were put from the place 0 on stand at its start
+pub done-stores : (out out₁ bytes : List ℕ) (size : ℕ) (w : Outcome) → w ≡ done bytes → size ≡ length bytes → length bytes ≤ length out → out₁ ≡ sets out 0 bytes
+    → (record { reply = 0; place = size } ≡ w .answer) × (out₁ ≡ stored out (w .bytes))
+unfolding done
+done-stores out out₁ bytes size w e s l f = rw e (rw s refl, f ∙ stored-whole out bytes l)

@@ -1,0 +1,31 @@
+-- `fill` is safe and ends: the table keeps its length, and the measure is how many numbers are left. Assumes nothing.
+use mathlib.Core.Path.{_≡_}
+use Prim.Native.Nat.{_-_}
+use borrow.Author.Needs.{needs}
+use lib.ListN.{length}
+use Rattle.text_samples.proofs.changes.fill.Statement.{statement}
+use Rattle.text_samples.proofs.changes.fill.Tie as tie
+
+abbrev Inv-loop : tie.InvT-loop
+Inv-loop s from table numbers₀ i₀ numbers i = length numbers ≡ length numbers₀
+
+abbrev μ-loop : tie.MeasureT-loop
+μ-loop s from table numbers₀ i₀ numbers i = length numbers₀ - i
+
+pub fill-spec : {M : Type 1} → statement M
+fill-spec =
+    tie.close
+    (tie.spec
+    Inv-loop
+    μ-loop
+    (λ c. search needs)
+    (λ c. search needs)
+    (λ c. search needs)
+    (λ c κs. search needs)
+    (λ c. search needs)
+    (λ c. search needs)
+    (λ c. search needs)
+    (λ c. search needs)
+    (λ c. search needs)
+    (λ c. search needs)
+    (λ c. search needs))
