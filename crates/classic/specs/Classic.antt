@@ -20,7 +20,6 @@ use Rattle.phd_rows.specs.Judged.{Outcome, judged}
 use Rattle.phd_rows.specs.declared.Row.{Row}
 use Rattle.phd_rows.specs.declared.Found.{Found}
 use Rattle.phd_rows.specs.declared.Found.the-variants.{At, Nowhere}
-use Rattle.phd_rows.specs.declared.Written.{Written}
 
 -- ---- characters and numbers
 
@@ -43,6 +42,10 @@ places n = places-in n n
 -- a number in base ten
 unfoldable pub decimal : ℕ → List ℕ
 decimal n = digits 10 (places n) n
+
+-- a number behind a text
+abbrev pub figure : String → ℕ → List ℕ
+figure before n = ascii before ++ decimal n
 
 -- a small letter as a capital; a digit as it is
 unfoldable pub capital : ℕ → ℕ
@@ -92,11 +95,6 @@ nowhere Nowhere = true
 
 unfoldable pub is-lost : List ℕ → Row → Bool
 is-lost rows r = both (either (of-kind 2 r) (of-kind 3 r)) (nowhere (class-at rows (r .word)))
-
--- what the search for such a row answers: 18 with its number, else 0
-unfoldable pub lost-reply : Found → Written
-lost-reply (At i) = record { reply = 18; place = i }
-lost-reply Nowhere = record { reply = 0; place = 0 }
 
 -- the row that was found; where none was, all its numbers are 0
 abbrev pub no-row : Row
@@ -156,8 +154,8 @@ word-of names rows r = pick (of-kind 4 r) (found-row rows (class-named names row
 unfoldable pub first-line : ℕ → (names rows : List ℕ) → Row → List ℕ
 first-line word names rows r = join (
     address word (r .address)
-    ∷ ascii " [" ∷ decimal (bytes-of rows r) ∷ ascii "] "
-    ∷ pick (of-kind 1 r) (ascii "CLS ") (ascii "OBJ ")
+    ∷ figure " [" (bytes-of rows r)
+    ∷ pick (of-kind 1 r) (ascii "] CLS ") (ascii "] OBJ ")
     ∷ type-of names rows r ∷ [])
 
 -- references, each behind a space
@@ -201,16 +199,16 @@ nulls rows = 0
 -- the two trailers: rows by kind; all rows, references and nulls
 unfoldable pub breakdown : List ℕ → List ℕ
 breakdown rows = join (
-    ascii "// Breakdown - Classes: " ∷ decimal (sum (one-of 1) rows)
-    ∷ ascii ", Objects: " ∷ decimal (sum (one-of 2) rows)
-    ∷ ascii ", ObjectArrays: " ∷ decimal (sum (one-of 3) rows)
-    ∷ ascii ", PrimitiveArrays: " ∷ decimal (sum (one-of 4) rows) ∷ [])
+    figure "// Breakdown - Classes: " (sum (one-of 1) rows)
+    ∷ figure ", Objects: " (sum (one-of 2) rows)
+    ∷ figure ", ObjectArrays: " (sum (one-of 3) rows)
+    ∷ figure ", PrimitiveArrays: " (sum (one-of 4) rows) ∷ [])
 
 unfoldable pub totals : List ℕ → List ℕ
 totals rows = join (
-    ascii "// EOF:  Total 'Objects',Refs(null) : " ∷ decimal (row-count rows)
-    ∷ ascii "," ∷ decimal (sum count-of rows)
-    ∷ ascii "(" ∷ decimal (nulls rows) ∷ ascii ")" ∷ [])
+    figure "// EOF:  Total 'Objects',Refs(null) : " (row-count rows)
+    ∷ figure "," (sum count-of rows)
+    ∷ figure "(" (nulls rows) ∷ ascii ")" ∷ [])
 
 -- ---- the text
 

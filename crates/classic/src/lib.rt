@@ -3,7 +3,8 @@
 ghost use mathlib.Core.Path.{_≡_};
 ghost use Prim.Native.Nat.{_+_, _≤_, _<_};
 ghost use lib.ListN.{length, getD};
-ghost use Rattle.classic.specs.Classic.{letters, signature, first-row, is-class-named, is-lost, class-at, class-named, found-row, lost-reply};
+ghost use Rattle.phd_rows.specs.Judged.{classed};
+ghost use Rattle.classic.specs.Classic.{letters, signature, first-row, is-class-named, is-lost, class-at, class-named, found-row};
 ghost use Rattle.classic.specs.Fine.{AllShort};
 use phd_rows::Found;
 use phd_rows::Row;
@@ -94,7 +95,7 @@ pub fn class_row(rows: &[u64], address: u64) -> Row
 
 // 18 with the first object or object array for whose class word there is no class row; else 0.
 pub fn check_classes(rows: &[u64]) -> Written
-    ensures { λ r. ⌜ r ≡ lost-reply (first-row (is-lost (now (rows .entry))) (now (rows .entry))) ⌝ }
+    ensures { λ r. ⌜ r ≡ classed (first-row (is-lost (now (rows .entry))) (now (rows .entry))) ⌝ }
 {
     let n = rows.len() / phd::ROW;
     let mut i: usize = 0;

@@ -2,7 +2,7 @@
 // the output and gives the place after them; the bytes are a definition of Classic.antt.
 ghost use mathlib.Core.Path.{_≡_};
 ghost use Prim.Native.Nat.{_+_, _≤_, _<_};
-ghost use mathlib.Core.List.{[], _∷_};
+ghost use mathlib.Core.List.{[], _∷_, _++_};
 ghost use lib.ListN.{length, take, drop};
 ghost use Rattle.io.specs.Digits.{glyph as glyphOf};
 ghost use Rattle.layout_put.specs.Puts.{Puts, Room};
@@ -21,7 +21,7 @@ fn glyph(d: u64) -> u8
 }
 
 // Puts the last k digits of a number.
-pub fn put_digits(out: &mut [u8], at: usize, base: u64, k: usize, n: u64) -> usize
+fn put_digits(out: &mut [u8], at: usize, base: u64, k: usize, n: u64) -> usize
     requires { ⌜ (1 < base) × (base ≤ 16) ⌝ }
     requires { ⌜ Room (now out) at (numeral base k n) ⌝ }
     ensures { λ r. ⌜ Puts (now (out .entry)) at (numeral base k n) (now (out .exit)) r ⌝ }
@@ -50,7 +50,7 @@ pub fn places(n: u64) -> usize
 }
 
 // Puts a number in base ten.
-pub fn put_decimal(out: &mut [u8], at: usize, n: u64) -> usize
+fn put_decimal(out: &mut [u8], at: usize, n: u64) -> usize
     requires { ⌜ Room (now out) at (decimal n) ⌝ }
     ensures { λ r. ⌜ Puts (now (out .entry)) at (decimal n) (now (out .exit)) r ⌝ }
 {
@@ -83,6 +83,15 @@ pub fn put_all(out: &mut [u8], at: usize, bytes: &[u8]) -> usize
     ensures { λ r. ⌜ Puts (now (out .entry)) at (now (bytes .entry)) (now (out .exit)) r ⌝ }
 {
     put_part(out, at, bytes, 0, bytes.len())
+}
+
+// Puts a number in base ten behind a text.
+pub fn put_figure(out: &mut [u8], at: usize, before: &[u8], n: u64) -> usize
+    requires { ⌜ Room (now out) at (now before ++ decimal n) ⌝ }
+    ensures { λ r. ⌜ Puts (now (out .entry)) at (now (before .entry) ++ decimal n) (now (out .exit)) r ⌝ }
+{
+    let digits = put_all(out, at, before);
+    put_decimal(out, digits, n)
 }
 
 // Puts an address, for W.

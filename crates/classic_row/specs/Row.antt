@@ -16,7 +16,7 @@ use Rattle.phd_rows.specs.Kept.{length-refs-of, length-name-of}
 use Rattle.phd_rows.specs.declared.Row.{Row}
 use Rattle.phd_rows.specs.declared.Found.{Found}
 use Rattle.phd_rows.specs.declared.Found.the-variants.{At, Nowhere}
-use Rattle.classic.specs.Classic.{ascii, places, decimal, address, class-at, of-kind, no-row, found-row, signature, array-type, naming, type-of, bytes-of, first-line, second-line, ended}
+use Rattle.classic.specs.Classic.{ascii, places, figure, address, class-at, of-kind, no-row, found-row, signature, array-type, naming, type-of, bytes-of, first-line, second-line, ended}
 use Rattle.classic.specs.Search.{found-below}
 use Rattle.classic.specs.Fine.{Short, AllShort}
 use Rattle.classic_put.specs.Digits.{length-decimal, places-most, length-address, length-listed}
@@ -26,7 +26,7 @@ use Rattle.classic_row.specs.declared.Entry.{Entry}
 unfoldable pub entry : List ℕ → Row → Entry
 entry rows r = record { bytes = bytes-of rows r; place = naming rows r .place; len = naming rows r .namelen }
 
--- the name, the type, `CLS` or `OBJ`, and the first line, by an entry
+-- the name, the type, `CLS` or `OBJ` behind the bytes, and the first line, by an entry
 abbrev pub entry-name : List ℕ → Entry → List ℕ
 entry-name names e = take (e .len) (drop (e .place) names)
 
@@ -34,11 +34,11 @@ unfoldable pub entry-type : List ℕ → ℕ → ℕ → Entry → List ℕ
 entry-type names kind prim e = pick (eqb kind 4) (signature prim) (pick (eqb kind 3) (array-type (entry-name names e)) (entry-name names e))
 
 unfoldable pub mark : ℕ → List ℕ
-mark kind = pick (eqb kind 1) (ascii "CLS ") (ascii "OBJ ")
+mark kind = pick (eqb kind 1) (ascii "] CLS ") (ascii "] OBJ ")
 
 unfoldable pub entry-line : ℕ → List ℕ → Row → Entry → List ℕ
 entry-line word names r e = join (
-    address word (r .address) ∷ ascii " [" ∷ decimal (e .bytes) ∷ ascii "] " ∷ mark (r .kind) ∷ entry-type names (r .kind) (r .prim) e ∷ [])
+    address word (r .address) ∷ figure " [" (e .bytes) ∷ mark (r .kind) ∷ entry-type names (r .kind) (r .prim) e ∷ [])
 
 -- a row's two lines, as bytes
 unfoldable pub row-text : ℕ → (names refs rows : List ℕ) → Row → List ℕ
@@ -107,11 +107,11 @@ type-most names kind e = by-kind (eqb kind 4) (eqb kind 3) (eqb (getD (entry-nam
     by-kind false true false name = simp length-append (omega arith)
     by-kind false false d name = omega arith
 
-length-mark : (kind : ℕ) → length (mark kind) ≡ 4
+length-mark : (kind : ℕ) → length (mark kind) ≡ 6
 unfolding mark
 length-mark kind = by-kind (eqb kind 1)
   where
-    by-kind : (b : Bool) → length (pick b (ascii "CLS ") (ascii "OBJ ")) ≡ 4
+    by-kind : (b : Bool) → length (pick b (ascii "] CLS ") (ascii "] OBJ ")) ≡ 6
     by-kind true = refl
     by-kind false = refl
 

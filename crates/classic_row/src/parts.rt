@@ -1,9 +1,8 @@
 // The parts of a row's two lines.
 ghost use mathlib.Core.Path.{_≡_};
-ghost use mathlib.Core.Bool.{Bool};
 ghost use Prim.Native.Nat.{_+_, _≤_, _<_};
 ghost use mathlib.Core.List.{_++_};
-ghost use lib.ListN.{length, take, drop, getD};
+ghost use lib.ListN.{length, getD};
 ghost use lib.Dec.{eqb};
 ghost use Rattle.layout_put.specs.Puts.{Puts, Room};
 ghost use Rattle.phd.specs.Shapes.{Word};
@@ -74,15 +73,15 @@ fn put_type(out: &mut [u8], at: usize, names: &[u8], kind: u64, prim: u64, e: En
     classic_put::put_part(out, at, names, e.place, e.len)
 }
 
-// Puts `CLS` or `OBJ`, and a space.
+// Puts the end of the bytes, and `CLS` or `OBJ`.
 fn put_mark(out: &mut [u8], at: usize, kind: u64) -> usize
     requires { ⌜ Room (now out) at (mark kind) ⌝ }
     ensures { λ r. ⌜ Puts (now (out .entry)) at (mark kind) (now (out .exit)) r ⌝ }
 {
     if kind == 1 {
-        return classic_put::put_all(out, at, b"CLS ");
+        return classic_put::put_all(out, at, b"] CLS ");
     }
-    classic_put::put_all(out, at, b"OBJ ")
+    classic_put::put_all(out, at, b"] OBJ ")
 }
 
 // Puts the first line.
@@ -94,11 +93,9 @@ pub fn put_first(out: &mut [u8], at: usize, word: u64, names: &[u8], row: Row, e
     ensures { λ r. ⌜ Puts (now (out .entry)) at (entry-line word (now (names .entry)) row e) (now (out .exit)) r ⌝ }
 {
     let a = classic_put::put_address(out, at, word, row.address);
-    let b = classic_put::put_all(out, a, b" [");
-    let c = classic_put::put_decimal(out, b, e.bytes);
-    let d = classic_put::put_all(out, c, b"] ");
-    let f = put_mark(out, d, row.kind);
-    put_type(out, f, names, row.kind, row.prim, e)
+    let b = classic_put::put_figure(out, a, b" [", e.bytes);
+    let c = put_mark(out, b, row.kind);
+    put_type(out, c, names, row.kind, row.prim, e)
 }
 
 // Puts the second line: the class word and the references.

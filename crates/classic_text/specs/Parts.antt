@@ -8,7 +8,7 @@ use Rattle.layout_put.specs.Put.{join}
 use Rattle.phd.specs.declared.Facts.{Facts}
 use Rattle.phd_rows.specs.Rows.{row-count}
 use Rattle.phd_rows.specs.declared.Row.{Row}
-use Rattle.classic.specs.Classic.{ascii, decimal, row-lines, version, sum, one-of, count-of, nulls, breakdown, totals, ended, lines, text-of}
+use Rattle.classic.specs.Classic.{ascii, figure, row-lines, version, sum, one-of, count-of, nulls, breakdown, totals, ended, lines, text-of}
 use Rattle.classic_row.specs.Row.{row-size}
 use Rattle.classic_text.specs.declared.trailers.Tally.{Tally}
 
@@ -67,16 +67,16 @@ pub record Few (rows : List ℕ) : Type 0 where
 
 unfoldable pub breakdown-by : Tally → List ℕ
 breakdown-by t = join (
-    ascii "// Breakdown - Classes: " ∷ decimal (t .classes)
-    ∷ ascii ", Objects: " ∷ decimal (t .objects)
-    ∷ ascii ", ObjectArrays: " ∷ decimal (t .arrays)
-    ∷ ascii ", PrimitiveArrays: " ∷ decimal (t .primitives) ∷ [])
+    figure "// Breakdown - Classes: " (t .classes)
+    ∷ figure ", Objects: " (t .objects)
+    ∷ figure ", ObjectArrays: " (t .arrays)
+    ∷ figure ", PrimitiveArrays: " (t .primitives) ∷ [])
 
 unfoldable pub totals-by : Tally → List ℕ
 totals-by t = join (
-    ascii "// EOF:  Total 'Objects',Refs(null) : " ∷ decimal (t .rows)
-    ∷ ascii "," ∷ decimal (t .refs)
-    ∷ ascii "(" ∷ decimal (t .nulls) ∷ ascii ")" ∷ [])
+    figure "// EOF:  Total 'Objects',Refs(null) : " (t .rows)
+    ∷ figure "," (t .refs)
+    ∷ figure "(" (t .nulls) ∷ ascii ")" ∷ [])
 
 unfoldable pub trailers-by : Tally → List ℕ
 trailers-by t = ended (breakdown-by t ∷ totals-by t ∷ [])
@@ -89,7 +89,12 @@ unfolding ended
 ended-append [] ms = refl
 ended-append (l ∷ ls) ms = rw (ended-append ls ms, append-assoc)
 
+-- the trailers by the tally of the rows are those of the rows
+trailers-is : (rows : List ℕ) → trailers-by (tally-of rows) ≡ ended (breakdown rows ∷ totals rows ∷ [])
+unfolding trailers-by breakdown-by totals-by tally-of breakdown totals
+trailers-is rows = refl
+
 pub text-parts : (h : Facts) (names refs rows : List ℕ)
     → text-of h names refs rows ≡ version-text names (h .vm) ++ (rows-text (h .word) names refs rows ++ trailers-by (tally-of rows))
-unfolding text-of lines version-text rows-text trailers-by breakdown-by totals-by tally-of breakdown totals ended
-text-parts h names refs rows = simp (ended-append, append-assoc)
+unfolding text-of lines version-text rows-text ended
+text-parts h names refs rows = rw (trailers-is rows) (simp (ended-append, append-assoc))

@@ -6,7 +6,6 @@ ghost use Rattle.layout.specs.Lent.{stored};
 ghost use Rattle.phd_rows.specs.Judged.{AllRight};
 ghost use Rattle.phd_rows.specs.declared.Found.the-variants.{Nowhere};
 ghost use Rattle.classic.specs.Classic.{first-row, is-lost, texting};
-use phd_rows::Found;
 use phd_rows::Header;
 use phd_rows::Written;
 
@@ -39,40 +38,19 @@ fn fit(header: Header, rows: &[u64], refs: &[u64], names: &[u8], out: &mut [u8])
     }
 }
 
-// Puts the text of good tables, if every object and object array has its class and there is room for it.
-fn classed(header: Header, rows: &[u64], refs: &[u64], names: &[u8], out: &mut [u8]) -> Written
-    requires { ⌜ AllRight header (now names) (now refs) (now rows) ⌝ }
-    ensures is { λ r. ⌜ r ≡ texting header (now (names .entry)) (now (refs .entry)) (now (rows .entry)) (length (now (out .entry))) .answer ⌝ }
-    ensures out { λ _. ⌜ now (out .exit) ≡ stored (now (out .entry)) (texting header (now (names .entry)) (now (refs .entry)) (now (rows .entry)) (length (now (out .entry))) .bytes) ⌝ }
-{
-    let checked = classic::check_classes(rows);
-    if checked.reply == 18 {
-        return checked;
-    }
-    fit(header, rows, refs, names, out)
-}
-
 // Writes the whole rows of a table and their references as classic text, to the start of the output. What the output holds
 // behind it stays as it was, and all of it where the text is refused.
 pub fn text(header: Header, rows: &[u64], refs: &[u64], names: &[u8], out: &mut [u8]) -> Written
     ensures is { λ r. ⌜ r ≡ texting header (now (names .entry)) (now (refs .entry)) (now (rows .entry)) (length (now (out .entry))) .answer ⌝ }
     ensures out { λ _. ⌜ now (out .exit) ≡ stored (now (out .entry)) (texting header (now (names .entry)) (now (refs .entry)) (now (rows .entry)) (length (now (out .entry))) .bytes) ⌝ }
 {
-    if phd_rows::header_good(header, names, rows, refs) {
-        match phd_rows::find_bad(header, names, refs, rows) {
-            Found::At(i) => {
-                return Written {
-                    reply: 16,
-                    place: i,
-                };
-            }
-            Found::Nowhere => {
-                return classed(header, rows, refs, names, out);
-            }
-        }
+    let checked = phd_rows::check(header, names, refs, rows);
+    if checked.reply != 0 {
+        return checked;
     }
-    Written {
-        reply: 15,
-        place: 0,
+    let classed = classic::check_classes(rows);
+    if classed.reply != 0 {
+        return classed;
     }
+    fit(header, rows, refs, names, out)
 }

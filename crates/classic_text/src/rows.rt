@@ -1,7 +1,6 @@
 // The lines of the rows: how many bytes they have, and putting them, row after row.
 ghost use mathlib.Core.Path.{_≡_};
-ghost use Prim.Native.Nat.{_+_, _^_, _≤_, _<_};
-ghost use lib.ListN.{length};
+ghost use Prim.Native.Nat.{_+_, _^_, _<_};
 ghost use Rattle.layout_put.specs.Puts.{Puts, Room};
 ghost use Rattle.phd.specs.Shapes.{Word};
 ghost use Rattle.classic.specs.Fine.{AllShort, AllLinked};

@@ -1,6 +1,6 @@
 // The two trailers: the counts in them, how many bytes they have with their ends, and putting them.
 ghost use mathlib.Core.Path.{_≡_};
-ghost use Prim.Native.Nat.{_+_, _≤_, _<_};
+ghost use Prim.Native.Nat.{_+_, _<_};
 ghost use lib.ListN.{length};
 ghost use Rattle.layout.specs.Numbers.{pick};
 ghost use Rattle.layout_put.specs.Puts.{Puts, Room};
@@ -87,14 +87,10 @@ fn put_breakdown(out: &mut [u8], at: usize, t: Tally) -> usize
     requires { ⌜ Room (now out) at (breakdown-by t) ⌝ }
     ensures { λ r. ⌜ Puts (now (out .entry)) at (breakdown-by t) (now (out .exit)) r ⌝ }
 {
-    let a = classic_put::put_all(out, at, b"// Breakdown - Classes: ");
-    let b = classic_put::put_decimal(out, a, t.classes);
-    let c = classic_put::put_all(out, b, b", Objects: ");
-    let d = classic_put::put_decimal(out, c, t.objects);
-    let e = classic_put::put_all(out, d, b", ObjectArrays: ");
-    let f = classic_put::put_decimal(out, e, t.arrays);
-    let g = classic_put::put_all(out, f, b", PrimitiveArrays: ");
-    classic_put::put_decimal(out, g, t.primitives)
+    let a = classic_put::put_figure(out, at, b"// Breakdown - Classes: ", t.classes);
+    let b = classic_put::put_figure(out, a, b", Objects: ", t.objects);
+    let c = classic_put::put_figure(out, b, b", ObjectArrays: ", t.arrays);
+    classic_put::put_figure(out, c, b", PrimitiveArrays: ", t.primitives)
 }
 
 // Puts the second trailer without its end.
@@ -102,13 +98,10 @@ fn put_totals(out: &mut [u8], at: usize, t: Tally) -> usize
     requires { ⌜ Room (now out) at (totals-by t) ⌝ }
     ensures { λ r. ⌜ Puts (now (out .entry)) at (totals-by t) (now (out .exit)) r ⌝ }
 {
-    let a = classic_put::put_all(out, at, b"// EOF:  Total 'Objects',Refs(null) : ");
-    let b = classic_put::put_decimal(out, a, t.rows);
-    let c = classic_put::put_all(out, b, b",");
-    let d = classic_put::put_decimal(out, c, t.refs);
-    let e = classic_put::put_all(out, d, b"(");
-    let f = classic_put::put_decimal(out, e, t.nulls);
-    classic_put::put_all(out, f, b")")
+    let a = classic_put::put_figure(out, at, b"// EOF:  Total 'Objects',Refs(null) : ", t.rows);
+    let b = classic_put::put_figure(out, a, b",", t.refs);
+    let c = classic_put::put_figure(out, b, b"(", t.nulls);
+    classic_put::put_all(out, c, b")")
 }
 
 // Puts both, and gives the place after them.

@@ -1,6 +1,6 @@
 // The version line: how many bytes it has with its end, and putting it.
 ghost use mathlib.Core.Path.{_≡_};
-ghost use Prim.Native.Nat.{_+_, _≤_, _<_};
+ghost use Prim.Native.Nat.{_+_};
 ghost use lib.ListN.{length};
 ghost use Rattle.layout_put.specs.Puts.{Puts, Room};
 ghost use Rattle.phd_rows.specs.Kept.{Vm};

@@ -36,6 +36,13 @@ judged true Nowhere (At i) fits bytes = refused 18 i
 judged true Nowhere Nowhere false bytes = refused 17 0
 judged true Nowhere Nowhere true bytes = done bytes
 
+-- What is answered by the first two tests alone, and by the third: 0 where they hold, and there is nothing to write.
+unfoldable pub checked : Bool → Found → Written
+checked good bad = judged good bad Nowhere true [] .answer
+
+unfoldable pub classed : Found → Written
+classed lost = judged true Nowhere lost true [] .answer
+
 -- the header is good, and no row is bad
 abbrev pub AllRight : Facts → (names refs rows : List ℕ) → Type 0
 AllRight h names refs rows = (good-header h names rows refs ≡ true) × (bad-of h names refs rows ≡ Nowhere)
@@ -135,6 +142,34 @@ exact true Nowhere Nowhere true bytes = record {
   nothing = λ z. absurd (z refl);
   written = λ _. refl;
 }
+
+-- ---- the tests one after another, as a function makes them
+
+-- with 0 the first two hold; else the answer is that of all tests
+pub checked-right : (good : Bool) (bad : Found) (w : Written) → w ≡ checked good bad → w .reply ≡ 0 → (good ≡ true) × (bad ≡ Nowhere)
+unfolding checked judged refused
+checked-right false bad w e z = absurd (omega (arith, rw e at z))
+checked-right true (At i) w e z = absurd (omega (arith, rw e at z))
+checked-right true Nowhere w e z = (refl, refl)
+
+pub checked-stops : (good : Bool) (bad lost : Found) (fits : Bool) (bytes : List ℕ) (w : Written) → w ≡ checked good bad → (w .reply ≡ 0 → ⊥)
+    → judged good bad lost fits bytes ≡ refused (w .reply) (w .place)
+unfolding checked judged refused done
+checked-stops false bad lost fits bytes w e z = rw e
+checked-stops true (At i) lost fits bytes w e z = rw e
+checked-stops true Nowhere lost fits bytes w e z = absurd (z (rw e))
+
+-- so for the third, where the first two hold
+pub classed-right : (lost : Found) (w : Written) → w ≡ classed lost → w .reply ≡ 0 → lost ≡ Nowhere
+unfolding classed judged refused
+classed-right (At i) w e z = absurd (omega (arith, rw e at z))
+classed-right Nowhere w e z = refl
+
+pub classed-stops : (lost : Found) (fits : Bool) (bytes : List ℕ) (w : Written) → w ≡ classed lost → (w .reply ≡ 0 → ⊥)
+    → judged true Nowhere lost fits bytes ≡ refused (w .reply) (w .place)
+unfolding classed judged refused done
+classed-stops (At i) fits bytes w e z = rw e
+classed-stops Nowhere fits bytes w e z = absurd (z (rw e))
 
 -- ---- the answer and the output, as a function gives them
 

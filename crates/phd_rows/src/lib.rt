@@ -4,7 +4,8 @@ ghost use mathlib.Core.Path.{_≡_};
 ghost use Prim.Native.Nat.{_<_};
 ghost use Rattle.phd.specs.Shapes.{Word};
 ghost use Rattle.phd_rows.specs.Rows.{row-at, row-count};
-ghost use Rattle.phd_rows.specs.Good.{good-vm, good-header, first-bad};
+ghost use Rattle.phd_rows.specs.Good.{good-vm, good-header, first-bad, bad-of};
+ghost use Rattle.phd_rows.specs.Judged.{checked};
 use layout::Text;
 use phd::Facts;
 
@@ -91,7 +92,7 @@ fn vm_good(names: &[u8], vm: Text) -> bool
 }
 
 // Whether a header may be written, and not too many rows and reference numbers are lent.
-pub fn header_good(facts: Facts, names: &[u8], rows: &[u64], refs: &[u64]) -> bool
+fn header_good(facts: Facts, names: &[u8], rows: &[u64], refs: &[u64]) -> bool
     ensures { λ r. ⌜ r ≡ good-header facts (now (names .entry)) (now (rows .entry)) (now (refs .entry)) ⌝ }
 {
     ((facts.word == 32) | (facts.word == 64))
@@ -101,7 +102,7 @@ pub fn header_good(facts: Facts, names: &[u8], rows: &[u64], refs: &[u64]) -> bo
 }
 
 // The first bad row.
-pub fn find_bad(facts: Facts, names: &[u8], refs: &[u64], rows: &[u64]) -> Found
+fn find_bad(facts: Facts, names: &[u8], refs: &[u64], rows: &[u64]) -> Found
     requires { ⌜ Word (facts .word) ⌝ }
     ensures { λ r. ⌜ r ≡ first-bad facts (now (names .entry)) (now (refs .entry)) (now (rows .entry)) 0 0 (row-count (now (rows .entry))) ⌝ }
 {
@@ -137,4 +138,24 @@ pub fn find_bad(facts: Facts, names: &[u8], refs: &[u64], rows: &[u64]) -> Found
         return Found::At(i);
     }
     Found::Nowhere
+}
+
+// What the writer and the text ask first: 15 for a bad header, 16 with the first bad row, else 0.
+pub fn check(header: Header, names: &[u8], refs: &[u64], rows: &[u64]) -> Written
+    ensures { λ r. ⌜ r ≡ checked (good-header header (now (names .entry)) (now (rows .entry)) (now (refs .entry))) (bad-of header (now (names .entry)) (now (refs .entry)) (now (rows .entry))) ⌝ }
+{
+    if header_good(header, names, rows, refs) {
+        let bad = find_bad(header, names, refs, rows);
+        let Found::At(i) = bad else {
+            return Written { reply: 0, place: 0 };
+        };
+        return Written {
+            reply: 16,
+            place: i,
+        };
+    }
+    Written {
+        reply: 15,
+        place: 0,
+    }
 }

@@ -4,7 +4,7 @@ use mathlib.Core.Path.{_≡_, refl, ap}
 use mathlib.Core.Logic.{_⊎_, inl, inr}
 use Prim.Native.Nat.{ℕ, zero, suc, _+_, _*_, _≤_}
 use mathlib.Core.Bool.{Bool, true, false}
-use mathlib.Core.List.{List, []}
+use mathlib.Core.List.{List}
 use lib.ListN.{length, length-append}
 use lib.Dec.{leb}
 use native.Mathlib.Omega.{arith}
@@ -14,9 +14,10 @@ use Rattle.phd.specs.Phd.{limit, row-width}
 use Rattle.phd.specs.declared.Facts.{Facts}
 use Rattle.phd_rows.specs.Rows.{bare, refs-of, rec-of, row-at, recs-from, row-count, recs}
 use Rattle.phd_rows.specs.Good.{good-header, first-bad, bad-of}
-use Rattle.phd_rows.specs.Judged.{Outcome, refused, done, judged, AllRight, Exact, exact}
+use Rattle.phd_rows.specs.Judged.{Outcome, refused, done, judged, checked, checked-stops, AllRight, Exact, exact}
 use Rattle.phd_rows.specs.Kept.{both-left, both-right, good-of, lent-of, none-bad, word-of, vm-of}
-use Rattle.phd_rows.specs.declared.Found.the-variants.{At, Nowhere}
+use Rattle.phd_rows.specs.declared.Found.the-variants.{Nowhere}
+use Rattle.phd_rows.specs.declared.Written.{Written}
 use Rattle.phd_write.specs.Write.{has-room, writing}
 use Rattle.phd_write.specs.Terms.{dump-of, TooLong, all-refs}
 use Rattle.phd_write.specs.Within.{AllGood}
@@ -107,13 +108,10 @@ module _ (h : Facts) (names refs rows : List ℕ) (room : ℕ) where
   unfolding writing
   by-tests = exact _ _ _ _ _
 
-  pub bad-header : good-header h names rows refs ≡ false → given ≡ refused 15 0
-  unfolding writing judged
-  bad-header e = rw e
-
-  pub bad-row : good-header h names rows refs ≡ true → (i : ℕ) → bad-of h names refs rows ≡ At i → given ≡ refused 16 i
-  unfolding writing judged
-  bad-row e i f = rw (e, f)
+  -- by the first two tests
+  pub check-stops : (w : Written) → w ≡ checked (good-header h names rows refs) (bad-of h names refs rows) → (w .reply ≡ 0 → ⊥) → given ≡ refused (w .reply) (w .place)
+  unfolding writing
+  check-stops w e z = checked-stops _ _ _ _ _ w e z
 
   pub no-room : AllRight h names refs rows → TooLong room dump → given ≡ refused 17 0
   unfolding writing judged

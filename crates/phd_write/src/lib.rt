@@ -8,7 +8,6 @@ ghost use Rattle.phd_rows.specs.Rows.{row-count};
 ghost use Rattle.phd_rows.specs.Good.{good-header, first-bad};
 ghost use Rattle.phd_rows.specs.declared.Found.the-variants.{Nowhere};
 ghost use Rattle.phd_write.specs.Write.{writing};
-use phd_rows::Found;
 use phd_rows::Header;
 use phd_rows::Written;
 
@@ -50,21 +49,9 @@ pub fn write(header: Header, rows: &[u64], refs: &[u64], names: &[u8], out: &mut
     ensures is { λ r. ⌜ r ≡ writing header (now (names .entry)) (now (refs .entry)) (now (rows .entry)) (length (now (out .entry))) .answer ⌝ }
     ensures out { λ _. ⌜ now (out .exit) ≡ stored (now (out .entry)) (writing header (now (names .entry)) (now (refs .entry)) (now (rows .entry)) (length (now (out .entry))) .bytes) ⌝ }
 {
-    if phd_rows::header_good(header, names, rows, refs) {
-        match phd_rows::find_bad(header, names, refs, rows) {
-            Found::At(i) => {
-                return Written {
-                    reply: 16,
-                    place: i,
-                };
-            }
-            Found::Nowhere => {
-                return fit(header, rows, refs, names, out);
-            }
-        }
+    let checked = phd_rows::check(header, names, refs, rows);
+    if checked.reply != 0 {
+        return checked;
     }
-    Written {
-        reply: 15,
-        place: 0,
-    }
+    fit(header, rows, refs, names, out)
 }

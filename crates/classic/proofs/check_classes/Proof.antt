@@ -6,7 +6,8 @@ use Prim.Native.Nat.{_-_}
 use native.Mathlib.Omega.{arith}
 use borrow.Author.Needs.{needs}
 use Rattle.phd_rows.specs.Rows.{row-count}
-use Rattle.classic.specs.Classic.{nowhere, is-lost, lost-reply}
+use Rattle.phd_rows.specs.Judged.{refused, done, judged, classed}
+use Rattle.classic.specs.Classic.{nowhere, is-lost}
 use Rattle.classic.specs.Search.{Searched, search-begins, search-found, search-next, search-ends}
 use Rattle.classic.proofs.Laws.{lost-test}
 use Rattle.classic.proofs.check_classes.Statement.{statement}
@@ -35,13 +36,13 @@ enum-told-2 : tie.Need-enum-told-2 Inv-loop μ-loop
 enum-told-2 c = search needs
 
 returns : tie.Need-returns Inv-loop μ-loop
-unfolding row-count lost-reply
+unfolding row-count classed judged refused done
 returns c =
     let f = c .before .before in
     let d = f .before .before .before .before in
     let l = d .before .before in
     let t = lost-test _ (d .row-at .result) _ true (f .class-at .ensures) (f .before .if1 .taken) ∙ ap nowhere (c .enum-told2 .given .1) in
-    ap lost-reply (search-found _ _ _ _ _ (l .loop .inv) (omega arith) (d .row-at .ensures) t)
+    ap classed (search-found _ _ _ _ _ (l .loop .inv) (omega arith) (d .row-at .ensures) t)
 
 add-i : tie.Need-add-i Inv-loop μ-loop
 add-i c = omega arith
@@ -58,8 +59,8 @@ loop-again c =
     (⊎-elim (λ o. test _ true (o .1 .ensures) (o .0 .taken) ∙ ap nowhere (o .3 .given .1)) (λ o. test _ false refl (o .left)) (c .if1 .came))
 
 returns-2 : tie.Need-returns-2 Inv-loop μ-loop
-unfolding row-count lost-reply
-returns-2 c = ap lost-reply (search-ends _ _ _ _ (c .before .loop .inv) (omega arith))
+unfolding row-count classed judged refused done
+returns-2 c = ap classed (search-ends _ _ _ _ (c .before .loop .inv) (omega arith))
 
 pub check-classes-spec : {M : Type 1} → statement M
 check-classes-spec =

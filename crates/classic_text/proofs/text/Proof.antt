@@ -1,55 +1,43 @@
--- `text` meets its contract: the header, then the rows, then the classes and the room.
+-- `text` meets its contract: the header and the rows, then the classes, then the room.
 use borrow.Author.Needs.{needs}
-use mathlib.Core.Path.{_≡_, sym, _∙_}
-use mathlib.Core.Bool.{true}
-use Rattle.phd_rows.specs.Good.{good-header}
-use Rattle.phd_rows.specs.Judged.{refused-keeps}
-use Rattle.phd_rows.specs.Kept.{word-of}
-use Rattle.classic_text.specs.Ways.{bad-header, bad-row}
+use Rattle.phd_rows.specs.Judged.{AllRight, checked-right, classed-right, refused-keeps}
+use Rattle.classic_text.specs.Ways.{check-stops, class-stops}
 use Rattle.classic_text.proofs.text.Statement.{statement}
 use Rattle.classic_text.proofs.text.Tie as tie
 
--- the header was found good
-good : (c : tie.Then1) → let a = c .before .before .before .before .before .before .args in good-header (a .header) (a .names .now) (a .rows .now) (a .refs .now) ≡ true
-good c = sym (c .before .header-good .ensures) ∙ c .if1 .taken
+-- the header and the rows were found good
+right : (c : tie.Else1) → let a = c .before .before .before .before .before .before .before .args in AllRight (a .header) (a .names .now) (a .refs .now) (a .rows .now)
+right c = checked-right _ _ _ (c .before .before .check .ensures) (c .if1 .left)
 
-header-good-requires : tie.Need-header-good-requires
-header-good-requires c κs = search needs
-
-find-bad-requires : tie.Need-find-bad-requires
-find-bad-requires c κs = word-of _ _ _ _ (good c)
-
-enum-known-i : tie.Need-enum-known-i
-enum-known-i c = search needs
+check-requires : tie.Need-check-requires
+check-requires c κs = search needs
 
 returns : tie.Need-returns
-returns c = refused-keeps _ _ 16 _ (bad-row _ _ _ _ _ (good (c .before .before .before .before)) _ (sym (c .before .before .before .find-bad .ensures) ∙ c .before .i .given .1))
+returns c = refused-keeps _ _ _ _ (check-stops _ _ _ _ _ _ (c .before .before .check .ensures) (c .if1 .taken))
 
-enum-told : tie.Need-enum-told
-enum-told c = search needs
+check-classes-requires : tie.Need-check-classes-requires
+check-classes-requires c κs = search needs
 
-classed-requires : tie.Need-classed-requires
-classed-requires c κs = (good (c .before .before .before .before), sym (c .before .before .before .find-bad .ensures) ∙ c .before .enum-told .given .1)
+returns-2 : tie.Need-returns-2
+returns-2 c = refused-keeps _ _ _ _ (class-stops _ _ _ _ _ (right (c .before .before .before)) _ (c .before .before .check-classes .ensures) (c .if2 .taken))
+
+fit-requires : tie.Need-fit-requires
+fit-requires c κs = (right (c .before .before .before .before), classed-right _ _ (c .before .before .before .check-classes .ensures) (c .before .if2 .left))
 
 same-length : tie.Need-same-length
 same-length c = search needs
 
-returns-2 : tie.Need-returns-2
-returns-2 c = search needs
-
 returns-3 : tie.Need-returns-3
-returns-3 c = refused-keeps _ _ 15 0 (bad-header _ _ _ _ _ (sym (c .before .header-good .ensures) ∙ c .if1 .left))
+returns-3 c = search needs
 
 pub text-spec : {M : Type 1} → statement M
 text-spec =
     tie.close
     (tie.spec
-    header-good-requires
-    find-bad-requires
-    enum-known-i
+    check-requires
     returns
-    enum-told
-    classed-requires
-    same-length
+    check-classes-requires
     returns-2
+    fit-requires
+    same-length
     returns-3)
