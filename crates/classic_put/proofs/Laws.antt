@@ -3,7 +3,7 @@ use mathlib.Core.Path.{_≡_, ap, _∙_}
 use mathlib.Core.List.{List, [], _∷_, _++_, map-append}
 use Prim.Native.Nat.{ℕ, suc, _+_, _-_, _/_, _%_, _≤_, _<_}
 use native.Mathlib.Omega.{arith}
-use lib.ListN.{length, take, drop, getD, set, length-take, length-drop}
+use lib.ListN.{length, take, drop, getD, set}
 use lib.Seq.{sets}
 use borrow.Author.Tests.{lt-ltb, le-ltb}
 use Rattle.io.specs.Digits.{glyph}
@@ -45,9 +45,6 @@ in-ten n k e = rw (e, numeral-ten)
 -- ---- parts of others
 
 module _ (l : List ℕ) (at n : ℕ) (room : at + n ≤ length l) where
-  pub length-part : length (take n (drop at l)) ≡ n
-  length-part = simp (length-take, length-drop) (omega arith)
-
   -- the next of references, and those behind it
   pub listed-next : (word i : ℕ) → i < n
       → listed word (take (n - i) (drop (at + i) l))

@@ -1,6 +1,6 @@
 -- Numbers (bytes, two's complement, exact sums), Layout (the language in which records are laid out, and its laws) and
--- Fields (the kinds of field that dumps are made of), and Lent (lent memory after a list was stored). Then what holds of every layout: Cuts (more bytes, fewer bytes) and
--- Values (what is given, what is refused).
+-- Fields (the kinds of field that dumps are made of), and Lent (lent memory after a list was stored, and a part of it). Then
+-- what holds of every layout: Cuts (more bytes, fewer bytes) and Values (what is given, what is refused).
 pub mod Numbers
 pub mod Layout
 pub mod Fields

@@ -1,7 +1,7 @@
 -- What a function leaves that puts bytes at a place of an output, and that what is put by several, one behind the other, is
 -- put as one. A reader must believe `Puts`.
 use mathlib.Core.Path.{_≡_, refl, _∙_}
-use mathlib.Core.List.{List, [], _++_, append-nil}
+use mathlib.Core.List.{List, [], _++_}
 use Prim.Native.Nat.{ℕ, _+_, _≤_}
 use native.Mathlib.Omega.{arith}
 use lib.ListN.{length, length-append}
@@ -33,10 +33,6 @@ module _ {out : List ℕ} {at : ℕ} {xs : List ℕ} {out₁ : List ℕ} {next :
       let a = p .place in
       let b = q .place in
       record { out = behind out at next xs ys (p .out) (p .place) (q .out); place = simp length-append (omega arith) }
-
-  -- the last of several
-  pub puts-last : Puts out at (xs ++ []) out₁ next
-  puts-last = rw append-nil p
 
   -- the room for what comes behind them
   pub room-behind : (ys : List ℕ) → Room out at (xs ++ ys) → Room out₁ next ys

@@ -7,9 +7,10 @@ use native.Mathlib.Omega.{arith}
 use mathlib.Core.Bool.{Bool, true, false}
 use mathlib.Core.List.{List, [], _∷_}
 use lib.Dec.{ltb, eqb}
-use lib.ListN.{length, getD, length-take, length-drop}
+use lib.ListN.{length, getD}
 use borrow.Author.Tests.{leb-true, ltb-true, eqb-true, eqb-false, not-true}
 use Rattle.layout.specs.Numbers.{pick, both, within}
+use Rattle.layout.specs.Lent.{length-part}
 use Rattle.layout.specs.declared.Text.{Text}
 use Rattle.phd.specs.Phd.{highest, hash-bytes}
 use Rattle.phd.specs.Shapes.{Word}
@@ -179,10 +180,10 @@ module _ (h : Facts) (names refs : List ℕ) (index : ℕ) (r : Row) (g : good-r
         most = leb-true _ _ (p 1);
         word = leb-true _ _ (p 2);
         first = first-by h names refs index r numbers-at;
-        count = simp (length-take, length-drop) (omega arith);
+        count = length-part refs (r .first) (r .count) (l .span);
         few = l .few;
         refs = refs-good _ _ (every-at _ g 1);
-        namelen = simp (length-take, length-drop) (omega arith);
+        namelen = length-part names (r .place) (r .namelen) (l .named);
         all-hashed = λ e. eqb-true _ _ (rw e at hk);
         not-all = λ e. ltb-true _ _ (rw e at hk);
         hash = ltb-true _ _ (both-right k b (n 2));
@@ -237,13 +238,13 @@ vm-lent names t g = record {
 -- ---- how many bytes and references
 
 pub length-text : (names : List ℕ) (t : Text) → Vm names t → t .there ≡ true → length (vm-text names t) ≡ t .len
-length-text names t v e = let l = v .inside e in simp (length-take, length-drop) (omega arith)
+length-text names t v e = length-part names (t .place) (t .len) (v .inside e)
 
 -- a row's references and its name, which lie within what is lent, are as long as the row says
 pub length-refs-of : (refs : List ℕ) (r : Row) → r .first + r .count ≤ length refs → length (refs-of refs r) ≡ r .count
 unfolding refs-of
-length-refs-of refs r h = simp (length-take, length-drop) (omega arith)
+length-refs-of refs r h = length-part refs (r .first) (r .count) h
 
 pub length-name-of : (names : List ℕ) (r : Row) → r .place + r .namelen ≤ length names → length (name-of names r) ≡ r .namelen
 unfolding name-of
-length-name-of names r h = simp (length-take, length-drop) (omega arith)
+length-name-of names r h = length-part names (r .place) (r .namelen) h

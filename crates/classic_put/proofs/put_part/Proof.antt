@@ -2,7 +2,7 @@
 use borrow.Author.Needs.{needs}
 use mathlib.Core.Path.{sym, ap}
 use Prim.Native.Nat.{ℕ, _+_}
-use Rattle.classic_put.proofs.Laws.{length-part}
+use Rattle.layout.specs.Lent.{length-part}
 use Rattle.classic_put.proofs.put_part.Statement.{statement}
 use Rattle.classic_put.proofs.put_part.Tie as tie
 
