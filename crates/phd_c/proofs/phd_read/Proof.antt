@@ -1,0 +1,28 @@
+-- `phd_read` meets its contract: the answer, the tables and the facts are those of `read`.
+use borrow.Author.Needs.{needs}
+use mathlib.Core.Path.{refl}
+use Rattle.phd_read.specs.Answer.{answer}
+use Rattle.phd_c.proofs.phd_read.Statement.{statement}
+use Rattle.phd_c.proofs.phd_read.Tie as tie
+
+read-requires : tie.Need-read-requires
+read-requires c κs = search needs
+
+of-reading-requires : tie.Need-of-reading-requires
+of-reading-requires c κs = search needs
+
+same-length : tie.Need-same-length
+same-length c = search needs
+
+same-length-2 : tie.Need-same-length-2
+same-length-2 c = search needs
+
+returns : tie.Need-returns
+unfolding answer
+returns c =
+    let r = c .before .before .before .before .before .read .ensures in
+    rw (c .of-reading .ensures, r .0) (refl, (r .1 .0, (r .1 .1, refl)))
+
+pub phd-read-spec : {M : Type 1} → statement M
+phd-read-spec =
+    tie.close (tie.spec read-requires of-reading-requires same-length same-length-2 returns)

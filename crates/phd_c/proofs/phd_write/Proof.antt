@@ -1,0 +1,26 @@
+-- `phd_write` meets its contract: the answer, the bytes and the facts are those of `write`, called with the header that the numbers say.
+use borrow.Author.Needs.{needs}
+use mathlib.Core.Path.{refl}
+use Rattle.phd_c.proofs.phd_write.Statement.{statement}
+use Rattle.phd_c.proofs.phd_write.Tie as tie
+
+header-of-requires : tie.Need-header-of-requires
+header-of-requires c κs = search needs
+
+write-requires : tie.Need-write-requires
+write-requires c κs = search needs
+
+of-written-requires : tie.Need-of-written-requires
+of-written-requires c κs = search needs
+
+same-length : tie.Need-same-length
+same-length c = search needs
+
+returns : tie.Need-returns
+returns c =
+    let w = c .before .before .before .write .ensures in
+    rw (← c .before .before .before .before .before .header-of .ensures, c .of-written .ensures, w .0) (refl, (w .1, refl))
+
+pub phd-write-spec : {M : Type 1} → statement M
+phd-write-spec =
+    tie.close (tie.spec header-of-requires write-requires of-written-requires same-length returns)

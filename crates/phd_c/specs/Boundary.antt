@@ -1,0 +1,38 @@
+-- How a header and an answer stand as numbers at the C boundary.
+-- A reader must believe these lines.
+use mathlib.Core.Bool.{Bool}
+use mathlib.Core.List.{List, [], _∷_}
+use Prim.Native.Nat.{ℕ}
+use lib.Dec.{ltb}
+use lib.ListN.{getD}
+use Rattle.layout.specs.Numbers.{pick}
+use Rattle.phd.specs.declared.Facts.{Facts}
+use Rattle.phd_read.specs.declared.Reading.{Reading}
+use Rattle.phd_rows.specs.declared.Written.{Written}
+
+-- a flag as a number
+abbrev pub flag : Bool → ℕ
+flag b = pick b 1 0
+
+-- the header that six numbers say: W, all hashed, from OpenJ9, and whether a VM string is there, its place and its length; a
+-- flag is set where its number is not 0
+unfoldable pub header : List ℕ → Facts
+header l =
+    let set : ℕ → Bool = λ i. ltb 0 (getD l i 0) in
+    record {
+      word = getD l 0 0;
+      hashed = set 1;
+      openj9 = set 2;
+      vm = record { there = set 3; place = getD l 4 0; len = getD l 5 0 };
+    }
+
+-- the numbers of a reading's answer: reply, place, rows, references, and the header facts
+unfoldable pub read-facts : Reading → List ℕ
+read-facts r =
+    let f : Facts = r .facts in
+    r .reply ∷ r .place ∷ r .rows ∷ r .refs ∷ f .word ∷ flag (f .hashed) ∷ flag (f .openj9) ∷ flag (f .vm .there) ∷ f .vm .place ∷ f .vm .len
+    ∷ 0 ∷ 0 ∷ 0 ∷ 0 ∷ 0 ∷ 0 ∷ []
+
+-- the numbers of a writing's answer: reply and place
+unfoldable pub written-facts : Written → List ℕ
+written-facts w = w .reply ∷ w .place ∷ 0 ∷ 0 ∷ 0 ∷ 0 ∷ 0 ∷ 0 ∷ 0 ∷ 0 ∷ 0 ∷ 0 ∷ 0 ∷ 0 ∷ 0 ∷ 0 ∷ []

@@ -1,0 +1,2 @@
+-- Boundary says how a header and an answer stand as numbers.
+pub mod Boundary

@@ -1,0 +1,167 @@
+//! How fast the proved library is, beside the plain implementation, on the same input and in the same run. Prints a table of
+//! times and ratios; run by hand, in a release build.
+
+mod heap;
+
+use heap::{Heap, HEADER};
+use phd_host::{library, plain};
+use std::time::{Duration, Instant};
+
+/// The least times of one size, by what was done.
+struct Times {
+    records: usize,
+    dump: usize,
+    tables: usize,
+    read: [Duration; 2],
+    write: [Duration; 2],
+    copy: Duration,
+    text: Option<Duration>,
+}
+
+type Read = fn(&[u8], &mut [u64], &mut [u64], &mut [u64; 16]) -> u64;
+type Write = fn(&[u64; 6], &[u64], &[u64], &[u8], &mut [u8], &mut [u64; 16]) -> u64;
+
+const READS: [Read; 2] = [library::read, plain::read];
+const WRITES: [Write; 2] = [library::write, plain::write];
+
+/// The least of a time and how long `work` takes.
+fn least(best: &mut Duration, work: impl FnOnce()) {
+    let start = Instant::now();
+    work();
+    *best = (*best).min(start.elapsed());
+}
+
+/// Times both sides' reading and writing of a heap in turn, `rounds` times, and holds what they made against each other.
+fn measure(n: usize, rounds: usize, with_text: bool) -> Times {
+    let heap = Heap::of(n);
+    let mut dump = vec![0; 64 + 40 * n + heap.names.len() + 10 * heap.refs.len()];
+    let mut facts = [0; 16];
+    let reply = library::write(
+        &HEADER,
+        &heap.rows,
+        &heap.refs,
+        &heap.names,
+        &mut dump,
+        &mut facts,
+    );
+    assert_eq!(reply, 0, "the heap is written");
+    dump.truncate(facts[1] as usize);
+    let mut rows = vec![1; heap.rows.len()];
+    let mut refs = vec![1; heap.refs.len()];
+    let mut out = vec![1; dump.len()];
+    let mut times = Times {
+        records: n,
+        dump: dump.len(),
+        tables: 8 * (rows.len() + refs.len()),
+        read: [Duration::MAX; 2],
+        write: [Duration::MAX; 2],
+        copy: Duration::MAX,
+        text: None,
+    };
+    for _ in 0..rounds {
+        for side in 0..2 {
+            least(&mut times.read[side], || {
+                READS[side](&dump, &mut rows, &mut refs, &mut facts);
+            });
+            assert_eq!(
+                facts[..4],
+                [0, dump.len() as u64, n as u64, refs.len() as u64]
+            );
+            assert_eq!(refs, heap.refs);
+            least(&mut times.write[side], || {
+                WRITES[side](&HEADER, &rows, &refs, &dump, &mut out, &mut facts);
+            });
+            assert_eq!(facts[..2], [0, dump.len() as u64]);
+            assert!(out == dump, "what is written anew is the dump");
+        }
+        least(&mut times.copy, || {
+            rows.copy_from_slice(&heap.rows);
+            refs.copy_from_slice(&heap.refs);
+        });
+        std::hint::black_box((&rows, &refs));
+    }
+    if with_text {
+        times.text = Some(text_time(&heap));
+    }
+    times
+}
+
+/// How long the text of a heap takes, once.
+fn text_time(heap: &Heap) -> Duration {
+    let mut out = vec![0; 4096 + 100 * (heap.rows.len() / library::ROW) + 20 * heap.refs.len()];
+    let mut facts = [0; 16];
+    let mut time = Duration::MAX;
+    least(&mut time, || {
+        let reply = library::text(
+            &HEADER,
+            &heap.rows,
+            &heap.refs,
+            &heap.names,
+            &mut out,
+            &mut facts,
+        );
+        assert_eq!(reply, 0, "the text is written");
+    });
+    time
+}
+
+/// Nanoseconds for each of `n` records.
+fn each(time: Duration, n: usize) -> f64 {
+    time.as_nanos() as f64 / n as f64
+}
+
+fn line(t: &Times) {
+    let side = |pair: &[Duration; 2]| {
+        let (ours, theirs) = (each(pair[0], t.records), each(pair[1], t.records));
+        format!("{ours:.1} | {theirs:.1} | {:.2}", ours / theirs)
+    };
+    let text = t
+        .text
+        .map_or("-".to_string(), |d| format!("{:.3} s", d.as_secs_f64()));
+    println!(
+        "| {} | {} | {} | {} | {} | {:.1} | {} |",
+        t.records,
+        t.dump,
+        t.tables,
+        side(&t.read),
+        side(&t.write),
+        each(t.copy, t.records),
+        text
+    );
+}
+
+/// The time for a record at the largest size over that at 100,000.
+fn growth(all: &[Times], pick: fn(&Times) -> Duration) -> Option<f64> {
+    let at = all.iter().find(|t| t.records == 100_000)?;
+    let last = all.last()?;
+    Some(each(pick(last), last.records) / each(pick(at), at.records))
+}
+
+fn main() {
+    let sizes: Vec<usize> = std::env::args()
+        .skip(1)
+        .filter_map(|a| a.parse().ok())
+        .collect();
+    let sizes = if sizes.is_empty() {
+        vec![10_000, 100_000, 1_000_000, 10_000_000]
+    } else {
+        sizes
+    };
+    println!("nanoseconds a record, the least of several rounds; a ratio below 1 means that the proved library is faster");
+    println!("| records | dump bytes | table bytes | read: library | plain | ratio | write: library | plain | ratio | copy of the tables | text |");
+    println!("|---|---|---|---|---|---|---|---|---|---|---|");
+    let mut all = Vec::new();
+    for n in sizes {
+        let rounds = (30_000_000 / n).clamp(5, 300);
+        let times = measure(n, rounds, n <= 1_000_000);
+        line(&times);
+        all.push(times);
+    }
+    if let (Some(read), Some(write), Some(copy)) = (
+        growth(&all, |t| t.read[0]),
+        growth(&all, |t| t.write[0]),
+        growth(&all, |t| t.copy),
+    ) {
+        println!("a record at the largest size over one at 100000: read {read:.2}, write {write:.2}, copy {copy:.2}");
+    }
+}

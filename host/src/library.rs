@@ -1,0 +1,118 @@
+//! The proved library behind its C boundary, `include/phd.h`. The functions here hand slices on and decide nothing.
+
+/// The numbers of a row.
+pub const ROW: usize = 12;
+
+/// What an operation answers: 0 reply, 1 place, 2 rows, 3 references, 4 W, 5 all hashed, 6 from OpenJ9, 7 VM string there,
+/// 8 its place, 9 its length. After a write or a text only the first two count.
+pub type Facts = [u64; 16];
+
+/// A header to write: W, all hashed, from OpenJ9, VM string there, its place and its length in the name bytes.
+pub type Header = [u64; 6];
+
+/// How the library takes a slice: a pointer and a length, as two words.
+mod boundary {
+    extern "C" {
+        pub fn phd_read(
+            dump: *const u8,
+            dump_len: usize,
+            rows: *mut u64,
+            rows_len: usize,
+            refs: *mut u64,
+            refs_len: usize,
+            facts: *mut [u64; 16],
+        ) -> u64;
+        pub fn phd_write(
+            header: *const [u64; 6],
+            rows: *const u64,
+            rows_len: usize,
+            refs: *const u64,
+            refs_len: usize,
+            names: *const u8,
+            names_len: usize,
+            out: *mut u8,
+            out_len: usize,
+            facts: *mut [u64; 16],
+        ) -> u64;
+        pub fn phd_text(
+            header: *const [u64; 6],
+            rows: *const u64,
+            rows_len: usize,
+            refs: *const u64,
+            refs_len: usize,
+            names: *const u8,
+            names_len: usize,
+            out: *mut u8,
+            out_len: usize,
+            facts: *mut [u64; 16],
+        ) -> u64;
+    }
+}
+
+/// Reads a dump into the tables.
+pub fn read(dump: &[u8], rows: &mut [u64], refs: &mut [u64], facts: &mut Facts) -> u64 {
+    // The slices are borrowed for the call, the mutable ones alone, and the library stays within them.
+    unsafe {
+        boundary::phd_read(
+            dump.as_ptr(),
+            dump.len(),
+            rows.as_mut_ptr(),
+            rows.len(),
+            refs.as_mut_ptr(),
+            refs.len(),
+            facts,
+        )
+    }
+}
+
+/// Writes the tables as a dump.
+pub fn write(
+    header: &Header,
+    rows: &[u64],
+    refs: &[u64],
+    names: &[u8],
+    out: &mut [u8],
+    facts: &mut Facts,
+) -> u64 {
+    // As for `read`.
+    unsafe {
+        boundary::phd_write(
+            header,
+            rows.as_ptr(),
+            rows.len(),
+            refs.as_ptr(),
+            refs.len(),
+            names.as_ptr(),
+            names.len(),
+            out.as_mut_ptr(),
+            out.len(),
+            facts,
+        )
+    }
+}
+
+/// Writes the tables as classic text.
+pub fn text(
+    header: &Header,
+    rows: &[u64],
+    refs: &[u64],
+    names: &[u8],
+    out: &mut [u8],
+    facts: &mut Facts,
+) -> u64 {
+    // As for `read`.
+    unsafe {
+        boundary::phd_text(
+            header,
+            rows.as_ptr(),
+            rows.len(),
+            refs.as_ptr(),
+            refs.len(),
+            names.as_ptr(),
+            names.len(),
+            out.as_mut_ptr(),
+            out.len(),
+            facts,
+        )
+    }
+}

@@ -1,0 +1,83 @@
+//! `phd info`: whether a dump is whole, where it stops if not, and what is in it.
+
+use crate::input::Source;
+use crate::output::{self, Sent};
+use crate::reading::{self, Reading, Tally};
+use crate::say::{Status, Trouble};
+use crate::words;
+
+/// Tells of each file, and gives the worst status.
+pub fn run(sources: &[Source]) -> Result<Status, Trouble> {
+    let mut worst = Status::Done;
+    let mut first = true;
+    for source in sources {
+        let status = match reading::read(source) {
+            Err(trouble) => trouble.tell(),
+            Ok(reading) => {
+                let gap = if first { "" } else { "\n" };
+                first = false;
+                let sent = output::print(&format!("{gap}{}", report(&reading)))?;
+                if sent == Sent::NoReader {
+                    return Ok(worst);
+                }
+                status(&reading)
+            }
+        };
+        worst = worst.max(status);
+    }
+    Ok(worst)
+}
+
+/// The exit status that a reading gives.
+pub fn status(reading: &Reading) -> Status {
+    if reading.reply() == 0 {
+        Status::Done
+    } else {
+        Status::Refused
+    }
+}
+
+fn report(reading: &Reading) -> String {
+    let mut text = format!("{}: {}\n", reading.name, words::verdict(reading));
+    text += &format!("  {}\n", words::stop(reading));
+    text += &format!("  {}\n\n", words::around(reading));
+    if reading.width() != 0 {
+        text += &counts(reading);
+        text += "\n";
+    }
+    text += &fact("file size", &words::size(reading));
+    if reading.width() != 0 {
+        text += &header(reading);
+    }
+    text
+}
+
+fn counts(reading: &Reading) -> String {
+    let mut text = format!("  {:<18}{:>14}{:>16}\n", "", "records", "references");
+    for (kind, tally) in words::KINDS.iter().zip(reading.tally_by_kind()) {
+        text += &counted(kind, tally);
+    }
+    text + &counted("all", reading.tally())
+}
+
+fn counted(kind: &str, tally: Tally) -> String {
+    let records = words::grouped(tally.records);
+    let references = words::grouped(tally.references);
+    format!("  {kind:<18}{records:>14}{references:>16}\n")
+}
+
+fn header(reading: &Reading) -> String {
+    let yes_or_no = |yes| if yes { "yes" } else { "no" };
+    let vm = match reading.vm() {
+        Some(version) => format!("\"{version}\""),
+        None => "not given".into(),
+    };
+    fact("address width", &format!("{} bit", reading.width()))
+        + &fact("all objects hashed", yes_or_no(reading.all_hashed()))
+        + &fact("from OpenJ9", yes_or_no(reading.openj9()))
+        + &fact("VM version", &vm)
+}
+
+fn fact(name: &str, value: &str) -> String {
+    format!("  {name:<20}{value}\n")
+}

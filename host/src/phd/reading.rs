@@ -1,0 +1,190 @@
+//! One dump, read by the library into tables that are made as large as it needs.
+
+use crate::input::{self, Source, LIMIT};
+use crate::progress;
+use crate::room::{self, NoMemory};
+use crate::say::Trouble;
+use phd_host::library::{self, Facts, Header, ROW};
+
+/// Where a row has its kind, its address, its class word and its count of references.
+const KIND: usize = 0;
+const ADDRESS: usize = 1;
+const CLASS: usize = 2;
+const REFERENCES: usize = 6;
+
+/// Replies of a reading that has no room for a row, or for a record's references.
+const NO_ROW: u64 = 13;
+const NO_REFERENCES: u64 = 14;
+
+/// A dump, and what a reading made of it.
+pub struct Reading {
+    pub name: String,
+    pub dump: Vec<u8>,
+    rows: Vec<u64>,
+    refs: Vec<u64>,
+    facts: Facts,
+}
+
+/// How many records there are of a kind, and how many references they have.
+#[derive(Clone, Copy, Default)]
+pub struct Tally {
+    pub records: u64,
+    pub references: u64,
+}
+
+impl Reading {
+    pub fn reply(&self) -> u64 {
+        self.facts[0]
+    }
+
+    /// Where the reading stopped: after the end tag, at the tag of a record, or 0 for the header.
+    pub fn place(&self) -> u64 {
+        self.facts[1]
+    }
+
+    pub fn size(&self) -> u64 {
+        self.dump.len() as u64
+    }
+
+    /// How wide addresses are, 32 or 64 bits; 0 where the header was not read.
+    pub fn width(&self) -> u64 {
+        self.facts[4]
+    }
+
+    pub fn all_hashed(&self) -> bool {
+        self.facts[5] != 0
+    }
+
+    pub fn openj9(&self) -> bool {
+        self.facts[6] != 0
+    }
+
+    /// The VM version, where the header has one.
+    pub fn vm(&self) -> Option<String> {
+        let from = self.facts[8] as usize;
+        let bytes = self.dump.get(from..from + self.facts[9] as usize)?;
+        (self.facts[7] != 0).then(|| String::from_utf8_lossy(bytes).into_owned())
+    }
+
+    /// The header as `write` and `text` want it, its VM version being in the dump.
+    pub fn header(&self) -> Header {
+        let [_, _, _, _, w, hashed, openj9, vm, place, length, ..] = self.facts;
+        [w, hashed, openj9, vm, place, length]
+    }
+
+    /// The rows that were read.
+    pub fn rows(&self) -> &[u64] {
+        &self.rows[..self.facts[2] as usize * ROW]
+    }
+
+    /// The references that were read.
+    pub fn refs(&self) -> &[u64] {
+        &self.refs[..self.facts[3] as usize]
+    }
+
+    pub fn tally(&self) -> Tally {
+        Tally {
+            records: self.facts[2],
+            references: self.facts[3],
+        }
+    }
+
+    /// For classes, objects, object arrays and primitive arrays.
+    pub fn tally_by_kind(&self) -> [Tally; 4] {
+        let mut kinds = [Tally::default(); 4];
+        for row in self.rows().chunks_exact(ROW) {
+            let kind = &mut kinds[row[KIND] as usize - 1];
+            kind.records += 1;
+            kind.references += row[REFERENCES];
+        }
+        kinds
+    }
+
+    /// The address and the class word of a record, where there is such a one.
+    pub fn address_and_class(&self, index: u64) -> Option<(u64, u64)> {
+        let row = self.rows().chunks_exact(ROW).nth(index as usize)?;
+        Some((row[ADDRESS], row[CLASS]))
+    }
+}
+
+/// How many rows and references there is room for.
+#[derive(Clone, Copy, PartialEq)]
+struct Room {
+    rows: usize,
+    refs: usize,
+}
+
+impl Room {
+    /// No more can stand in so many bytes: a record has at least two, a reference at least one.
+    fn most(size: usize) -> Room {
+        Room {
+            rows: size / 2,
+            refs: size,
+        }
+    }
+
+    fn at_most(self, most: Room) -> Room {
+        Room {
+            rows: self.rows.min(most.rows),
+            refs: self.refs.min(most.refs),
+        }
+    }
+
+    /// To begin with. A dump over the limit is refused unread.
+    fn guess(size: usize) -> Room {
+        if size as u64 > LIMIT {
+            return Room { rows: 0, refs: 0 };
+        }
+        let guess = Room {
+            rows: size / 16 + 64,
+            refs: size / 8 + 64,
+        };
+        guess.at_most(Room::most(size))
+    }
+
+    /// After a reading that had too little: what the rest of the dump wants if it is like the part that was read, with an
+    /// eighth to spare. What ran out grows in any case, the references twofold, since one record may want many of them.
+    fn more(self, size: usize, facts: &Facts) -> Room {
+        let likely = |used: u64| {
+            let all = u128::from(used) * size as u128 / u128::from(facts[1].max(1));
+            usize::try_from(all + all / 8).unwrap_or(usize::MAX)
+        };
+        let mut more = Room {
+            rows: self.rows.max(likely(facts[2])),
+            refs: self.refs.max(likely(facts[3])),
+        };
+        if facts[0] == NO_ROW {
+            more.rows = more.rows.max(self.rows + self.rows / 4 + 1);
+        } else {
+            more.refs = more.refs.max(self.refs * 2 + 1);
+        }
+        more.at_most(Room::most(size))
+    }
+}
+
+/// Reads a dump whole, or as far as it goes.
+pub fn read(source: &Source) -> Result<Reading, Trouble> {
+    let name = source.name();
+    let dump = input::load(source)?;
+    let mut room = Room::guess(dump.len());
+    loop {
+        let doing = format!("reading the records of {name}");
+        let _line = progress::show(&doing, Some(dump.len() as u64));
+        let no_room = |lack: NoMemory| Trouble::failed(&name, lack.words("for its records"));
+        let mut rows = room::zeroes(room.rows * ROW).map_err(no_room)?;
+        let mut refs = room::zeroes(room.refs).map_err(no_room)?;
+        let mut facts = Facts::default();
+        let reply = library::read(&dump, &mut rows, &mut refs, &mut facts);
+        let more = room.more(dump.len(), &facts);
+        if !matches!(reply, NO_ROW | NO_REFERENCES) || more == room {
+            return Ok(Reading {
+                name,
+                dump,
+                rows,
+                refs,
+                facts,
+            });
+        }
+        room = more;
+    }
+}

@@ -1,0 +1,382 @@
+//! Reads a dump: the header, then each record, judged whole before it is stored.
+
+use super::cursor::{each_value, Cursor};
+use super::{
+    is_class_name, is_version, Cache, Header, Reply, CLASS, DUMP_LIMIT, HASHED, INT_HASH, NO_HASH,
+    OBJECT, OBJECT_ARRAY, OPENING, PRIMITIVE_ARRAY, ROW, SHORT_HASH,
+};
+
+/// What a reading returns beside the tables.
+pub(super) struct Outcome {
+    pub reply: Reply,
+    pub place: usize,
+    pub rows: usize,
+    pub refs: usize,
+    /// There once the whole header is read.
+    pub header: Option<Header>,
+}
+
+impl Outcome {
+    /// A stop before the body.
+    fn early(reply: Reply) -> Outcome {
+        Outcome {
+            reply,
+            place: 0,
+            rows: 0,
+            refs: 0,
+            header: None,
+        }
+    }
+}
+
+/// Reads a dump into the tables.
+pub(super) fn read(dump: &[u8], rows: &mut [u64], refs: &mut [u64]) -> Outcome {
+    if dump.len() > DUMP_LIMIT {
+        return Outcome::early(Reply::DumpTooLong);
+    }
+    let mut cursor = Cursor::new(dump);
+    let header = match read_header(&mut cursor) {
+        Ok(header) => header,
+        Err(reply) => return Outcome::early(reply),
+    };
+    let mut body = Body::new(cursor, header);
+    let mut tables = Tables::new(rows, refs);
+    let (reply, place) = read_records(&mut body, &mut tables);
+    Outcome {
+        reply,
+        place,
+        rows: tables.row_count,
+        refs: tables.ref_count,
+        header: Some(body.header),
+    }
+}
+
+/// Stores records up to the end tag or the first that stops the reading, and returns the place too.
+fn read_records(body: &mut Body, tables: &mut Tables) -> (Reply, usize) {
+    loop {
+        let tag_place = body.cursor.at;
+        match body.record() {
+            Ok(Some(record)) => {
+                if let Err(reply) = tables.store(&record) {
+                    return (reply, tag_place);
+                }
+            }
+            Ok(None) => return (Reply::Done, body.cursor.at),
+            Err(reply) => return (reply, tag_place),
+        }
+    }
+}
+
+/// Reads the header, both bytes 2 included.
+fn read_header(cursor: &mut Cursor) -> Result<Header, Reply> {
+    if usize::from(cursor.short()?) != OPENING.len() || cursor.take(OPENING.len())? != OPENING {
+        return Err(Reply::WrongOpening);
+    }
+    if cursor.int()? != 6 {
+        return Err(Reply::WrongVersion);
+    }
+    let flags = cursor.int()?;
+    if flags & !7 != 0 {
+        return Err(Reply::UnknownFlag);
+    }
+    cursor.expect(1)?;
+    let mut version = None;
+    loop {
+        match cursor.byte()? {
+            2 => break,
+            4 if version.is_some() => return Err(Reply::BadString),
+            4 => {
+                let length = cursor.short()?.into();
+                let start = cursor.at;
+                if !is_version(cursor.take(length)?) {
+                    return Err(Reply::BadString);
+                }
+                version = Some(start..cursor.at);
+            }
+            _ => return Err(Reply::WrongTag),
+        }
+    }
+    cursor.expect(2)?;
+    let width = if flags & 1 != 0 { 64 } else { 32 };
+    Ok(Header {
+        width,
+        all_hashed: flags & 2 != 0,
+        openj9: flags & 4 != 0,
+        version,
+    })
+}
+
+/// A record as read. Its references stay as bytes, judged but not yet stored.
+#[derive(Default)]
+struct Record<'a> {
+    kind: u64,
+    /// The address, counted in fours of bytes as the gaps are.
+    address: i64,
+    class: u64,
+    hash_kind: u64,
+    hash: u64,
+    size: u64,
+    length: u64,
+    name_place: u64,
+    name_length: u64,
+    primitive: u64,
+    ref_count: usize,
+    ref_code: u8,
+    ref_bytes: &'a [u8],
+}
+
+/// The body being read.
+struct Body<'a> {
+    cursor: Cursor<'a>,
+    header: Header,
+    /// Addresses, counted in fours, must be below this.
+    limit: i64,
+    /// The address of the record before, counted in fours.
+    previous: i64,
+    cache: Cache,
+}
+
+impl<'a> Body<'a> {
+    /// The state before the first record.
+    fn new(cursor: Cursor<'a>, header: Header) -> Body<'a> {
+        let limit = 1 << (header.width - 2);
+        Body {
+            cursor,
+            header,
+            limit,
+            previous: 0,
+            cache: Cache::default(),
+        }
+    }
+
+    /// Reads the next record, or nothing at the end tag.
+    fn record(&mut self) -> Result<Option<Record<'a>>, Reply> {
+        let tag = self.cursor.byte()?;
+        let record = match tag {
+            0x80..=0xFF => self.short_object(tag)?,
+            0x40..=0x7F => self.medium_object(tag)?,
+            0x20..=0x3F => self.primitive_array(tag)?,
+            3 => return Ok(None),
+            4 => self.long_object()?,
+            6 => self.class()?,
+            7 => self.long_primitive_array()?,
+            8 => self.object_array()?,
+            _ => return Err(Reply::WrongTag),
+        };
+        Ok(Some(record))
+    }
+
+    /// Reads a short object behind its tag.
+    fn short_object(&mut self, tag: u8) -> Result<Record<'a>, Reply> {
+        let slot = usize::from(tag >> 5 & 3);
+        let class = self.cache.class(slot).ok_or(Reply::EmptySlot)?;
+        let mut record = self.begin(OBJECT, tag >> 2 & 1)?;
+        record.class = class;
+        self.hash(&mut record, false, false)?;
+        self.references(&mut record, (tag >> 3 & 3).into(), tag & 3)?;
+        Ok(record)
+    }
+
+    /// Reads a medium object behind its tag.
+    fn medium_object(&mut self, tag: u8) -> Result<Record<'a>, Reply> {
+        let mut record = self.begin(OBJECT, tag >> 2 & 1)?;
+        record.class = self.word()?;
+        self.cache.put(record.class);
+        self.hash(&mut record, false, false)?;
+        self.references(&mut record, (tag >> 3 & 7).into(), tag & 3)?;
+        Ok(record)
+    }
+
+    /// Reads a long object behind its tag.
+    fn long_object(&mut self) -> Result<Record<'a>, Reply> {
+        let record = self.object_with_flags(OBJECT)?;
+        self.cache.put(record.class);
+        Ok(record)
+    }
+
+    /// Reads an object array behind its tag.
+    fn object_array(&mut self) -> Result<Record<'a>, Reply> {
+        let mut record = self.object_with_flags(OBJECT_ARRAY)?;
+        record.size = self.cursor.int()?.into();
+        record.length = self.cursor.amount(2)?;
+        if record.length < record.ref_count as u64 {
+            return Err(Reply::BadAmount);
+        }
+        Ok(record)
+    }
+
+    /// Reads what a long object and an object array have in common.
+    fn object_with_flags(&mut self, kind: u64) -> Result<Record<'a>, Reply> {
+        let flags = self.flags(0x03)?;
+        let mut record = self.begin(kind, flags >> 6)?;
+        record.class = self.word()?;
+        self.hash(&mut record, flags & 0x02 != 0, flags & 0x01 != 0)?;
+        let count = self.cursor.amount(2)?;
+        self.references(&mut record, count as usize, flags >> 4 & 3)?;
+        Ok(record)
+    }
+
+    /// Reads a primitive array behind its tag.
+    fn primitive_array(&mut self, tag: u8) -> Result<Record<'a>, Reply> {
+        let mut record = self.begin(PRIMITIVE_ARRAY, tag & 3)?;
+        record.primitive = (tag >> 2 & 7).into();
+        record.length = self.cursor.amount(tag & 3)?;
+        self.hash(&mut record, false, false)?;
+        record.size = self.cursor.int()?.into();
+        Ok(record)
+    }
+
+    /// Reads a long primitive array behind its tag.
+    fn long_primitive_array(&mut self) -> Result<Record<'a>, Reply> {
+        let flags = self.flags(0x03)?;
+        let code = if flags & 0x10 != 0 {
+            self.header.word_code()
+        } else {
+            0
+        };
+        let mut record = self.begin(PRIMITIVE_ARRAY, code)?;
+        record.primitive = (flags >> 5).into();
+        record.length = self.cursor.amount(code)?;
+        self.hash(&mut record, flags & 0x02 != 0, flags & 0x01 != 0)?;
+        record.size = self.cursor.int()?.into();
+        Ok(record)
+    }
+
+    /// Reads a class behind its tag.
+    fn class(&mut self) -> Result<Record<'a>, Reply> {
+        let flags = self.flags(0x08)?;
+        let mut record = self.begin(CLASS, flags >> 6)?;
+        record.size = self.cursor.amount(2)?;
+        self.hash(&mut record, flags & 0x08 != 0, false)?;
+        record.class = self.word()?;
+        let name_length = self.cursor.short()?;
+        if name_length == 0 {
+            return Err(Reply::BadString);
+        }
+        record.name_place = self.cursor.at as u64;
+        record.name_length = name_length.into();
+        if !is_class_name(self.cursor.take(name_length.into())?) {
+            return Err(Reply::BadString);
+        }
+        let count = self.cursor.amount(2)?;
+        self.references(&mut record, count as usize, flags >> 4 & 3)?;
+        Ok(record)
+    }
+
+    /// Reads a flag byte; in an all-hashed dump its hash bits must be clear.
+    fn flags(&mut self, hash_bits: u8) -> Result<u8, Reply> {
+        let flags = self.cursor.byte()?;
+        if self.header.all_hashed && flags & hash_bits != 0 {
+            return Err(Reply::HashBits);
+        }
+        Ok(flags)
+    }
+
+    /// Reads the gap and begins a record at the address it gives.
+    fn begin(&mut self, kind: u64, gap_code: u8) -> Result<Record<'a>, Reply> {
+        let gap = self.cursor.signed(gap_code)?;
+        self.previous = away(self.previous, gap, self.limit)?;
+        Ok(Record {
+            kind,
+            address: self.previous,
+            ..Record::default()
+        })
+    }
+
+    /// Reads an unsigned word.
+    fn word(&mut self) -> Result<u64, Reply> {
+        if self.header.width == 64 {
+            self.cursor.array().map(u64::from_be_bytes)
+        } else {
+            self.cursor.int().map(u64::from)
+        }
+    }
+
+    /// Reads the hash that the header, or else the record's bits, call for.
+    fn hash(&mut self, record: &mut Record, moved: bool, hashed: bool) -> Result<(), Reply> {
+        (record.hash_kind, record.hash) = if self.header.all_hashed {
+            (SHORT_HASH, self.cursor.short()?.into())
+        } else if moved {
+            (INT_HASH, self.cursor.int()?.into())
+        } else if hashed {
+            (HASHED, 0)
+        } else {
+            (NO_HASH, 0)
+        };
+        Ok(())
+    }
+
+    /// Judges the references one after another; those behind a cut are not looked for.
+    fn references(&mut self, record: &mut Record<'a>, count: usize, code: u8) -> Result<(), Reply> {
+        let (from, limit) = (record.address, self.limit);
+        let rest = self.cursor.rest();
+        let size = count << code;
+        each_value(&rest[..size.min(rest.len())], code, |value| {
+            match away(from, value, limit)? {
+                0 => Err(Reply::NullReference),
+                _ => Ok(()),
+            }
+        })?;
+        record.ref_count = count;
+        record.ref_code = code;
+        record.ref_bytes = self.cursor.take(size)?;
+        Ok(())
+    }
+}
+
+/// The address so many fours away, if it is in range.
+fn away(from: i64, fours: i64, limit: i64) -> Result<i64, Reply> {
+    match from.checked_add(fours) {
+        Some(to) if (0..limit).contains(&to) => Ok(to),
+        _ => Err(Reply::OutOfRange),
+    }
+}
+
+/// The tables being filled.
+struct Tables<'t> {
+    rows: &'t mut [[u64; ROW]],
+    refs: &'t mut [u64],
+    row_count: usize,
+    ref_count: usize,
+}
+
+impl<'t> Tables<'t> {
+    /// The tables before the first record; numbers too few for a row are left out.
+    fn new(rows: &'t mut [u64], refs: &'t mut [u64]) -> Tables<'t> {
+        Tables {
+            rows: rows.as_chunks_mut().0,
+            refs,
+            row_count: 0,
+            ref_count: 0,
+        }
+    }
+
+    /// Stores a record whole, or nothing of it where there is no room.
+    fn store(&mut self, record: &Record) -> Result<(), Reply> {
+        let row = self.rows.get_mut(self.row_count).ok_or(Reply::NoRowLeft)?;
+        let room = self.refs[self.ref_count..].get_mut(..record.ref_count);
+        let mut slots = room.ok_or(Reply::NoReferencesLeft)?.iter_mut();
+        *row = [
+            record.kind,
+            record.address as u64 * 4,
+            record.class,
+            record.hash_kind,
+            record.hash,
+            self.ref_count as u64,
+            record.ref_count as u64,
+            record.size,
+            record.length,
+            record.name_place,
+            record.name_length,
+            record.primitive,
+        ];
+        self.row_count += 1;
+        self.ref_count += record.ref_count;
+        each_value(record.ref_bytes, record.ref_code, |value| {
+            if let Some(slot) = slots.next() {
+                *slot = (record.address + value) as u64 * 4;
+            }
+            Ok(())
+        })
+    }
+}

@@ -1,0 +1,236 @@
+//! `phd info`.
+
+use crate::trial::{edited, example, Folder, BEGINNINGS};
+
+#[test]
+fn a_whole_dump() {
+    let folder = Folder::new("info-whole");
+    folder.put("a.phd", &example());
+    let ran = folder.phd(&["info", "a.phd"]).ended(0).quiet();
+    let report = "\
+a.phd: whole (reply 0)
+  All of it was read: 4 records, up to the end tag at byte 73 (0x49).
+  Nothing follows the end tag.
+
+                           records      references
+  classes                        1               0
+  objects                        2               1
+  object arrays                  0               0
+  primitive arrays               1               0
+  all                            4               1
+
+  file size           74 bytes
+  address width       32 bit
+  all objects hashed  no
+  from OpenJ9         yes
+  VM version          \"Test\"
+";
+    assert_eq!(ran.out(), report);
+}
+
+#[test]
+fn the_same_dump_cut_off() {
+    let folder = Folder::new("info-cut");
+    folder.put("a.phd", &example()[..65]);
+    let ran = folder.phd(&["info", "a.phd"]).ended(1).quiet();
+    let report = "\
+a.phd: cut off (reply 1)
+  The file ends inside the record that begins at byte 64 (0x40), after 1 byte of it.
+  The 2 records before that place were read whole and are right.
+
+                           records      references
+  classes                        1               0
+  objects                        1               1
+  object arrays                  0               0
+  primitive arrays               0               0
+  all                            2               1
+
+  file size           65 bytes
+  address width       32 bit
+  all objects hashed  no
+  from OpenJ9         yes
+  VM version          \"Test\"
+";
+    assert_eq!(ran.out(), report);
+}
+
+/// Where a file of so many bytes of the example ends, in words.
+fn ending(size: usize) -> String {
+    let bytes = |count| if count == 1 { "byte" } else { "bytes" };
+    let begun = BEGINNINGS.iter().rfind(|beginning| **beginning <= size);
+    match begun {
+        None if size == 0 => "The file is empty.".into(),
+        None => {
+            let bytes = bytes(size);
+            format!("The file ends inside the header, after {size} {bytes} of it.")
+        }
+        Some(&place) if place == size => format!(
+            "The file ends at byte {place} (0x{place:X}), where a record or the end tag must begin."
+        ),
+        Some(&place) => {
+            let (there, bytes) = (size - place, bytes(size - place));
+            let record = format!("the record that begins at byte {place} (0x{place:X})");
+            format!("The file ends inside {record}, after {there} {bytes} of it.")
+        }
+    }
+}
+
+#[test]
+fn every_cut() {
+    let folder = Folder::new("info-every-cut");
+    for size in 0..74 {
+        folder.put("a.phd", &example()[..size]);
+        let ran = folder.phd(&["info", "a.phd"]).ended(1).quiet();
+        let first = format!("a.phd: cut off (reply 1)\n  {}\n", ending(size));
+        assert!(ran.out().starts_with(&first), "{first}{}", ran.out());
+        let begun = BEGINNINGS.iter().filter(|place| **place <= size).count();
+        let before = match begun {
+            0 => "  No record was read, and nothing is known of the header.\n".into(),
+            1 => "  No record stands before that place.\n".into(),
+            2 => "  The 1 record before that place was read whole and is right.\n".into(),
+            _ => format!(
+                "  The {} records before that place were read whole and are right.\n",
+                begun - 1
+            ),
+        };
+        let ran = ran.prints(&before);
+        assert_eq!(ran.out().contains("VM version"), begun > 0, "{}", ran.out());
+    }
+}
+
+#[test]
+fn bytes_after_the_end_tag() {
+    let folder = Folder::new("info-after");
+    folder.put("one", &[&example()[..], b"x"].concat());
+    folder.put("more", &[&example()[..], &[3; 1234]].concat());
+    let ran = folder.phd(&["info", "one", "more"]).ended(0).quiet();
+    ran.prints("1 byte follows the end tag; it is no part of the dump.")
+        .prints("1,234 bytes follow the end tag; they are no part of the dump.")
+        .prints("file size           1,308 bytes");
+}
+
+#[test]
+fn flags_and_vm_version() {
+    let folder = Folder::new("info-header");
+    let start = &example()[..24];
+    let plain = [start, b"\0\0\0\x03\x01\x02\x02\x03"].concat();
+    let empty = [start, b"\0\0\0\0\x01\x04\0\0\x02\x02\x03"].concat();
+    folder.put("plain", &plain).put("empty", &empty);
+    let ran = folder.phd(&["info", "plain"]).ended(0);
+    ran.prints("address width       64 bit\n")
+        .prints("all objects hashed  yes\n")
+        .prints("from OpenJ9         no\n")
+        .prints("VM version          not given\n")
+        .prints("All of it was read: 0 records, up to the end tag at byte 31 (0x1F).");
+    let ran = folder.phd(&["info", "empty"]).ended(0);
+    ran.prints("address width       32 bit\n")
+        .prints("all objects hashed  no\n")
+        .prints("VM version          \"\"\n");
+}
+
+#[test]
+fn every_kind_of_record() {
+    let folder = Folder::new("info-kinds");
+    let array = b"\x08\0\x04\0\0\x10\0\0\0\0\x02\x01\x02\0\0\0\x05\0\0\0\x02";
+    let dump = [&example()[..73], &array[..], b"\x03"].concat();
+    folder.put("a.phd", &dump);
+    let ran = folder.phd(&["info", "a.phd"]).ended(0);
+    ran.prints("  classes                        1               0\n")
+        .prints("  objects                        2               1\n")
+        .prints("  object arrays                  1               2\n")
+        .prints("  primitive arrays               1               0\n")
+        .prints("  all                            5               3\n");
+}
+
+/// The example with an error in its header: other bytes at a place, the reply, and the words for it.
+const BAD_HEADERS: [(usize, &[u8], u64, &str); 5] = [
+    (
+        0,
+        b"xx",
+        3,
+        "The file does not begin with the words 'portable",
+    ),
+    (23, b"\x07", 4, "The version in the header is not 6"),
+    (27, b"\x0C", 5, "The header has a flag that no one knows."),
+    (28, b"\x05", 6, "The header has a byte that is not allowed"),
+    (32, b"\x1F", 7, "The VM version in the header has a byte"),
+];
+
+/// The same for a record: the reply's place comes before its words.
+const BAD_RECORDS: [(usize, &[u8], u64, usize, &str); 5] = [
+    (
+        64,
+        b"\x05",
+        6,
+        64,
+        "begins with a byte that no record begins",
+    ),
+    (
+        52,
+        b"\x20",
+        7,
+        38,
+        "is a class without a name, or with a byte",
+    ),
+    (
+        40,
+        b"\x80\0",
+        8,
+        38,
+        "has an address or a reference outside",
+    ),
+    (
+        64,
+        b"\xA0",
+        10,
+        64,
+        "names its class by a slot that nothing",
+    ),
+    (53, b"\x80", 12, 38, "has a count, a length or a class size"),
+];
+
+fn refused(folder: &Folder, dump: &[u8], reply: u64, words: &str) {
+    folder.put("a.phd", dump);
+    let ran = folder.phd(&["info", "a.phd"]).ended(1).quiet();
+    let first = format!("a.phd: refused (reply {reply})\n  {words}");
+    assert!(ran.out().starts_with(&first), "{first}\n{}", ran.out());
+}
+
+#[test]
+fn every_refusal() {
+    let folder = Folder::new("info-refused");
+    for (place, bytes, reply, words) in BAD_HEADERS {
+        refused(&folder, &edited(place, bytes), reply, words);
+    }
+    for (place, bytes, reply, tag, words) in BAD_RECORDS {
+        let words = format!("The record at byte {tag} (0x{tag:X}) {words}");
+        refused(&folder, &edited(place, bytes), reply, &words);
+    }
+    let null = b"\x49\x04\0\0\x10\0\xFB\xFC";
+    let null = [&example()[..57], &null[..], &example()[64..]].concat();
+    let words = "The record at byte 57 (0x39) has a reference that is null.\n  \
+                 The 1 record before that place was read whole and is right. Nothing after it was read.\n";
+    refused(&folder, &null, 9, words);
+    let mut hashed = edited(27, b"\x06");
+    hashed[39] = 0x48;
+    let words = "The record at byte 38 (0x26) has hash bits of its own";
+    refused(&folder, &hashed, 11, words);
+}
+
+#[test]
+fn several_files_and_the_worst_status() {
+    let folder = Folder::new("info-several");
+    folder
+        .put("whole", &example())
+        .put("cut", &example()[..64])
+        .put("other", &example());
+    folder.phd(&["info", "whole", "other"]).ended(0).quiet();
+    let ran = folder.phd(&["info", "whole", "cut", "other"]).ended(1);
+    ran.prints("whole: whole (reply 0)\n")
+        .prints("\n\ncut: cut off (reply 1)\n")
+        .prints("\n\nother: whole (reply 0)\n");
+    let ran = folder.phd(&["info", "none", "cut", "whole"]).ended(2);
+    ran.says("phd: none: no such file\n")
+        .prints("cut: cut off (reply 1)\n")
+        .prints("\n\nwhole: whole (reply 0)\n");
+}

@@ -1,0 +1,108 @@
+//! Options, wrong command lines, and files that cannot be read.
+
+use crate::trial::{example, Folder, PHD, TEXT};
+
+#[test]
+fn help_and_version() {
+    let folder = Folder::new("usage-help");
+    let help = folder.phd(&["--help"]).ended(0).quiet();
+    for words in [&["-h"][..], &["help"], &["info", "--help"], &["copy", "-h"]] {
+        assert_eq!(folder.phd(words).ended(0).quiet().out(), help.out());
+    }
+    help.prints("phd info FILE..")
+        .prints("phd text FILE [-o OUT]")
+        .prints("phd copy FILE OUT")
+        .prints("Exit status: 0 done; 1 ");
+    let version = folder.phd(&["--version"]).ended(0).quiet();
+    assert_eq!(
+        version.out(),
+        concat!("phd ", env!("CARGO_PKG_VERSION"), "\n")
+    );
+}
+
+#[test]
+fn wrong_command_lines() {
+    let folder = Folder::new("usage-wrong");
+    folder.put("a", &example());
+    let wrong: [(&[&str], &str); 13] = [
+        (&[], "no command is given"),
+        (&["--"], "no command is given"),
+        (&["look", "a"], "unknown command 'look'"),
+        (&["info", "-x", "a"], "unknown option '-x'"),
+        (&["--all", "info", "a"], "unknown option '--all'"),
+        (&["info"], "info wants one FILE or more"),
+        (&["info", "-", "a", "-"], "can be read only once"),
+        (&["text"], "text wants one FILE"),
+        (&["text", "a", "b"], "text wants one FILE"),
+        (&["text", "a", "-o"], "-o wants the output's name after it"),
+        (&["text", "a", "-o", "b", "-o", "c"], "-o is given twice"),
+        (&["copy", "a"], "copy wants one FILE and one OUT"),
+        (&["copy", "a", "-o", "b"], "-o belongs to 'text' alone"),
+    ];
+    for (words, complaint) in wrong {
+        let ran = folder.phd(words).ended(2).prints_nothing().says(complaint);
+        assert!(ran.err.starts_with("phd: ") && ran.err.contains("phd --help"));
+    }
+    assert_eq!(folder.names(), ["a"]);
+}
+
+#[test]
+fn names_after_two_dashes() {
+    let folder = Folder::new("usage-dashes");
+    folder.put("-x", &example());
+    let ran = folder.phd(&["info", "--", "-x"]).ended(0).quiet();
+    ran.prints("-x: whole (reply 0)\n");
+    folder.phd(&["copy", "--", "-x", "-y"]).ended(0).quiet();
+    assert_eq!(folder.get("-y"), example());
+}
+
+#[test]
+fn standard_input_and_output() {
+    let folder = Folder::new("usage-standard");
+    let ran = folder.fed(&["info", "-"], &example()).ended(0).quiet();
+    ran.prints("standard input: whole (reply 0)\n")
+        .prints("file size           74 bytes\n");
+    let ran = folder.fed(&["text", "-"], &example()).ended(0).quiet();
+    assert_eq!(ran.out(), TEXT);
+    let ran = folder.fed(&["text", "-", "-o", "-"], &example()).ended(0);
+    assert_eq!(ran.quiet().out(), TEXT);
+    let ran = folder.fed(&["copy", "-", "-"], &example()).ended(0).quiet();
+    assert_eq!(ran.out, example());
+    let ran = folder.fed(&["copy", "-", "-"], &example()[..64]).ended(1);
+    let ran = ran.says("phd: standard input: cut off (reply 1)");
+    assert_eq!(ran.out, [&example()[..64], b"\x03"].concat());
+    assert_eq!(folder.names(), [""; 0]);
+}
+
+#[test]
+fn files_that_cannot_be_read() {
+    let folder = Folder::new("usage-unreadable");
+    std::fs::create_dir(folder.0.join("folder")).unwrap();
+    for words in [
+        &["info", "none"][..],
+        &["text", "none"],
+        &["copy", "none", "out"],
+    ] {
+        let ran = folder.phd(words).ended(2).prints_nothing();
+        assert_eq!(ran.err, "phd: none: no such file\n");
+    }
+    for words in [
+        &["info", "folder"][..],
+        &["text", "folder"],
+        &["copy", "folder", "out"],
+    ] {
+        let ran = folder.phd(words).ended(2).prints_nothing();
+        assert_eq!(ran.err, "phd: folder: is a directory, not a dump\n");
+    }
+    assert_eq!(folder.names(), ["folder"]);
+}
+
+#[test]
+fn a_name_that_is_no_text() {
+    use std::os::unix::ffi::OsStrExt;
+    let folder = Folder::new("usage-name");
+    let name = std::ffi::OsStr::from_bytes(b"a\xFF.phd");
+    std::fs::write(folder.0.join(name), example()).unwrap();
+    let status = folder.command(PHD).arg("info").arg(name).output().unwrap();
+    assert_eq!(status.status.code(), Some(0));
+}
