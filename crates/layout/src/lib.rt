@@ -207,7 +207,7 @@ pub fn reference(s: &[u8], at: usize, n: usize, base: u64, highest: u64) -> Piec
 }
 
 // The number of a signed count, where it is one.
-fn counted(c: i64) -> Maybe
+pub fn counted(c: i64) -> Maybe
     ensures { λ r. ⌜ r ≡ countedOf c ⌝ }
 {
     match step_of(c) {

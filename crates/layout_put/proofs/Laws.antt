@@ -1,13 +1,17 @@
--- Laws of storing bytes from the last to the first, of the next of a table's numbers, and of the least widths.
+-- Laws of storing bytes from the last to the first, of the least widths, and of the next of a table's numbers.
 use mathlib.Core.Path.{_≡_, refl, ap, _∙_}
+use mathlib.Core.Bool.{Bool, true, false}
 use mathlib.Core.List.{List, [], _∷_, _++_}
-use Prim.Native.Nat.{ℕ, suc, _+_, _-_, _/_, _%_, _≤_, _<_}
+use Prim.Native.Nat.{ℕ, suc, _+_, _-_, _/_, _%_, _^_, _≤_, _<_}
 use native.Mathlib.Nat.{add-zero}
 use native.Mathlib.Omega.{arith}
+use native.Mathlib.Decide.{decLe}
+use lib.Dec.{leb}
 use lib.ListN.{length, take, drop, getD, set, length-append}
 use lib.Seq.{sets, set-comm}
 use lib.IntN.{pos, negsuc}
-use borrow.Author.Tests.{le-leb, lt-leb}
+use borrow.Author.Tests.{le-leb, lt-leb, le-ltb, lt-ltb}
+use Rattle.layout.specs.Numbers.{pick}
 use Rattle.layout.proofs.Laws.{part-cons}
 use Rattle.layout_put.specs.Put.{be, gap, code, fits, widest, most, links, complement}
 use Rattle.layout_put.specs.Bytes.{length-be}
@@ -30,20 +34,76 @@ put-step out at k v h =
     ∙ sets-snoc (be (k - 1) (v / 256)) out at (v % 256)
     ∙ ap (λ (x : ℕ). sets (set out (at + x) (v % 256)) at (be (k - 1) (v / 256))) (length-be (k - 1) (v / 256))
 
--- ---- gaps
+-- ---- the least width code
 
-pub gap-up : (from to : ℕ) → from ≤ to → gap from to ≡ pos ((to - from) / 4)
-unfolding gap
-gap-up from to h = rw (le-leb from to h)
-
-pub gap-down : (from to : ℕ) → to < from → gap from to ≡ negsuc ((from - to - 1) / 4)
-unfolding gap
-gap-down from to h = rw (lt-leb from to h)
-
--- a negative gap is as wide as the number that it is as far below -1
-pub code-down : (m : ℕ) → code (negsuc m) ≡ code (pos m)
+-- a gap down is as wide as the number that it is as far below -1
+code-far : (up : Bool) (d : ℕ) → code (pick up (pos d) (negsuc d)) ≡ code (pos d)
 unfolding code fits
-code-down m = refl
+code-far true d = refl
+code-far false d = refl
+
+-- the code of a gap is that of its distance
+pub code-gap : (from to d : ℕ) → gap from to ≡ pick (leb from to) (pos d) (negsuc d) → code (gap from to) ≡ code (pos d)
+code-gap from to d e = ap code e ∙ code-far (leb from to) d
+
+-- how many limits a number reaches is its code
+pub code-counts : (m : ℕ) → pick (leb 0x80 m) 1 0 + pick (leb 0x8000 m) 1 0 + pick (leb 0x80000000 m) 1 0 ≡ code (pos m)
+unfolding code fits
+code-counts m = elim (decLe 0x8000 m) [
+  | yes l ↦
+      let a : 0x80 ≤ m = omega arith in
+      let b : 256 ^ 1 ≤ m + m = omega arith in
+      let c : 256 ^ 2 ≤ m + m = omega arith in
+      rw (le-leb 0x80 m a, le-leb 0x8000 m l, le-ltb (m + m) (256 ^ 1) b, le-ltb (m + m) (256 ^ 2) c) (elim (decLe 0x80000000 m) [
+        | yes k ↦ let d : 256 ^ 4 ≤ m + m = omega arith in rw (le-leb 0x80000000 m k, le-ltb (m + m) (256 ^ 4) d)
+        | no k ↦
+            let e : m < 0x80000000 = omega arith in
+            let d : m + m < 256 ^ 4 = omega arith in
+            rw (lt-leb 0x80000000 m e, lt-ltb (m + m) (256 ^ 4) d)
+      ])
+  | no l ↦
+      let a : m < 0x8000 = omega arith in
+      let b : m < 0x80000000 = omega arith in
+      let c : m + m < 256 ^ 2 = omega arith in
+      rw (lt-leb 0x8000 m a, lt-leb 0x80000000 m b, lt-ltb (m + m) (256 ^ 2) c) (elim (decLe 0x80 m) [
+        | yes k ↦ let d : 256 ^ 1 ≤ m + m = omega arith in rw (le-leb 0x80 m k, le-ltb (m + m) (256 ^ 1) d)
+        | no k ↦
+            let e : m < 0x80 = omega arith in
+            let d : m + m < 256 ^ 1 = omega arith in
+            rw (lt-leb 0x80 m e, lt-ltb (m + m) (256 ^ 1) d)
+      ])
+]
+
+-- 1 or 0 is at most 1
+pub bit-most : (b : Bool) {r : ℕ} → r ≡ pick b 1 0 → r ≤ 1
+bit-most true e = omega arith
+bit-most false e = omega arith
+
+-- a greater number reaches the limits that a lower one does
+reach : (k a b : ℕ) → a ≤ b → pick (leb k a) 1 0 ≤ pick (leb k b) 1 0
+reach k a b h = elim (decLe k a) [
+  | yes l ↦ let g : k ≤ b = omega arith in rw (le-leb k a l, le-leb k b g) (omega arith)
+  | no l ↦ let g : a < k = omega arith in rw (lt-leb k a g) (omega arith)
+]
+
+code-le : (a b : ℕ) → a ≤ b → code (pos a) ≤ code (pos b)
+code-le a b h = omega (arith, code-counts a, code-counts b, reach 0x80 a b h, reach 0x8000 a b h, reach 0x80000000 a b h)
+
+most-first : (a b : ℕ) → b ≤ a → most a b ≡ a
+most-first a b h = elim (decLe a b) [
+  | yes l ↦ rw (le-leb a b l) (omega arith)
+  | no l ↦ let g : b < a = omega arith in rw (lt-leb a b g)
+]
+
+-- the greater of two codes is that of the greater number
+code-most : (a b : ℕ) → most (code (pos a)) (code (pos b)) ≡ code (pos (most a b))
+code-most a b = elim (decLe a b) [
+  | yes l ↦ rw (le-leb a b l, le-leb (code (pos a)) (code (pos b)) (code-le a b l))
+  | no l ↦
+      let g : b < a = omega arith in
+      let k : b ≤ a = omega arith in
+      rw (lt-leb a b g) (most-first (code (pos a)) (code (pos b)) (code-le b a k))
+]
 
 -- ---- the next of the numbers from a place on
 
@@ -64,12 +124,14 @@ module _ (l : List ℕ) (at n i : ℕ) (h : i < n) (room : at + n ≤ length l) 
       ap (sets out (to + i)) next
       ∙ ap (λ (k : ℕ). sets (set out (to + i) (getD l (at + i) 0)) k (take (n - (i + 1)) (drop (at + (i + 1)) l))) f
 
-  -- its width
-  pub widest-next : (m a : ℕ)
-      → widest m a (take (n - i) (drop (at + i) l))
-      ≡ widest (most m (code (gap a (getD l (at + i) 0)))) a (take (n - (i + 1)) (drop (at + (i + 1)) l))
+  -- its width, by its distance
+  pub widest-next : (m a d : ℕ) → gap a (getD l (at + i) 0) ≡ pick (leb a (getD l (at + i) 0)) (pos d) (negsuc d)
+      → widest (code (pos m)) a (take (n - i) (drop (at + i) l))
+      ≡ widest (code (pos (most m d))) a (take (n - (i + 1)) (drop (at + (i + 1)) l))
   unfolding widest
-  widest-next m a = rw next
+  widest-next m a d e =
+      let c = ap (most (code (pos m))) (code-gap a (getD l (at + i) 0) d e) ∙ code-most m d in
+      rw next (ap (λ (k : ℕ). widest k a (take (n - (i + 1)) (drop (at + (i + 1)) l))) c)
 
   -- put as a reference
   module _ (w a : ℕ) where

@@ -3,8 +3,8 @@
 use mathlib.Core.Path.{_≡_, refl, sym, ap, _∙_}
 use Prim.Native.Nat.{ℕ, zero, suc, _+_, _-_, _*_, _/_, _%_, _^_, _≤_, _<_}
 use mathlib.Core.Bool.{true}
-use mathlib.Core.List.{List, [], _∷_, _++_}
-use native.Mathlib.Nat.{pow-suc, one-le-pow, suc-mul, mul-assoc, div-lt-iff-lt-mul, div-add-mod'}
+use mathlib.Core.List.{List, [], _∷_, _++_, append-nil, append-assoc}
+use native.Mathlib.Nat.{add-zero, add-suc, pow-suc, one-le-pow, suc-mul, mul-assoc, mul-comm, div-one, div-div-eq-div-mul, div-lt-iff-lt-mul, div-add-mod'}
 use native.Mathlib.Omega.{arith}
 use lib.ListN.{length, length-append}
 use lib.Pow.{pow-add}
@@ -17,6 +17,14 @@ pub length-be : (n v : ℕ) → length (be n v) ≡ n
 unfolding be
 length-be zero v = refl
 length-be (suc n) v = simp (length-append, length-be n (v / 256)) (omega arith)
+
+-- the highest bytes of a number, then the lowest n
+pub be-split : (m n v : ℕ) → be (m + n) v ≡ be m (v / 256 ^ n) ++ be n v
+unfolding be
+be-split m zero v = rw (add-zero m, div-one v, append-nil)
+be-split m (suc n) v =
+    let d : v / 256 / 256 ^ n ≡ v / 256 ^ suc n = rw (div-div-eq-div-mul v 256 (256 ^ n), mul-comm 256 (256 ^ n), ← pow-suc 256 n) in
+    rw (add-suc m n, be-split m n (v / 256), d, append-assoc)
 
 -- a byte more
 value-snoc : (bs : List ℕ) (a x : ℕ) → value-after a (bs ++ (x ∷ [])) ≡ value-after a bs * 256 + x

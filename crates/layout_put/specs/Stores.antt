@@ -2,13 +2,13 @@
 -- Assumes nothing.
 use mathlib.Core.Path.{_≡_, sym, ap, _∙_}
 use mathlib.Core.List.{List, [], _∷_, _++_, append-nil}
-use Prim.Native.Nat.{ℕ, suc, _+_, _*_}
+use Prim.Native.Nat.{ℕ, suc, _+_, _*_, _/_, _^_}
 use native.Mathlib.Nat.{add-zero}
 use native.Mathlib.Omega.{arith}
 use lib.ListN.{length, set, length-append}
 use lib.Seq.{sets}
 use Rattle.layout_put.specs.Put.{be, gap, complement, links}
-use Rattle.layout_put.specs.Bytes.{length-be}
+use Rattle.layout_put.specs.Bytes.{length-be, be-split}
 
 pub length-links : (w a : ℕ) (rs : List ℕ) → length (links w a rs) ≡ length rs * w
 unfolding links
@@ -36,6 +36,11 @@ behind out at next xs ys e n f = stored-two out at xs ys e (rw n at f)
 pub be-two : (out : List ℕ) {out₁ out₂ : List ℕ} (at a x : ℕ) (ys : List ℕ)
     → out₁ ≡ sets out at (be a x) → out₂ ≡ sets out₁ (at + a) ys → out₂ ≡ sets out at (be a x ++ ys)
 be-two out at a x ys e f = stored-two out at (be a x) ys e (rw length-be f)
+
+-- the highest bytes of a number, and the others behind them
+pub be-parts : (out : List ℕ) {out₁ out₂ : List ℕ} (at m n v : ℕ)
+    → out₁ ≡ sets out at (be m (v / 256 ^ n)) → out₂ ≡ sets out₁ (at + m) (be n v) → out₂ ≡ sets out at (be (m + n) v)
+be-parts out at m n v e f = rw (be-split m n v) (be-two out at m (v / 256 ^ n) (be n v) e f)
 
 -- three numbers, one behind the other
 pub be-three : (out : List ℕ) {out₁ out₂ out₃ : List ℕ} (at a b c x y z : ℕ)

@@ -3,12 +3,14 @@
 ghost use mathlib.Core.Path.{_≡_};
 ghost use Prim.Native.Nat.{_+_, _≤_, _<_};
 ghost use lib.ListN.{length, take, drop};
-ghost use lib.IntN.{pos};
+ghost use lib.IntN.{pos, negsuc};
+ghost use lib.Dec.{leb};
 ghost use lib.Seq.{sets};
+ghost use Rattle.layout.specs.Numbers.{pick};
 ghost use Rattle.layout_put.specs.Put.{be, gap, complement, code, most, widest as widestOf, links};
 
-// Puts the lowest n bytes of a number at a place, the highest first.
-pub fn put(out: &mut [u8], at: usize, n: usize, value: u64)
+// Puts the lowest n bytes of a number, whatever n is, one after another.
+fn put_each(out: &mut [u8], at: usize, n: usize, value: u64)
     requires { ⌜ at + n ≤ length (now out) ⌝ }
     ensures { λ _. ⌜ now (out .exit) ≡ sets (now (out .entry)) at (be n value) ⌝ }
 {
@@ -21,40 +23,106 @@ pub fn put(out: &mut [u8], at: usize, n: usize, value: u64)
     }
 }
 
-// The gap from one address to another, as the bytes of a field hold it.
-pub fn raw_gap(from: u64, to: u64) -> u64
-    ensures { λ r. ⌜ r ≡ complement (gap from to) ⌝ }
+// Puts the lowest byte, the lowest two and the lowest four.
+fn put1(out: &mut [u8], at: usize, value: u64)
+    requires { ⌜ at + 1 ≤ length (now out) ⌝ }
+    ensures { λ _. ⌜ now (out .exit) ≡ sets (now (out .entry)) at (be 1 value) ⌝ }
+{
+    out[at] = (value % 256) as u8;
+}
+
+fn put2(out: &mut [u8], at: usize, value: u64)
+    requires { ⌜ at + 2 ≤ length (now out) ⌝ }
+    ensures { λ _. ⌜ now (out .exit) ≡ sets (now (out .entry)) at (be 2 value) ⌝ }
+{
+    put1(out, at, value / 256);
+    put1(out, at + 1, value);
+}
+
+fn put4(out: &mut [u8], at: usize, value: u64)
+    requires { ⌜ at + 4 ≤ length (now out) ⌝ }
+    ensures { λ _. ⌜ now (out .exit) ≡ sets (now (out .entry)) at (be 4 value) ⌝ }
+{
+    put2(out, at, value / 0x1_0000);
+    put2(out, at + 2, value);
+}
+
+// Puts the lowest n bytes of a number at a place, the highest first. Fields of 1, 2, 4 and 8 bytes are put at once.
+pub fn put(out: &mut [u8], at: usize, n: usize, value: u64)
+    requires { ⌜ at + n ≤ length (now out) ⌝ }
+    ensures { λ _. ⌜ now (out .exit) ≡ sets (now (out .entry)) at (be n value) ⌝ }
+{
+    if n < 2 {
+        if n == 1 {
+            put1(out, at, value);
+        }
+        return;
+    }
+    if n == 2 {
+        put2(out, at, value);
+        return;
+    }
+    if n == 4 {
+        put4(out, at, value);
+        return;
+    }
+    if n == 8 {
+        put4(out, at, value / 0x1_0000_0000);
+        put4(out, at + 4, value);
+        return;
+    }
+    put_each(out, at, n, value);
+}
+
+// How far it is from one address to another, in fours: n for a gap of n, and for one of -1 - n.
+fn distance(from: u64, to: u64) -> u64
+    ensures { λ r. ⌜ gap from to ≡ pick (leb from to) (pos r) (negsuc r) ⌝ }
 {
     if from <= to {
         return (to - from) / 4;
     }
-    0xFFFF_FFFF_FFFF_FFFF - (from - to - 1) / 4
+    (from - to - 1) / 4
+}
+
+// A distance up, or down, in two's complement.
+fn directed(up: bool, distance: u64) -> u64
+    ensures { λ r. ⌜ r ≡ complement (pick up (pos distance) (negsuc distance)) ⌝ }
+{
+    if up {
+        return distance;
+    }
+    0xFFFF_FFFF_FFFF_FFFF - distance
+}
+
+// The gap from one address to another, as the bytes of a field hold it.
+pub fn raw_gap(from: u64, to: u64) -> u64
+    ensures { λ r. ⌜ r ≡ complement (gap from to) ⌝ }
+{
+    directed(from <= to, distance(from, to))
+}
+
+// 1 where a condition holds, else 0.
+fn one(holds: bool) -> u64
+    ensures { λ r. ⌜ r ≡ pick holds 1 0 ⌝ }
+{
+    if holds {
+        return 1;
+    }
+    0
 }
 
 // The least width code that holds a number, or as far a negative one, from -1 down.
 pub fn code_of(m: u64) -> u64
     ensures { λ r. ⌜ r ≡ code (pos m) ⌝ }
 {
-    if m < 0x80 {
-        return 0;
-    }
-    if m < 0x8000 {
-        return 1;
-    }
-    if m < 0x8000_0000 {
-        return 2;
-    }
-    3
+    one(0x80 <= m) + one(0x8000 <= m) + one(0x8000_0000 <= m)
 }
 
 // The least width code that holds the gap from one address to another.
 pub fn gap_code(from: u64, to: u64) -> u64
     ensures { λ r. ⌜ r ≡ code (gap from to) ⌝ }
 {
-    if from <= to {
-        return code_of((to - from) / 4);
-    }
-    code_of((from - to - 1) / 4)
+    code_of(distance(from, to))
 }
 
 // The greater of two.
@@ -76,10 +144,10 @@ pub fn widest(refs: &[u64], first: usize, count: usize, a: u64) -> u64
     let mut i: usize = 0;
     while i < count {
         let to = refs[first + i];
-        m = greater(m, gap_code(a, to));
+        m = greater(m, distance(a, to));
         i += 1;
     }
-    m
+    code_of(m)
 }
 
 // Puts count references from a place of the table on, w bytes each, of a record at the address a; gives the place after.

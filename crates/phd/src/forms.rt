@@ -25,7 +25,7 @@ pub fn bit(m: u64, x: u64) -> bool
 }
 
 // The bytes of a width code.
-fn width_of(code: u64) -> usize
+pub fn width_of(code: u64) -> usize
     requires { ⌜ code < 4 ⌝ }
     ensures { λ r. ⌜ r ≡ width code ⌝ }
 {

@@ -3,6 +3,7 @@
 ghost use mathlib.Core.Path.{_≡_};
 ghost use Prim.Native.Nat.{_+_, _≤_, _<_};
 ghost use lib.ListN.{length};
+ghost use Rattle.layout.specs.Numbers.{pick};
 ghost use Rattle.phd_rows.specs.Rows.{refs-of};
 ghost use Rattle.phd_form.specs.Form.{holds as holdsOf, slot-of, measure as measureOf, flagged as flaggedOf, object-form, form-of, tag-of, hash-flags, class-flags, flags-of, planned, Bounded};
 use phd::Cache;
@@ -37,30 +38,28 @@ fn holds(cache: Cache, word: u64, i: usize) -> bool
     requires { ⌜ i < 4 ⌝ }
     ensures { λ r. ⌜ r ≡ holdsOf cache word i ⌝ }
 {
-    if i < cache.puts {
-        let words = cache.words;
-        return words[i] == word;
+    let words = cache.words;
+    (i < cache.puts) & (words[i] == word)
+}
+
+// The one number, or the other.
+fn choice(first: bool, x: u64, y: u64) -> u64
+    ensures { λ r. ⌜ r ≡ pick first x y ⌝ }
+{
+    if first {
+        return x;
     }
-    false
+    y
 }
 
 // The lowest slot that does, 4 for none.
-fn find_slot(cache: Cache, word: u64) -> u64
+pub fn find_slot(cache: Cache, word: u64) -> u64
     ensures { λ r. ⌜ r ≡ slot-of cache word ⌝ }
 {
-    if holds(cache, word, 0) {
-        return 0;
-    }
-    if holds(cache, word, 1) {
-        return 1;
-    }
-    if holds(cache, word, 2) {
-        return 2;
-    }
-    if holds(cache, word, 3) {
-        return 3;
-    }
-    4
+    let three = choice(holds(cache, word, 3), 3, 4);
+    let two = choice(holds(cache, word, 2), 2, three);
+    let one = choice(holds(cache, word, 1), 1, two);
+    choice(holds(cache, word, 0), 0, one)
 }
 
 // What the form of a row goes by, after a record at the address `before`, with the cache.

@@ -1,7 +1,8 @@
 -- The bytes of a record: the tag, the flag byte and the fields in file order, each as wide as the reader's own table of
 -- shapes says. A field that a form lacks has no bytes. A reader must believe these definitions; that a reader takes the
 -- bytes for the record that was put is proved.
-use Prim.Native.Nat.{ℕ, _+_, _*_, _/_}
+use mathlib.Core.Path.{_≡_}
+use Prim.Native.Nat.{ℕ, _+_, _*_, _/_, _≤_}
 use mathlib.Core.List.{List, [], _∷_, _++_}
 use lib.Dec.{ltb}
 use Rattle.layout.specs.Numbers.{pick}
@@ -14,6 +15,7 @@ use Rattle.phd_rows.specs.Rows.{Rec}
 use Rattle.phd_rows.specs.declared.Row.{Row}
 use Rattle.phd_form.specs.Form.{measure, planned}
 use Rattle.phd_form.specs.declared.Plan.{Plan}
+use Rattle.phd_put.specs.declared.sizes.Sized.{Sized}
 
 -- the tag, and the flag byte where the form has one
 unfoldable pub put-tag : Plan → List ℕ
@@ -48,6 +50,19 @@ put-fields before sh r refs name =
 unfoldable pub put-planned : ℕ → Plan → Row → List ℕ → List ℕ → List ℕ
 put-planned before p r refs name = put-tag p ++ put-fields before (p .shape) r refs name
 
+-- A plan with no flag byte and no field but the gap, the class word, the hash and the references, of a row whose name has
+-- `namelen` bytes.
+pub record Lean (p : Plan) (namelen : ℕ) : Type 0 where
+  pub tag : 0x20 ≤ p .tag
+  pub len : p .shape .len ≡ 0
+  pub inst : p .shape .inst ≡ 0
+  pub superclass : p .shape .superclass ≡ 0
+  pub name : p .shape .name ≡ 0
+  pub unnamed : namelen ≡ 0
+  pub counted : p .shape .counted ≡ 0
+  pub size : p .shape .size ≡ 0
+  pub truelen : p .shape .truelen ≡ 0
+
 -- how a record is written under the header h, after one at the address `before`, with the cache c
 unfoldable pub plan-of : Facts → ℕ → Cache → Rec → Plan
 plan-of h before c r = planned (h .word / 8) (measure c before (r .row) (r .refs))
@@ -69,3 +84,7 @@ size-of p r =
     + (sh .name + r .namelen)
     + (sh .counted + r .count * sh .link)
     + (sh .size + sh .truelen)
+
+-- that, and whether the class word goes to the cache
+unfoldable pub sized : Plan → Row → Sized
+sized p r = record { size = size-of p r; cached = p .shape .cached }

@@ -1,42 +1,61 @@
 // Putting a record: its tag, its flag byte and its fields in file order, as wide as the reader's own table of shapes says.
 // Each function's contract is an equation with a definition of specs/Record.antt.
 ghost use mathlib.Core.Path.{_≡_};
-ghost use Prim.Native.Nat.{_+_, _^_, _≤_, _<_};
+ghost use mathlib.Core.Bool.{true};
+ghost use Prim.Native.Nat.{_+_, _≤_};
 ghost use lib.ListN.{length};
-ghost use lib.Dec.{ltb};
 ghost use lib.Seq.{sets};
-ghost use Rattle.layout.specs.Numbers.{pick};
-ghost use Rattle.phd.specs.Shapes.{Narrow};
 ghost use Rattle.phd_rows.specs.Rows.{refs-of, name-of};
-ghost use Rattle.phd_put.specs.Record.{put-planned, size-of};
+ghost use Rattle.phd_put.specs.Record.{put-planned, Lean};
 use phd_form::Plan;
 use phd_rows::Row;
 
 mod parts;
+pub mod sizes;
 
-// How many bytes the flag byte behind a tag has: one, or none.
-fn flag_bytes(tag: u64) -> usize
-    ensures { λ r. ⌜ r ≡ pick (ltb tag 0x20) 1 0 ⌝ }
-{
-    if tag < 0x20 {
-        return 1;
-    }
-    0
-}
-
-// How many bytes a record has.
-pub fn size(p: Plan, row: Row) -> usize
-    requires { ⌜ Narrow (p .shape) × (row .count < 2 ^ 31) × (row .namelen < 2 ^ 16) ⌝ }
-    ensures { λ r. ⌜ r ≡ size-of p row ⌝ }
+// Whether a record is planned with no flag byte, and has no field but its gap, class word, hash and references.
+fn lean(p: Plan, namelen: u64) -> bool
+    ensures { λ r. ⌜ (r ≡ true → Lean p namelen) ⌝ }
 {
     let sh = p.shape;
-    let first = 1 + flag_bytes(p.tag);
-    let front = sh.gap + sh.word + sh.len;
-    let middle = sh.inst + phd::forms::hash_bytes_of(row.hashkind) + sh.superclass;
-    let named = sh.name + row.namelen as usize;
-    let linked = sh.counted + row.count as usize * sh.link;
-    let tail = sh.size + sh.truelen;
-    first + front + middle + named + linked + tail
+    (0x20 <= p.tag)
+        & (sh.len == 0)
+        & (sh.inst == 0)
+        & (sh.superclass == 0)
+        & (sh.name == 0)
+        & (namelen == 0)
+        & (sh.counted == 0)
+        & (sh.size == 0)
+        & (sh.truelen == 0)
+}
+
+// Puts such a record at a place, and gives the place after it.
+fn put_lean(
+    out: &mut [u8],
+    at: usize,
+    before: u64,
+    p: Plan,
+    row: Row,
+    refs: &[u64],
+    names: &[u8],
+) -> usize
+    requires { ⌜ (row .first + row .count ≤ length (now refs)) × (row .place + row .namelen ≤ length (now names)) × Lean p (row .namelen) ⌝ }
+    requires { ⌜ at + length (put-planned before p row (refs-of (now refs) row) (name-of (now names) row)) ≤ length (now out) ⌝ }
+    ensures is { λ r. ⌜ r ≡ at + length (put-planned before p row (refs-of (now (refs .entry)) row) (name-of (now (names .entry)) row)) ⌝ }
+    ensures out { λ _. ⌜ now (out .exit) ≡ sets (now (out .entry)) at (put-planned before p row (refs-of (now (refs .entry)) row) (name-of (now (names .entry)) row)) ⌝ }
+{
+    let sh = p.shape;
+    let bytes = phd::forms::hash_bytes_of(row.hashkind);
+    layout_put::put(out, at, 1, p.tag);
+    let gap = at + 1;
+    layout_put::put(out, gap, sh.gap, layout_put::raw_gap(before, row.address));
+    let word = gap + sh.gap;
+    layout_put::put(out, word, sh.word, row.word);
+    let hash = word + sh.word;
+    layout_put::put(out, hash, bytes, row.hash);
+    let first = row.first as usize;
+    let n = row.count as usize;
+    layout_put::put_links(out, hash + bytes, sh.link, row.address, refs, first, n)
 }
 
 // Puts a record at a place, after one at the address `before`, and gives the place after it.
@@ -54,6 +73,9 @@ pub fn put_record(
     ensures is { λ r. ⌜ r ≡ at + length (put-planned before p row (refs-of (now (refs .entry)) row) (name-of (now (names .entry)) row)) ⌝ }
     ensures out { λ _. ⌜ now (out .exit) ≡ sets (now (out .entry)) at (put-planned before p row (refs-of (now (refs .entry)) row) (name-of (now (names .entry)) row)) ⌝ }
 {
+    if lean(p, row.namelen) {
+        return put_lean(out, at, before, p, row, refs, names);
+    }
     let sh = p.shape;
     let a = parts::put_tag(out, at, p);
     let b = parts::put_front(out, a, before, sh, row);

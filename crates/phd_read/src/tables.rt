@@ -1,9 +1,11 @@
 // Storing a record that has room: its row and its references.
 ghost use mathlib.Core.Path.{_≡_};
-ghost use Prim.Native.Nat.{_+_, _≤_};
+ghost use mathlib.Core.Bool.{true};
+ghost use Prim.Native.Nat.{_+_, _*_, _^_, _≤_, _<_};
 ghost use lib.ListN.{length};
 ghost use lib.Seq.{sets};
 ghost use Rattle.layout.specs.Layout.{run};
+ghost use Rattle.layout_quick.specs.Quick.{clear};
 ghost use Rattle.phd.specs.Phd.{row-width, references};
 ghost use Rattle.phd_read.specs.Stored.{Whole, values-of};
 use layout::Piece;
@@ -17,6 +19,31 @@ pub fn put_row(table: &mut [u64], at: usize, row: [u64; phd::ROW])
     while i < phd::ROW {
         table[at + i] = row[i];
         i += 1;
+    }
+}
+
+// Stores count references of a record whose address is clear of both ends, where four bytes more follow.
+fn put_clear(
+    s: &[u8],
+    at: usize,
+    w: usize,
+    base: u64,
+    top: u64,
+    count: u64,
+    table: &mut [u64],
+    to: usize,
+)
+    requires { ⌜ (1 ≤ w) × (clear w base top ≡ true) × (top < 2 ^ 64) × (to + count ≤ length (now table)) × (at + count * w + 4 ≤ length (now s)) ⌝ }
+    ensures { λ _. ⌜ now (table .exit) ≡ sets (now (table .entry)) to (values-of (run (references w base top count) (now (s .entry)) at)) ⌝ }
+{
+    let mut here = at;
+    let mut left = count;
+    let mut place = to;
+    while 0 < left {
+        table[place] = layout_quick::placed(s, here, w, base);
+        here += w;
+        place += 1;
+        left -= 1;
     }
 }
 
@@ -35,6 +62,12 @@ pub fn put_refs(
     requires { ⌜ Whole (run (references w base top count) (now s) at) ⌝ }
     ensures { λ _. ⌜ now (table .exit) ≡ sets (now (table .entry)) to (values-of (run (references w base top count) (now (s .entry)) at)) ⌝ }
 {
+    if (1 <= w) & (count < 0x1000_0000) & layout_quick::clear(w, base, top) {
+        if count as usize * w + 4 <= s.len() - at {
+            put_clear(s, at, w, base, top, count, table, to);
+            return;
+        }
+    }
     let mut here = at;
     let mut left = count;
     let mut place = to;

@@ -24,7 +24,7 @@ use phd::Span;
 use phd::Tail;
 
 // A record whole: its references stand at a place, n of them, and the record ends before the next place.
-fn recorded(
+pub fn recorded(
     next: usize,
     place: usize,
     n: u64,

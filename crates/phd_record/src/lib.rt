@@ -18,6 +18,7 @@ use phd::Tagged;
 mod fields;
 mod links;
 mod parts;
+mod quick;
 
 // What stands at a tag: the end, a record with the place after it, or why reading stops there.
 pub enum What {
@@ -95,6 +96,12 @@ pub fn read_record(
     requires { ⌜ (at ≤ length (now s)) × Word (facts .word) ⌝ }
     ensures { λ r. ⌜ r ≡ found-of cache (run (entry facts before cache index) (now (s .entry)) at) ⌝ }
 {
+    if 100 <= s.len() - at {
+        let quick = quick::record(s, at, facts, before, cache, index);
+        if quick.took {
+            return quick.found;
+        }
+    }
     match layout::field(s, at, 1) {
         Piece::Is(tag, next) => {
             if tag == 3 {

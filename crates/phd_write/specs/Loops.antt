@@ -13,7 +13,7 @@ use Rattle.layout_put.specs.Bytes.{length-be}
 use Rattle.layout_put.specs.Stores.{sets-append}
 use Rattle.layout.specs.Numbers.{pick}
 use Rattle.phd.specs.Phd.{highest, empty, put}
-use Rattle.phd.specs.Shapes.{Word, Narrow}
+use Rattle.phd.specs.Shapes.{Word}
 use Rattle.phd.specs.declared.classes.Cache.{Cache}
 use Rattle.phd.specs.declared.Facts.{Facts}
 use Rattle.phd_rows.specs.Rows.{row-at, refs-of, name-of, recs, row-count}
@@ -22,7 +22,8 @@ use Rattle.phd_rows.specs.declared.Found.the-variants.{Nowhere}
 use Rattle.phd_rows.specs.declared.Row.{Row}
 use Rattle.phd_form.specs.Form.{Bounded, measure}
 use Rattle.phd_form.specs.declared.Plan.{Plan}
-use Rattle.phd_put.specs.Record.{put-planned, size-of}
+use Rattle.phd_put.specs.Record.{put-planned, sized}
+use Rattle.phd_put.specs.declared.sizes.Sized.{Sized}
 use Rattle.phd_write.specs.Write.{put-records}
 use Rattle.phd_write.specs.Turns.{plan-at, left, plan, bytes-at, size-at, cache-on, Halfway, Next, next, left-none}
 
@@ -124,36 +125,44 @@ module _ (h : Facts) (names refs rows : List ℕ) where
     pub row-bound : Bounded (measure c before r (refs-of refs r))
     row-bound = rw e (n .bound)
 
+    pub row-short : r .namelen < 2 ^ 16
+    row-short = rw e (n .lent .short)
+
+    -- s is how many bytes it has, and whether it is cached
+    module _ (s : Sized) (f : s ≡ sized (plan-at h refs before c r) r) where
+      sized-is : s ≡ sized (plan h names refs rows i before c) (row-at rows i)
+      sized-is = f ∙ ap (λ (x : Row). sized (plan-at h refs before c x) x) e
+
+      cached-is : (k : Cache) → k ≡ pick (s .cached) (put c (r .word)) c → k ≡ cache-on h names refs rows i before c
+      unfolding sized
+      cached-is k g = rw (sized-is, e) at g
+
+      pub sizing-on : (header total : ℕ) (k : Cache) → k ≡ pick (s .cached) (put c (r .word)) c
+          → Word (h .word) → Sizing header i before total c → i < row-count rows → Sizing header (i + 1) (r .address) (total + s .size) k
+      unfolding sized
+      sizing-on header total k g w z l = rw (cached-is k g, sized-is, e) (sizing-next header i before total c w z l)
+
+      -- what is added is small: so no sum leaves 64 bits
+      pub sizing-small : (header total : ℕ) → Sizing header i before total c → i < row-count rows
+          → row-count rows ≤ 2 ^ 30 → length refs ≤ 2 ^ 30 → total + s .size < 2 ^ 63
+      unfolding sized
+      sizing-small header total z l rs fs =
+          let a : s .size ≡ size-at h names refs rows i before c = ap (λ (x : Sized). x .size) sized-is in
+          let b = n .size-small in
+          let d = n .lent .few in
+          let u = z .small in
+          let v = z .few in
+          omega arith
+
     module _ (p : Plan) (f : p ≡ plan-at h refs before c r) where
       plan-is : p ≡ plan h names refs rows i before c
       plan-is = f ∙ ap (plan-at h refs before c) e
-
-      pub plan-narrow : Narrow (p .shape) × (r .count < 2 ^ 31) × (r .namelen < 2 ^ 16)
-      plan-narrow = rw (plan-is, e) (n .narrow, n .lent .few, n .lent .short)
 
       bytes-is : put-planned before p r (refs-of refs r) (name-of names r) ≡ bytes-at h names refs rows i before c
       bytes-is = rw (plan-is, e)
 
       cache-is : (k : Cache) → k ≡ pick (p .shape .cached) (put c (r .word)) c → k ≡ cache-on h names refs rows i before c
       cache-is k g = rw (plan-is, e) at g
-
-      size-is : (s : ℕ) → s ≡ size-of p r → s ≡ size-at h names refs rows i before c
-      size-is s g = rw (plan-is, e) at g
-
-      pub sizing-on : (header total s : ℕ) (k : Cache) → s ≡ size-of p r → k ≡ pick (p .shape .cached) (put c (r .word)) c
-          → Word (h .word) → Sizing header i before total c → i < row-count rows → Sizing header (i + 1) (r .address) (total + s) k
-      sizing-on header total s k g j w z l = rw (size-is s g, cache-is k j, e) (sizing-next header i before total c w z l)
-
-      -- what is added is small: so no sum leaves 64 bits
-      pub sizing-small : (header total s : ℕ) → s ≡ size-of p r → Sizing header i before total c → i < row-count rows
-          → row-count rows ≤ 2 ^ 30 → length refs ≤ 2 ^ 30 → total + s < 2 ^ 63
-      sizing-small header total s g z l rs fs =
-          let a = size-is s g in
-          let b = n .size-small in
-          let d = n .lent .few in
-          let u = z .small in
-          let v = z .few in
-          omega arith
 
       pub putting-on : (at₀ : ℕ) (out₀ : List ℕ) (to : ℕ) (out : List ℕ) → Putting at₀ out₀ i before to c out → Word (h .word) → i < row-count rows
           → (to′ : ℕ) (out′ : List ℕ) (k : Cache)

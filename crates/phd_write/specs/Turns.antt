@@ -63,7 +63,6 @@ module _ (h : Facts) (names refs rows : List ℕ) where
   pub record Next (i index before : ℕ) (c : Cache) : Type 0 where
     pub lent : Lent names refs (row-at rows i)
     pub bound : Bounded (measure c before (row-at rows i) (refs-of refs (row-at rows i)))
-    pub narrow : Narrow (plan i before c .shape)
     pub begins : row-at rows i .first ≡ index
     pub size : length (bytes-at i before c) ≡ size-at i before c
     pub size-small : size-at i before c ≤ 65664 + row-at rows i .count * 8
@@ -84,7 +83,6 @@ module _ (h : Facts) (names refs rows : List ℕ) where
       record {
         lent = t;
         bound = bounded h c before index (rec-of names refs r) w g (v .fours) (v .most);
-        narrow = k;
         begins = g .first;
         size = length-planned before p r _ _ (length-refs-of refs r (t .span)) (length-name-of names r (t .named));
         size-small = let z = size-most p r k in let y = t .short in omega arith;

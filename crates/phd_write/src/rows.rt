@@ -39,9 +39,9 @@ pub fn size(h: Facts, rows: &[u64], refs: &[u64], names: &[u8], header: usize) -
     let mut i: usize = 0;
     while i < n {
         let row = phd_rows::row_at(rows, i);
-        let p = plan_row(h, cache, before, row, refs);
-        total += phd_put::size(p, row);
-        cache = cache.after(p.shape.cached, row.word);
+        let sized = phd_put::sizes::record((h.word / 8) as usize, cache, before, row, refs);
+        total += sized.size;
+        cache = cache.after(sized.cached, row.word);
         before = row.address;
         i += 1;
     }

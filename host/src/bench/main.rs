@@ -15,7 +15,7 @@ struct Times {
     read: [Duration; 2],
     write: [Duration; 2],
     copy: Duration,
-    text: Option<Duration>,
+    text: Duration,
 }
 
 type Read = fn(&[u8], &mut [u64], &mut [u64], &mut [u64; 16]) -> u64;
@@ -32,7 +32,7 @@ fn least(best: &mut Duration, work: impl FnOnce()) {
 }
 
 /// Times both sides' reading and writing of a heap in turn, `rounds` times, and holds what they made against each other.
-fn measure(n: usize, rounds: usize, with_text: bool) -> Times {
+fn measure(n: usize, rounds: usize) -> Times {
     let heap = Heap::of(n);
     let mut dump = vec![0; 64 + 40 * n + heap.names.len() + 10 * heap.refs.len()];
     let mut facts = [0; 16];
@@ -56,7 +56,7 @@ fn measure(n: usize, rounds: usize, with_text: bool) -> Times {
         read: [Duration::MAX; 2],
         write: [Duration::MAX; 2],
         copy: Duration::MAX,
-        text: None,
+        text: Duration::MAX,
     };
     for _ in 0..rounds {
         for side in 0..2 {
@@ -80,9 +80,7 @@ fn measure(n: usize, rounds: usize, with_text: bool) -> Times {
         });
         std::hint::black_box((&rows, &refs));
     }
-    if with_text {
-        times.text = Some(text_time(&heap));
-    }
+    times.text = text_time(&heap);
     times
 }
 
@@ -115,9 +113,7 @@ fn line(t: &Times) {
         let (ours, theirs) = (each(pair[0], t.records), each(pair[1], t.records));
         format!("{ours:.1} | {theirs:.1} | {:.2}", ours / theirs)
     };
-    let text = t
-        .text
-        .map_or("-".to_string(), |d| format!("{:.3} s", d.as_secs_f64()));
+    let text = format!("{:.3} s", t.text.as_secs_f64());
     println!(
         "| {} | {} | {} | {} | {} | {:.1} | {} |",
         t.records,
@@ -137,23 +133,31 @@ fn growth(all: &[Times], pick: fn(&Times) -> Duration) -> Option<f64> {
     Some(each(pick(last), last.records) / each(pick(at), at.records))
 }
 
-fn main() {
-    let sizes: Vec<usize> = std::env::args()
-        .skip(1)
-        .filter_map(|a| a.parse().ok())
-        .collect();
-    let sizes = if sizes.is_empty() {
-        vec![10_000, 100_000, 1_000_000, 10_000_000]
-    } else {
-        sizes
+/// The numbers of records to try: those named, or the usual four.
+fn sizes() -> Result<Vec<usize>, String> {
+    let named: Vec<String> = std::env::args().skip(1).collect();
+    if named.is_empty() {
+        return Ok(vec![10_000, 100_000, 1_000_000, 10_000_000]);
+    }
+    let size = |word: &String| match word.parse() {
+        Ok(n) if n > 0 => Ok(n),
+        _ => Err(format!("'{word}' is no number of records")),
     };
-    println!("nanoseconds a record, the least of several rounds; a ratio below 1 means that the proved library is faster");
+    named.iter().map(size).collect()
+}
+
+fn main() {
+    let sizes = sizes().unwrap_or_else(|why| {
+        eprintln!("phd-bench: {why}");
+        std::process::exit(2)
+    });
+    println!("nanoseconds for a record, the least of several rounds; below a ratio of 1 the proved library is the faster");
     println!("| records | dump bytes | table bytes | read: library | plain | ratio | write: library | plain | ratio | copy of the tables | text |");
     println!("|---|---|---|---|---|---|---|---|---|---|---|");
     let mut all = Vec::new();
     for n in sizes {
         let rounds = (30_000_000 / n).clamp(5, 300);
-        let times = measure(n, rounds, n <= 1_000_000);
+        let times = measure(n, rounds);
         line(&times);
         all.push(times);
     }

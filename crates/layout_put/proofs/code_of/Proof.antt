@@ -1,43 +1,33 @@
--- `code_of` meets its contract: each test of the code is one of the definition.
-use borrow.Author.Tests.{lt-ltb, le-ltb}
-use Prim.Native.Nat.{_+_, _^_, _≤_, _<_}
+-- `code_of` meets its contract: how many limits a number reaches is its code.
+use borrow.Author.Needs.{needs}
 use native.Mathlib.Omega.{arith}
-use Rattle.layout_put.specs.Put.{code, fits}
+use lib.Dec.{leb}
+use Rattle.layout_put.proofs.Laws.{code-counts, bit-most}
 use Rattle.layout_put.proofs.code_of.Statement.{statement}
 use Rattle.layout_put.proofs.code_of.Tie as tie
 
-returns : tie.Need-returns
-unfolding code fits
-returns c =
-    let m = c .before .args .m in
-    let h : m + m < 256 ^ 1 = omega arith in
-    rw (lt-ltb _ _ h)
+one-requires : tie.Need-one-requires
+one-requires c κs = search needs
 
-returns-2 : tie.Need-returns-2
-unfolding code fits
-returns-2 c =
+one-requires-2 : tie.Need-one-requires-2
+one-requires-2 c κs = search needs
+
+add-result : tie.Need-add-result
+add-result c =
     let m = c .before .before .args .m in
-    let h : 256 ^ 1 ≤ m + m = omega arith in
-    let k : m + m < 256 ^ 2 = omega arith in
-    rw (le-ltb _ _ h, lt-ltb _ _ k)
+    omega (arith, bit-most (leb 0x80 m) (c .before .one .ensures), bit-most (leb 0x8000 m) (c .one2 .ensures))
 
-returns-3 : tie.Need-returns-3
-unfolding code fits
-returns-3 c =
-    let m = c .before .before .before .args .m in
-    let h : 256 ^ 1 ≤ m + m = omega arith in
-    let k : 256 ^ 2 ≤ m + m = omega arith in
-    let l : m + m < 256 ^ 4 = omega arith in
-    rw (le-ltb _ _ h, le-ltb _ _ k, lt-ltb _ _ l)
+one-requires-3 : tie.Need-one-requires-3
+one-requires-3 c κs = search needs
 
-returns-4 : tie.Need-returns-4
-unfolding code fits
-returns-4 c =
+add-result-2 : tie.Need-add-result-2
+add-result-2 c =
     let m = c .before .before .before .args .m in
-    let h : 256 ^ 1 ≤ m + m = omega arith in
-    let k : 256 ^ 2 ≤ m + m = omega arith in
-    let l : 256 ^ 4 ≤ m + m = omega arith in
-    rw (le-ltb _ _ h, le-ltb _ _ k, le-ltb _ _ l)
+    omega (arith, bit-most (leb 0x80 m) (c .before .before .one .ensures), bit-most (leb 0x8000 m) (c .before .one2 .ensures), bit-most (leb 0x80000000 m) (c .one3 .ensures))
+
+returns : tie.Need-returns
+returns c = cc (code-counts (c .before .before .before .args .m))
 
 pub code-of-spec : {M : Type 1} → statement M
-code-of-spec = tie.close (tie.spec returns returns-2 returns-3 returns-4)
+code-of-spec =
+    tie.close (tie.spec one-requires one-requires-2 add-result one-requires-3 add-result-2 returns)

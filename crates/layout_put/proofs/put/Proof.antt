@@ -1,69 +1,95 @@
--- `put` meets its contract: storing the bytes that are left, from the first on, is storing all of them.
-use mathlib.Core.Path.{_≡_, refl, sym, _∙_}
-use Prim.Native.Nat.{_≤_}
+-- `put` meets its contract: each width is put as it is asked.
+use borrow.Author.Needs.{needs}
+use mathlib.Core.Path.{_≡_, ap}
 use native.Mathlib.Omega.{arith}
-use lib.ListN.{length, length-set}
 use lib.Seq.{sets}
 use Rattle.layout_put.specs.Put.{be}
-use Rattle.layout_put.proofs.Laws.{put-step}
+use Rattle.layout_put.specs.Stores.{be-parts}
 use Rattle.layout_put.proofs.put.Statement.{statement}
 use Rattle.layout_put.proofs.put.Tie as tie
 
-abbrev Inv-loop : tie.InvT-loop
-Inv-loop out₀ at n value rest₀ k₀ out rest k =
-    (k ≤ n) × (length out ≡ length out₀) × (sets out at (be k rest) ≡ sets out₀ at (be n value))
+put1-requires : tie.Need-put1-requires
+put1-requires c κs = search needs
 
-abbrev μ-loop : tie.MeasureT-loop
-μ-loop out₀ at n value rest₀ k₀ out rest k = k
+same-length : tie.Need-same-length
+same-length c = search needs
 
-loop-holds : tie.Need-loop-holds Inv-loop μ-loop
-loop-holds c = (omega arith, refl, refl)
+returns : tie.Need-returns
+returns c = let p = c .before .before in cc (p .put1 .ensures, p .before .before .if2 .taken)
 
-sub-k : tie.Need-sub-k Inv-loop μ-loop
-sub-k c = omega arith
-
-cast-out : tie.Need-cast-out Inv-loop μ-loop
-cast-out c = omega arith
-
-add-out : tie.Need-add-out Inv-loop μ-loop
-add-out c = omega arith
-
-slice-write-out : tie.Need-slice-write-out Inv-loop μ-loop
-slice-write-out c = omega arith
-
-loop-less : tie.Need-loop-less Inv-loop μ-loop
-loop-less c = omega arith
-
-loop-again : tie.Need-loop-again Inv-loop μ-loop
-loop-again c =
-    let l = c .before in (
-      omega arith,
-      simp length-set (l .loop .inv .1),
-      sym (put-step (l .loop .out) _ (l .loop .k) (l .loop .rest) (omega arith)) ∙ l .loop .inv .2,
-    )
-
-same-length : tie.Need-same-length Inv-loop μ-loop
-same-length c = omega arith
-
-returns : tie.Need-returns Inv-loop μ-loop
+returns-2 : tie.Need-returns-2
 unfolding be
-returns c =
-    let l = c .before in
-    let e : l .loop .k ≡ 0 = omega arith in
-    rw e at (l .loop .inv .2)
+returns-2 c =
+    let a = c .before .before .before .args in
+    let e : 0 ≡ a .n = omega arith in
+    ap (λ k. sets (a .out .now) (a .at) (be k (a .value))) e
+
+put2-requires : tie.Need-put2-requires
+put2-requires c κs = search needs
+
+same-length-2 : tie.Need-same-length-2
+same-length-2 c = search needs
+
+returns-3 : tie.Need-returns-3
+returns-3 c = let p = c .before .before in cc (p .put2 .ensures, p .before .before .if3 .taken)
+
+put4-requires : tie.Need-put4-requires
+put4-requires c κs = search needs
+
+same-length-3 : tie.Need-same-length-3
+same-length-3 c = search needs
+
+returns-4 : tie.Need-returns-4
+returns-4 c = let p = c .before .before in cc (p .put4 .ensures, p .before .before .if4 .taken)
+
+put4-requires-2 : tie.Need-put4-requires-2
+put4-requires-2 c κs = search needs
+
+add-put4 : tie.Need-add-put4
+add-put4 c = search needs
+
+put4-requires-3 : tie.Need-put4-requires-3
+put4-requires-3 c κs = search needs
+
+same-length-4 : tie.Need-same-length-4
+same-length-4 c = search needs
+
+returns-5 : tie.Need-returns-5
+returns-5 c =
+    let p = c .before .before in
+    let q = p .before .before .before .before in
+    let t = q .before .before in
+    let a = t .before .before .before .before .before .args in
+    cc (be-parts (a .out .now) (a .at) 4 4 (a .value) (q .put42 .ensures) (p .put43 .ensures), t .if5 .taken)
+
+put-each-requires : tie.Need-put-each-requires
+put-each-requires c κs = search needs
+
+same-length-5 : tie.Need-same-length-5
+same-length-5 c = search needs
+
+returns-6 : tie.Need-returns-6
+returns-6 c = search needs
 
 pub put-spec : {M : Type 1} → statement M
 put-spec =
     tie.close
     (tie.spec
-    Inv-loop
-    μ-loop
-    loop-holds
-    sub-k
-    cast-out
-    add-out
-    slice-write-out
-    loop-less
-    loop-again
+    put1-requires
     same-length
-    returns)
+    returns
+    returns-2
+    put2-requires
+    same-length-2
+    returns-3
+    put4-requires
+    same-length-3
+    returns-4
+    put4-requires-2
+    add-put4
+    put4-requires-3
+    same-length-4
+    returns-5
+    put-each-requires
+    same-length-5
+    returns-6)

@@ -1,6 +1,7 @@
--- `holds` meets its contract.
+-- `holds` meets its contract: the two tests of the code are those of the definition.
 use borrow.Author.Needs.{needs}
-use borrow.Author.Tests.{lt-ltb, le-ltb}
+use lib.Dec.{ltb}
+use Rattle.phd_rows.proofs.Laws.{both-joined}
 use Rattle.phd_form.specs.Form.{holds}
 use Rattle.phd_form.proofs.holds.Statement.{statement}
 use Rattle.phd_form.proofs.holds.Tie as tie
@@ -13,11 +14,7 @@ array-read-result c = search needs
 
 returns : tie.Need-returns
 unfolding holds
-returns c = rw (lt-ltb _ _ (c .before .if1 .taken))
-
-returns-2 : tie.Need-returns-2
-unfolding holds
-returns-2 c = rw (le-ltb _ _ (c .if1 .left))
+returns c = let a = c .before .before .args in both-joined (ltb (a .i) (a .cache .puts)) _
 
 pub holds-spec : {M : Type 1} → statement M
-holds-spec = tie.close (tie.spec mul-result array-read-result returns returns-2)
+holds-spec = tie.close (tie.spec mul-result array-read-result returns)

@@ -1,4 +1,4 @@
--- `read_record` meets its contract: the tag, and then the end or a record.
+-- `read_record` meets its contract: what a quick reading took, or the tag, and then the end or a record.
 use borrow.Author.Needs.{needs}
 use mathlib.Core.Path.{_≡_, sym, ap, _∙_}
 use Prim.Native.Nat.{_≤_}
@@ -14,7 +14,7 @@ use Rattle.phd_record.proofs.read_record.Tie as tie
 
 -- the tag
 abbrev start : tie.After-tag → tie.Start
-start c = c .before .before .before .before
+start c = c .before .before .before .before .before
 
 module _ (c : tie.After-tag) where
   got-tag : let a = start c .args in
@@ -23,6 +23,15 @@ module _ (c : tie.After-tag) where
 
   in-tag : let a = start c .args in (c .tag .given .0 .1 .0) ≤ length (a .s .now)
   in-tag = let a = start c .args in inside (field 1) (a .s .now) (a .at) _ _ (omega arith) got-tag
+
+sub-if1 : tie.Need-sub-if1
+sub-if1 c = search needs
+
+record-requires : tie.Need-record-requires
+record-requires c κs = search needs
+
+returns : tie.Need-returns
+returns c = c .before .before .«record» .ensures (c .before .if2 .taken)
 
 field-requires : tie.Need-field-requires
 field-requires c κs = search needs
@@ -33,11 +42,11 @@ enum-known-tag c = search needs
 halted-requires : tie.Need-halted-requires
 halted-requires c κs = search needs
 
-returns : tie.Need-returns
+returns-2 : tie.Need-returns-2
 unfolding entry found-of
-returns c =
+returns-2 c =
     let w = c .before .before .before in
-    rw (c .halted .ensures, run-then, got-tag w, eq-eqb _ _ (c .before .if1 .taken), run-yield)
+    rw (c .halted .ensures, run-then, got-tag w, eq-eqb _ _ (c .before .if3 .taken), run-yield)
 
 behind-tag-requires : tie.Need-behind-tag-requires
 behind-tag-requires c κs =
@@ -50,15 +59,15 @@ enum-known-w c = search needs
 halted-requires-2 : tie.Need-halted-requires-2
 halted-requires-2 c κs = search needs
 
-returns-2 : tie.Need-returns-2
-unfolding entry found-of
-returns-2 c =
-    let w = c .before .before .before in
-    rw (c .behind-tag .ensures, run-then, got-tag w, ne-eqb _ _ (c .before .if1 .left))
-
 returns-3 : tie.Need-returns-3
 unfolding entry found-of
 returns-3 c =
+    let w = c .before .before .before in
+    rw (c .behind-tag .ensures, run-then, got-tag w, ne-eqb _ _ (c .before .if3 .left))
+
+returns-4 : tie.Need-returns-4
+unfolding entry found-of
+returns-4 c =
     let d = c .before .before .before .before in
     rw (c .halted2 .ensures, run-then, ← d .field .ensures .0, c .before .before .w .given .1)
 
@@ -66,12 +75,15 @@ pub read-record-spec : {M : Type 1} → statement M
 read-record-spec =
     tie.close
     (tie.spec
+    sub-if1
+    record-requires
+    returns
     field-requires
     enum-known-tag
     halted-requires
-    returns
+    returns-2
     behind-tag-requires
     enum-known-w
     halted-requires-2
-    returns-2
-    returns-3)
+    returns-3
+    returns-4)

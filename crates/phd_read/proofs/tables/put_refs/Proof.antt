@@ -1,7 +1,8 @@
 -- `put_refs` meets its contract: storing what is left, from here, is storing all of them.
 use borrow.Author.Needs.{needs}
 use mathlib.Core.Path.{_≡_, refl, sym, ap, _∙_}
-use Prim.Native.Nat.{_+_, _≤_}
+use mathlib.Core.Bool.{true}
+use Prim.Native.Nat.{_+_, _*_, _≤_, _<_}
 use native.Mathlib.Omega.{arith}
 use native.Mathlib.Numerals.{add-one}
 use lib.ListN.{length, length-set}
@@ -11,6 +12,7 @@ use Rattle.layout.specs.Fields.{outcome, reference}
 use Rattle.phd.specs.Phd.{references}
 use Rattle.phd.specs.References.{references-none}
 use Rattle.phd_read.specs.Stored.{Whole, values-of, one-more, none-stops}
+use Rattle.phd_read.proofs.ClearLaws.{tested, few}
 use Rattle.phd_read.proofs.tables.put_refs.Statement.{statement}
 use Rattle.phd_read.proofs.tables.put_refs.Tie as tie
 
@@ -23,12 +25,44 @@ abbrev μ-loop : tie.MeasureT-loop
 μ-loop s at w base top count table₀ to here₀ left₀ place₀ table here left place = left
 
 -- the reference that a turn read
-got : (c : tie.After-a Inv-loop μ-loop) → let l = c .before .before .before .before in let a = l .before .before .before .args in
+got : (c : tie.After-a Inv-loop μ-loop) → let l = c .before .before .before .before in let a = l .before .before .before .before .before .args in
     run (reference (a .w) (a .base) (a .top)) (a .s .now) (l .loop .here) ≡ whole (c .a .given .0 .0) (c .a .given .0 .1 .0)
 got c = sym (c .before .before .reference .ensures) ∙ ap outcome (c .a .given .1)
 
+-- what is known where the quick way is taken
+module _ (c : tie.Then1 Inv-loop μ-loop) where
+  quick : let a = c .before .before .before .before .args in (1 ≤ a .w) × (a .count < 0x10000000) × (c .before .clear .result ≡ true)
+  quick = let a = c .before .before .before .before .args in tested (a .w) (a .count) (c .before .clear .result) (c .if1 .taken)
+
+  bytes-few : let a = c .before .before .before .before .args in a .count * a .w ≤ 0x80000000
+  bytes-few = few _ _ (omega arith) (quick .1)
+
+clear-requires : tie.Need-clear-requires Inv-loop μ-loop
+clear-requires c κs = tt
+
+mul-if2 : tie.Need-mul-if2 Inv-loop μ-loop
+mul-if2 c = omega (arith, bytes-few c)
+
+add-if2 : tie.Need-add-if2 Inv-loop μ-loop
+add-if2 c = omega (arith, bytes-few c)
+
+sub-if2 : tie.Need-sub-if2 Inv-loop μ-loop
+sub-if2 c = omega arith
+
+put-clear-requires : tie.Need-put-clear-requires Inv-loop μ-loop
+put-clear-requires c κs =
+    let d = c .before .before in
+    let q = quick d in
+    (q .0, sym (d .before .clear .ensures) ∙ q .2, omega arith, search needs, omega arith)
+
+same-length : tie.Need-same-length Inv-loop μ-loop
+same-length c = search needs
+
+returns : tie.Need-returns Inv-loop μ-loop
+returns c = search needs
+
 loop-holds : tie.Need-loop-holds Inv-loop μ-loop
-loop-holds c = (omega arith, omega arith, refl, c .before .before .pre .1, refl)
+loop-holds c = (omega arith, omega arith, refl, c .before .before .before .before .pre .1, refl)
 
 reference-requires : tie.Need-reference-requires Inv-loop μ-loop
 reference-requires c κs = omega arith
@@ -45,14 +79,14 @@ slice-write-table c = search needs
 enum-told : tie.Need-enum-told Inv-loop μ-loop
 enum-told c = search needs
 
-same-length : tie.Need-same-length Inv-loop μ-loop
-same-length c = search needs
+same-length-2 : tie.Need-same-length-2 Inv-loop μ-loop
+same-length-2 c = search needs
 
-returns : tie.Need-returns Inv-loop μ-loop
-returns c =
+returns-2 : tie.Need-returns-2 Inv-loop μ-loop
+returns-2 c =
     let w = c .before .before in
     let l = w .before .before in
-    let a = l .before .before .before .args in
+    let a = l .before .before .before .before .before .args in
     absurd (none-stops (a .w) (a .base) (a .top) (a .s .now) (l .loop .here) (l .loop .left) (omega arith) (l .loop .inv .3) _ (sym (w .reference .ensures) ∙ ap outcome (c .enum-told .given .1)))
 
 add-place : tie.Need-add-place Inv-loop μ-loop
@@ -68,7 +102,7 @@ loop-again : tie.Need-loop-again Inv-loop μ-loop
 loop-again c =
     let w = c .before .before .before in
     let l = w .before .before in
-    let a = l .before .before .before .args in
+    let a = l .before .before .before .before .before .args in
     let e = got (c .before) in
     let v = one-more (a .w) (a .base) (a .top) (a .s .now) (l .loop .here) (l .loop .left) (omega arith) (l .loop .inv .3) _ _ e in (
       inside (reference (a .w) (a .base) (a .top)) (a .s .now) (l .loop .here) _ _ (l .loop .inv .0) e,
@@ -78,13 +112,13 @@ loop-again c =
       rw add-one (rw (v .1) at (l .loop .inv .4)),
     )
 
-same-length-2 : tie.Need-same-length-2 Inv-loop μ-loop
-same-length-2 c = search needs
+same-length-3 : tie.Need-same-length-3 Inv-loop μ-loop
+same-length-3 c = search needs
 
-returns-2 : tie.Need-returns-2 Inv-loop μ-loop
-returns-2 c =
+returns-3 : tie.Need-returns-3 Inv-loop μ-loop
+returns-3 c =
     let l = c .before in
-    let a = l .before .before .before .args in
+    let a = l .before .before .before .before .before .args in
     let e : l .loop .left ≡ 0 = omega arith in
     rw (e, references-none (a .w) (a .base) (a .top) (a .s .now) (l .loop .here)) at (l .loop .inv .4)
 
@@ -94,17 +128,24 @@ put-refs-spec =
     (tie.spec
     Inv-loop
     μ-loop
+    clear-requires
+    mul-if2
+    add-if2
+    sub-if2
+    put-clear-requires
+    same-length
+    returns
     loop-holds
     reference-requires
     enum-known-a
     mul-table
     slice-write-table
     enum-told
-    same-length
-    returns
+    same-length-2
+    returns-2
     add-place
     sub-left
     loop-less
     loop-again
-    same-length-2
-    returns-2)
+    same-length-3
+    returns-3)

@@ -4,9 +4,10 @@ use Prim.Native.Nat.{_-_, _<_}
 use native.Mathlib.Omega.{arith}
 use Rattle.phd.specs.Shapes.{Word}
 use Rattle.phd_rows.specs.Rows.{row-at, row-count}
+use Rattle.phd_put.specs.Formed.{wide}
 use Rattle.phd_rows.specs.Kept.{word-of, few-rows, few-refs}
 use Rattle.phd_write.specs.Turns.{Next, next}
-use Rattle.phd_write.specs.Loops.{Sizing, sizing-begins, sizing-ends, row-lent, row-bound, plan-narrow, sizing-small, sizing-on}
+use Rattle.phd_write.specs.Loops.{Sizing, sizing-begins, sizing-ends, row-lent, row-bound, row-short, sizing-small, sizing-on}
 use Rattle.phd_write.proofs.rows.size.Statement.{statement}
 use Rattle.phd_write.proofs.rows.size.Tie as tie
 
@@ -44,32 +45,34 @@ loop-holds c = let d = c .before .before .before .before in rw (c .new .ensures)
 row-at-requires : tie.Need-row-at-requires Inv-loop μ-loop
 row-at-requires c κs = inside c
 
-plan-row-requires : tie.Need-plan-row-requires Inv-loop μ-loop
-plan-row-requires c κs = (row-lent _ _ _ _ _ _ _ _ (coming (c .before)) _ (c .row-at .ensures), row-bound _ _ _ _ _ _ _ _ (coming (c .before)) _ (c .row-at .ensures))
-
-size-requires : tie.Need-size-requires Inv-loop μ-loop
-size-requires c κs = plan-narrow _ _ _ _ _ _ _ _ (coming (c .before .before)) _ (c .before .row-at .ensures) _ (c .plan-row .ensures)
+record-requires : tie.Need-record-requires Inv-loop μ-loop
+record-requires c κs =
+    let n = coming (c .before .before) in
+    let e = c .before .row-at .ensures in (
+      (row-lent _ _ _ _ _ _ _ _ n _ e, row-bound _ _ _ _ _ _ _ _ n _ e),
+      (wide _ (word (begin (c .before .before))) .most, row-short _ _ _ _ _ _ _ _ n _ e),
+    )
 
 add-total : tie.Need-add-total Inv-loop μ-loop
 add-total c =
-    let d = c .before .before .before in
+    let d = c .before .before .before .before in
     let g = begin d .pre .0 in
-    let z = sizing-small _ _ _ _ _ _ _ _ (coming d) _ (c .before .before .row-at .ensures) _ (c .before .plan-row .ensures) _ _ _ (c .size .ensures) (turn d .loop .inv) (inside d) (few-rows _ _ _ _ g) (few-refs _ _ _ _ g) in
+    let z = sizing-small _ _ _ _ _ _ _ _ (coming d) _ (c .before .before .before .row-at .ensures) _ (c .before .record .ensures) _ _ (turn d .loop .inv) (inside d) (few-rows _ _ _ _ g) (few-refs _ _ _ _ g) in
     omega arith
 
 after-requires : tie.Need-after-requires Inv-loop μ-loop
 after-requires c κs = search needs
 
 add-i : tie.Need-add-i Inv-loop μ-loop
-add-i c = let d = c .before .before .before .before in let l = inside d in let f = few-rows _ _ _ _ (begin d .pre .0) in omega arith
+add-i c = let d = c .before .before .before .before .before in let l = inside d in let f = few-rows _ _ _ _ (begin d .pre .0) in omega arith
 
 loop-less : tie.Need-loop-less Inv-loop μ-loop
 loop-less c = search needs
 
 loop-again : tie.Need-loop-again Inv-loop μ-loop
 loop-again c =
-    let d = c .before .before .before .before in
-    sizing-on _ _ _ _ _ _ _ _ (coming d) _ (c .before .before .before .row-at .ensures) _ (c .before .before .plan-row .ensures) _ _ _ _ (c .before .size .ensures) (c .after .ensures)
+    let d = c .before .before .before .before .before in
+    sizing-on _ _ _ _ _ _ _ _ (coming d) _ (c .before .before .before .before .row-at .ensures) _ (c .before .before .record .ensures) _ _ _ (c .after .ensures)
     (word (begin d)) (turn d .loop .inv) (inside d)
 
 add-result : tie.Need-add-result Inv-loop μ-loop
@@ -96,8 +99,7 @@ size-spec =
     new-requires
     loop-holds
     row-at-requires
-    plan-row-requires
-    size-requires
+    record-requires
     add-total
     after-requires
     add-i

@@ -1,0 +1,22 @@
+-- `put1` meets its contract.
+use borrow.Author.Needs.{needs}
+use mathlib.Core.Path.{refl}
+use Rattle.layout_put.specs.Put.{be}
+use Rattle.layout_put.proofs.put1.Statement.{statement}
+use Rattle.layout_put.proofs.put1.Tie as tie
+
+cast-out : tie.Need-cast-out
+cast-out c = search needs
+
+slice-write-out : tie.Need-slice-write-out
+slice-write-out c = search needs
+
+same-length : tie.Need-same-length
+same-length c = search needs
+
+returns : tie.Need-returns
+unfolding be
+returns c = refl
+
+pub put1-spec : {M : Type 1} → statement M
+put1-spec = tie.close (tie.spec cast-out slice-write-out same-length returns)

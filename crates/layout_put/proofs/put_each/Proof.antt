@@ -1,0 +1,69 @@
+-- `put_each` meets its contract: storing the bytes that are left, from the first on, is storing all of them.
+use mathlib.Core.Path.{_≡_, refl, sym, _∙_}
+use Prim.Native.Nat.{_≤_}
+use native.Mathlib.Omega.{arith}
+use lib.ListN.{length, length-set}
+use lib.Seq.{sets}
+use Rattle.layout_put.specs.Put.{be}
+use Rattle.layout_put.proofs.Laws.{put-step}
+use Rattle.layout_put.proofs.put_each.Statement.{statement}
+use Rattle.layout_put.proofs.put_each.Tie as tie
+
+abbrev Inv-loop : tie.InvT-loop
+Inv-loop out₀ at n value rest₀ k₀ out rest k =
+    (k ≤ n) × (length out ≡ length out₀) × (sets out at (be k rest) ≡ sets out₀ at (be n value))
+
+abbrev μ-loop : tie.MeasureT-loop
+μ-loop out₀ at n value rest₀ k₀ out rest k = k
+
+loop-holds : tie.Need-loop-holds Inv-loop μ-loop
+loop-holds c = (omega arith, refl, refl)
+
+sub-k : tie.Need-sub-k Inv-loop μ-loop
+sub-k c = omega arith
+
+cast-out : tie.Need-cast-out Inv-loop μ-loop
+cast-out c = omega arith
+
+add-out : tie.Need-add-out Inv-loop μ-loop
+add-out c = omega arith
+
+slice-write-out : tie.Need-slice-write-out Inv-loop μ-loop
+slice-write-out c = omega arith
+
+loop-less : tie.Need-loop-less Inv-loop μ-loop
+loop-less c = omega arith
+
+loop-again : tie.Need-loop-again Inv-loop μ-loop
+loop-again c =
+    let l = c .before in (
+      omega arith,
+      simp length-set (l .loop .inv .1),
+      sym (put-step (l .loop .out) _ (l .loop .k) (l .loop .rest) (omega arith)) ∙ l .loop .inv .2,
+    )
+
+same-length : tie.Need-same-length Inv-loop μ-loop
+same-length c = omega arith
+
+returns : tie.Need-returns Inv-loop μ-loop
+unfolding be
+returns c =
+    let l = c .before in
+    let e : l .loop .k ≡ 0 = omega arith in
+    rw e at (l .loop .inv .2)
+
+pub put-each-spec : {M : Type 1} → statement M
+put-each-spec =
+    tie.close
+    (tie.spec
+    Inv-loop
+    μ-loop
+    loop-holds
+    sub-k
+    cast-out
+    add-out
+    slice-write-out
+    loop-less
+    loop-again
+    same-length
+    returns)

@@ -1,0 +1,102 @@
+-- `put_clear` meets its contract: storing what is left, from here, is storing all of them.
+use borrow.Author.Needs.{needs}
+use mathlib.Core.Path.{_≡_, refl}
+use Prim.Native.Nat.{_+_, _-_, _*_, _≤_, _<_}
+use native.Mathlib.Omega.{arith}
+use native.Mathlib.Numerals.{add-one}
+use lib.ListN.{length, length-set}
+use lib.Seq.{sets}
+use Rattle.layout.specs.Layout.{run}
+use Rattle.layout_quick.specs.Quick.{far}
+use Rattle.phd.specs.Phd.{references}
+use Rattle.phd.specs.References.{references-none}
+use Rattle.phd_read.specs.Stored.{values-of}
+use Rattle.layout_quick.specs.Quick.{clear-narrow, clear-low, clear-high}
+use Rattle.phd_read.proofs.ClearLaws.{one-field, clear-more}
+use Rattle.phd_read.proofs.tables.put_clear.Statement.{statement}
+use Rattle.phd_read.proofs.tables.put_clear.Tie as tie
+
+abbrev Inv-loop : tie.InvT-loop
+Inv-loop s at w base top count table₀ to here₀ left₀ place₀ table here left place =
+    (here + left * w + 4 ≤ length s) × (place + left ≤ length table) × (length table ≡ length table₀)
+    × (sets table place (values-of (run (references w base top left) s here)) ≡ sets table₀ to (values-of (run (references w base top count) s at)))
+
+abbrev μ-loop : tie.MeasureT-loop
+μ-loop s at w base top count table₀ to here₀ left₀ place₀ table here left place = left
+
+loop-holds : tie.Need-loop-holds Inv-loop μ-loop
+loop-holds c = (omega arith, omega arith, refl, refl)
+
+placed-requires : tie.Need-placed-requires Inv-loop μ-loop
+placed-requires c κs =
+    let l = c .before in
+    let a = l .before .before .before .args in
+    let is = l .before .before .before .pre .1 in
+    let m : l .loop .left * a .w ≡ (l .loop .left - 1) * a .w + a .w = one-field _ _ (omega arith) in
+    let n : a .w ≤ 4 = clear-narrow (a .w) (a .base) (a .top) is in
+    let b : far (a .w) < a .base = clear-low (a .w) (a .base) (a .top) is in
+    let e : a .base + far (a .w) < a .top = clear-high (a .w) (a .base) (a .top) is in
+    (omega arith, n, omega arith, b, omega arith)
+
+mul-table : tie.Need-mul-table Inv-loop μ-loop
+mul-table c = search needs
+
+slice-write-table : tie.Need-slice-write-table Inv-loop μ-loop
+slice-write-table c = search needs
+
+add-here : tie.Need-add-here Inv-loop μ-loop
+add-here c =
+    let l = c .before .before in
+    let m : l .loop .left * l .before .before .before .args .w ≡ _ = one-field _ _ (omega arith) in
+    omega arith
+
+add-place : tie.Need-add-place Inv-loop μ-loop
+add-place c = search needs
+
+sub-left : tie.Need-sub-left Inv-loop μ-loop
+sub-left c = search needs
+
+loop-less : tie.Need-loop-less Inv-loop μ-loop
+loop-less c = search needs
+
+loop-again : tie.Need-loop-again Inv-loop μ-loop
+loop-again c =
+    let l = c .before .before in
+    let a = l .before .before .before .args in
+    let is = l .before .before .before .pre .1 in
+    let h : 0 < l .loop .left = omega arith in
+    let m : l .loop .left * a .w ≡ (l .loop .left - 1) * a .w + a .w = one-field (l .loop .left) (a .w) h in
+    let v = clear-more (a .w) (a .base) (a .top) (a .s .now) is (l .loop .left) (l .loop .here) h (omega arith) in (
+      omega arith,
+      simp length-set (omega arith),
+      simp length-set (l .loop .inv .2),
+      rw (c .placed .ensures, add-one) (rw v at (l .loop .inv .3)),
+    )
+
+same-length : tie.Need-same-length Inv-loop μ-loop
+same-length c = search needs
+
+returns : tie.Need-returns Inv-loop μ-loop
+returns c =
+    let l = c .before in
+    let a = l .before .before .before .args in
+    let e : l .loop .left ≡ 0 = omega arith in
+    rw (e, references-none (a .w) (a .base) (a .top) (a .s .now) (l .loop .here)) at (l .loop .inv .3)
+
+pub put-clear-spec : {M : Type 1} → statement M
+put-clear-spec =
+    tie.close
+    (tie.spec
+    Inv-loop
+    μ-loop
+    loop-holds
+    placed-requires
+    mul-table
+    slice-write-table
+    add-here
+    add-place
+    sub-left
+    loop-less
+    loop-again
+    same-length
+    returns)

@@ -1,0 +1,227 @@
+-- What the layout of an array finds where its bytes are there, part by part.
+use mathlib.Core.Path.{_≡_, refl, ap, _∙_}
+use mathlib.Core.Bool.{Bool, true, false, not}
+use mathlib.Core.List.{List, []}
+use Prim.Native.Nat.{ℕ, _+_, _*_, _/_, _^_, _≤_, _<_}
+use native.Mathlib.Omega.{arith}
+use lib.Dec.{ltb}
+use lib.IntN.{ℤ, pos, negsuc}
+use lib.ListN.{length, take, drop}
+use borrow.Author.Tests.{ltb-true, le-leb, lt-leb}
+use Rattle.layout.specs.Numbers.{pick, both, either, value, signed, moved, counted}
+use Rattle.layout.specs.Layout.{whole, stops, run, field, run-then, run-yield, run-position, run-field, run-check, run-need}
+use Rattle.layout.specs.Fields.{no-text}
+use Rattle.layout.specs.declared.Maybe.the-variants.{Just, Nothing}
+use Rattle.layout.specs.declared.Stop.the-variants.{Refused}
+use Rattle.layout.specs.declared.Text.{Text}
+use Rattle.layout_quick.specs.Quick.{clear}
+use Rattle.phd.specs.Phd.{highest, tagged, formed, known-class, moved-bit, hashed-bit, flag-byte, hash-kind, hash-bytes, shape, front, middle, class-name, link-count, references, links, true-length, tail, linked, fields, record-of}
+use Rattle.phd.specs.References.{references-none}
+use Rattle.phd.specs.declared.Facts.{Facts}
+use Rattle.phd.specs.declared.Form.the-variants.{ObjectArray, Primitive}
+use Rattle.phd.specs.declared.Tagged.the-variants.{Begins}
+use Rattle.phd.specs.declared.Shape.{Shape}
+use Rattle.phd.specs.declared.Front.{Front}
+use Rattle.phd.specs.declared.Middle.{Middle}
+use Rattle.phd.specs.declared.Tail.{Tail}
+use Rattle.phd.specs.declared.classes.Cache.{Cache}
+use Rattle.phd_record.specs.Found.{found-of, recorded}
+use Rattle.phd_record.specs.Arrays.{ArrayShape, behind}
+use Rattle.phd_record.proofs.QuickLaws.{reads-field, run-address, run-count, lacks-field, lacks-count, lacks-name, lacks-links, lacks-length, clear-references, front-whole, middle-whole, tail-whole, fields-whole, unflagged, medium-known}
+
+-- a count is below 2^31
+pub counted-below : (z : ℤ) (n : ℕ) → counted z ≡ Just n → n < 2 ^ 31
+unfolding counted
+counted-below (pos m) n h = by (ltb m (2 ^ 31)) refl h
+  where
+    by : (b : Bool) → ltb m (2 ^ 31) ≡ b → pick b (Just m) Nothing ≡ Just n → n < 2 ^ 31
+    by true e g = let l : m < 2 ^ 31 = ltb-true _ _ e in let z : m ≡ n = cc in omega arith
+    by false e g = let z : _≡_ {A = ℕ} 0 1 = cc in absurd (omega arith)
+counted-below (negsuc m) n h = let z : _≡_ {A = ℕ} 0 1 = cc in absurd (omega arith)
+
+-- ---- parts of 4 bytes, and a hash
+
+module _ (s : List ℕ) (at w v : ℕ) (four : w ≡ 4) (room : at + 4 ≤ length s) where
+  four-field : v ≡ value (take 4 (drop at s)) → run (field w) s at ≡ whole v (at + 4)
+  four-field e = rw (four, e, run-field 4 s at room)
+
+  four-links : (k : ℕ) → counted (signed 4 (value (take 4 (drop at s)))) ≡ Just v → run (link-count w k) s at ≡ whole v (at + 4)
+  unfolding link-count
+  four-links k e = rw four (run-count s at 4 v room e)
+
+  -- a true length, which is at least n
+  four-length : (n : ℕ) → counted (signed 4 (value (take 4 (drop at s)))) ≡ Just v → n ≤ v → run (true-length w n) s at ≡ whole v (at + 4)
+  unfolding true-length
+  four-length n e l = rw (four, run-then, run-count s at 4 v room e, run-then, run-check, le-leb n v l, run-yield)
+
+hash-whole : (s : List ℕ) (sh : Shape) (hk hb hash at : ℕ) → sh .inst ≡ 0 → sh .superclass ≡ 0 → hb ≡ hash-bytes hk
+    → hash ≡ value (take hb (drop at s)) → at + hb ≤ length s
+    → run (middle sh (hash-bytes hk)) s at ≡ whole (record { inst = 0; hash = hash; superclass = 0 }) (at + hb)
+hash-whole s sh hk hb hash at i u eb eh h =
+    rw (← eb)
+    (middle-whole s at sh hb 0 hash 0 at (at + hb) (at + hb)
+    (lacks-count s at (sh .inst) i (omega arith))
+    (reads-field s at hb hash (at + hb) h refl eh)
+    (lacks-field s (at + hb) (sh .superclass) u h))
+
+-- ---- an object array
+
+-- its flag byte is one byte
+pub flags-next : (h : Facts) (s : List ℕ) (at f p : ℕ) → at + 1 ≤ length s → run (flag-byte h 8) s at ≡ whole f p → p ≡ at + 1
+unfolding flag-byte
+flags-next h s at f p l e = by (not (both (h .hashed) (either (moved-bit 8 x) (hashed-bit 8 x)))) refl
+  where
+    x : ℕ
+    x = value (take 1 (drop at s))
+
+    by : (b : Bool) → not (both (h .hashed) (either (moved-bit 8 x) (hashed-bit 8 x))) ≡ b → p ≡ at + 1
+    by true k =
+        let g : run (flag-byte h 8) s at ≡ whole x (at + 1) = rw (run-then, run-field 1 s at l, run-then, run-check, k, run-yield) in
+        cc
+    by false k =
+        let g : run (flag-byte h 8) s at ≡ stops (Refused 11) = rw (run-then, run-field 1 s at l, run-then, run-check, k) in
+        let z : _≡_ {A = ℕ} 0 1 = cc in
+        absurd (omega arith)
+
+module _ (w t f : ℕ) where
+  pub array-shape : ArrayShape (shape w ObjectArray t f)
+  unfolding shape
+  array-shape = record { inst = refl; superclass = refl; name = refl; counted = refl; size = refl; truelen = refl }
+
+  pub array-word : shape w ObjectArray t f .word ≡ w
+  unfolding shape
+  array-word = refl
+
+  array-len : shape w ObjectArray t f .len ≡ 0
+  unfolding shape
+  array-len = refl
+
+-- from behind its front on
+module _ (top : ℕ) (c : Cache) (index hk : ℕ) (sh : Shape) (v : Front) (s : List ℕ) (at : ℕ) where
+  behind-whole : (m : Middle) (name : Text) (n : ℕ) (rs : List ℕ) (t : Tail) (p1 p2 p3 p4 p5 : ℕ)
+      → run (middle sh (hash-bytes hk)) s at ≡ whole m p1
+      → run (class-name (sh .name)) s p1 ≡ whole name p2
+      → run (link-count (sh .counted) (sh .count)) s p2 ≡ whole n p3
+      → run (references (sh .link) (v .address) top n) s p3 ≡ whole rs p4
+      → run (tail (sh .size) (sh .truelen) n) s p4 ≡ whole t p5
+      → found-of c (run (behind top c index hk sh v) s at) ≡ recorded p5 p3 n t c index 0 hk sh v m name
+  unfolding behind linked links found-of recorded
+  behind-whole m name n rs t p1 p2 p3 p4 p5 f g h i j =
+      rw (run-then, f, run-then, g, run-then, h, run-then, run-then, run-position, run-then, i, run-yield, run-then, j, run-yield)
+
+  pub array-behind : (hb hash n size truelen : ℕ) (name : Text) → ArrayShape sh → hb ≡ hash-bytes hk → clear (sh .link) (v .address) top ≡ true
+      → hash ≡ value (take hb (drop at s)) → counted (signed 4 (value (take 4 (drop (at + hb) s)))) ≡ Just n
+      → at + hb + 4 + n * sh .link + 8 ≤ length s
+      → size ≡ value (take 4 (drop (at + hb + 4 + n * sh .link) s))
+      → counted (signed 4 (value (take 4 (drop (at + hb + 4 + n * sh .link + 4) s)))) ≡ Just truelen → n ≤ truelen → name ≡ no-text
+      → found-of c (run (behind top c index hk sh v) s at)
+      ≡ recorded (at + hb + 4 + n * sh .link + 8) (at + hb + 4) n (record { size = size; truelen = truelen }) c index 0 hk sh v
+      (record { inst = 0; hash = hash; superclass = 0 }) name
+  array-behind hb hash n size truelen name a eb far eh en room es et l ek =
+      let place : ℕ = at + hb + 4 in
+      let end : ℕ = place + n * sh .link in
+      let r = clear-references (sh .link) (v .address) top s far n place (omega arith) in
+      let e : end + 4 + 4 ≡ end + 8 = omega arith in
+      rw (ek, ← e)
+      (behind-whole _ _ n (r .0) _ (at + hb) (at + hb) place end (end + 4 + 4)
+      (hash-whole s sh hk hb hash at (a .inst) (a .superclass) eb eh (omega arith))
+      (lacks-name s (at + hb) (sh .name) (a .name))
+      (four-links s (at + hb) (sh .counted) n (a .counted) (omega arith) (sh .count) en)
+      (r .1)
+      (tail-whole s end (sh .size) (sh .truelen) n size truelen (end + 4) (end + 4 + 4)
+      (four-field s end (sh .size) size (a .size) (omega arith) es)
+      (four-length s (end + 4) (sh .truelen) truelen (a .truelen) (omega arith) n et l)))
+
+module _ (h : Facts) (before : ℕ) (c : Cache) (index : ℕ) (s : List ℕ) (at top hk : ℕ) (sh : Shape) where
+  array-fields : (f p : ℕ) → run (flag-byte h 8) s at ≡ whole f p
+      → run (record-of h before c index 8) s at
+      ≡ run (fields (highest (h .word)) before c index 0 (hash-kind h 8 f) (shape (h .word / 8) ObjectArray 8 f)) s p
+  unfolding record-of tagged formed known-class
+  array-fields f p e = rw (run-then, run-yield, run-then, run-need, run-then, e)
+
+  fields-behind : (v : Front) (p q : ℕ) → run (front top before sh) s p ≡ whole v q
+      → run (fields top before c index 0 hk sh) s p ≡ run (behind top c index hk sh v) s q
+  unfolding fields behind
+  fields-behind v p q e = rw (run-then, e)
+
+  -- up to its hash
+  pub array-front : (f p a w : ℕ) → run (flag-byte h 8) s at ≡ whole f p
+      → top ≡ highest (h .word) → hk ≡ hash-kind h 8 f → sh ≡ shape (h .word / 8) ObjectArray 8 f
+      → p + sh .gap + sh .word ≤ length s
+      → moved top before (signed (sh .gap) (value (take (sh .gap) (drop p s)))) ≡ Just a
+      → w ≡ value (take (sh .word) (drop (p + sh .gap) s))
+      → run (record-of h before c index 8) s at
+      ≡ run (behind top c index hk sh (record { address = a; word = w; len = 0 })) s (p + sh .gap + sh .word)
+  array-front f p a w e et ek es room ea ew =
+      let q : ℕ = p + sh .gap + sh .word in
+      let n : sh .len ≡ 0 = rw es (array-len (h .word / 8) 8 f) in
+      let i : run (record-of h before c index 8) s at ≡ run (fields top before c index 0 hk sh) s p = rw (et, ek, es) (array-fields f p e) in
+      i
+      ∙ fields-behind _ p q
+      (front-whole s p top before sh a w 0 (p + sh .gap) q q
+      (run-address s p (sh .gap) before top a (omega arith) ea)
+      (reads-field s (p + sh .gap) (sh .word) w q room refl ew)
+      (lacks-count s q (sh .len) n room))
+
+-- ---- a primitive array
+
+pub record Plain (sh : Shape) : Type 0 where
+  pub word : sh .word ≡ 0
+  pub len : sh .len ≡ sh .gap
+  pub inst : sh .inst ≡ 0
+  pub superclass : sh .superclass ≡ 0
+  pub name : sh .name ≡ 0
+  pub counted : sh .counted ≡ 0
+  pub count : sh .count ≡ 0
+  pub size : sh .size ≡ 4
+  pub truelen : sh .truelen ≡ 0
+
+pub plain : (w t f : ℕ) → Plain (shape w Primitive t f)
+unfolding shape
+plain w t f = record {
+  word = refl;
+  len = refl;
+  inst = refl;
+  superclass = refl;
+  name = refl;
+  counted = refl;
+  count = refl;
+  size = refl;
+  truelen = refl;
+}
+
+tagged-primitive : (t : ℕ) → 0x20 ≤ t → t < 0x40 → tagged t ≡ Begins Primitive
+unfolding tagged
+tagged-primitive t low high = rw (lt-leb 0x80 t (omega arith), lt-leb 0x40 t high, le-leb 0x20 t low)
+
+pub primitive-whole : (h : Facts) (before : ℕ) (c : Cache) (index : ℕ) (s : List ℕ) (at top hk : ℕ) (sh : Shape) (t hb a n hash size : ℕ) (name : Text)
+    → 0x20 ≤ t → t < 0x40
+    → top ≡ highest (h .word) → hk ≡ hash-kind h t 0 → sh ≡ shape (h .word / 8) Primitive t 0 → hb ≡ hash-bytes hk
+    → at + sh .gap + sh .len + hb + 4 ≤ length s
+    → moved top before (signed (sh .gap) (value (take (sh .gap) (drop at s)))) ≡ Just a
+    → counted (signed (sh .len) (value (take (sh .len) (drop (at + sh .gap) s)))) ≡ Just n
+    → hash ≡ value (take hb (drop (at + sh .gap + sh .len) s))
+    → size ≡ value (take 4 (drop (at + sh .gap + sh .len + hb) s)) → name ≡ no-text
+    → found-of c (run (record-of h before c index t) s at)
+    ≡ recorded (at + sh .gap + sh .len + hb + 4) (at + sh .gap + sh .len + hb) 0 (record { size = size; truelen = 0 }) c index 0 hk sh
+    (record { address = a; word = 0; len = n }) (record { inst = 0; hash = hash; superclass = 0 }) name
+primitive-whole h before c index s at top hk sh t hb a n hash size name low high et ek es eb room ea en eh ez em =
+    let q : Plain sh = rw es (plain (h .word / 8) t 0) in
+    let from : ℕ = at + sh .gap + sh .len in
+    let place : ℕ = from + hb in
+    let i : run (record-of h before c index t) s at ≡ run (fields top before c index 0 hk sh) s at =
+    rw (et, ek, es) (unflagged h before c index t s at Primitive 0 low (omega arith) (tagged-primitive t low high) (medium-known c t (omega arith))) in
+    ap (found-of c) i
+    ∙ rw em
+    (fields-whole top before c index 0 hk sh s at _ _ _ 0 [] _ from place place place place (place + 4)
+    (front-whole s at top before sh a 0 n (at + sh .gap) (at + sh .gap) from
+    (run-address s at (sh .gap) before top a (omega arith) ea)
+    (lacks-field s (at + sh .gap) (sh .word) (q .word) (omega arith))
+    (run-count s (at + sh .gap) (sh .len) n (omega arith) en))
+    (hash-whole s sh hk hb hash from (q .inst) (q .superclass) eb eh (omega arith))
+    (lacks-name s place (sh .name) (q .name))
+    (lacks-links s place (sh .counted) (q .counted) (sh .count) ∙ ap (λ (k : ℕ). whole k place) (q .count))
+    (references-none (sh .link) a top s place)
+    (tail-whole s place (sh .size) (sh .truelen) 0 size 0 (place + 4) (place + 4)
+    (four-field s place (sh .size) size (q .size) room ez)
+    (lacks-length s (place + 4) (sh .truelen) (q .truelen) 0)))

@@ -1,0 +1,24 @@
+-- What is left of a record behind its front part, and the shape of an object array. Assumes nothing.
+use mathlib.Core.Path.{_≡_}
+use Prim.Native.Nat.{ℕ}
+use Rattle.layout.specs.Layout.{Layout, _>>=_}
+use Rattle.phd.specs.Phd.{Item, hash-bytes, middle, class-name, linked}
+use Rattle.phd.specs.declared.Shape.{Shape}
+use Rattle.phd.specs.declared.Front.{Front}
+use Rattle.phd.specs.declared.classes.Cache.{Cache}
+
+-- the fields that an object array lacks, and the bytes of its count, size and true length
+pub record ArrayShape (sh : Shape) : Type 0 where
+  pub inst : sh .inst ≡ 0
+  pub superclass : sh .superclass ≡ 0
+  pub name : sh .name ≡ 0
+  pub counted : sh .counted ≡ 4
+  pub size : sh .size ≡ 4
+  pub truelen : sh .truelen ≡ 4
+
+-- the fields of a record, as `fields` of phd has them, from behind the front v on
+unfoldable pub behind : ℕ → Cache → ℕ → ℕ → Shape → Front → Layout Item
+behind top c index hk sh v = do
+  m ← middle sh (hash-bytes hk)
+  name ← class-name (sh .name)
+  linked top c index 0 hk sh v m name

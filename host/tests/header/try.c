@@ -1,0 +1,33 @@
+/* Reads the dump on standard input, writes it anew and as text through include/phd.h, and prints what each call said and the
+ * text. */
+#include <phd.h>
+#include <stdio.h>
+
+enum { ROOM = 1 << 16 };
+
+static uint8_t dump[ROOM], again[ROOM], text[ROOM];
+static uint64_t rows[ROOM], refs[ROOM], facts[16];
+
+static void say(const char *call, uint64_t reply) {
+    printf("%s %d", call, (int)reply);
+    for (int i = 0; i < 16; i++)
+        printf(" %llu", (unsigned long long)facts[i]);
+    printf("\n");
+}
+
+int main(void) {
+    size_t size = fread(dump, 1, ROOM, stdin);
+    uint64_t read = phd_read(dump, size, rows, ROOM, refs, ROOM, facts);
+    say("read", read);
+    if (read != PHD_DONE && read != PHD_CUT)
+        return 1;
+    uint64_t header[PHD_HEADER];
+    for (int i = 0; i < PHD_HEADER; i++)
+        header[i] = facts[PHD_W + i];
+    size_t numbers = facts[PHD_ROWS] * PHD_ROW;
+    size_t links = facts[PHD_REFERENCES];
+    say("write", phd_write(header, rows, numbers, refs, links, dump, size, again, ROOM, facts));
+    say("text", phd_text(header, rows, numbers, refs, links, dump, size, text, ROOM, facts));
+    fwrite(text, 1, facts[PHD_PLACE], stdout);
+    return 0;
+}
