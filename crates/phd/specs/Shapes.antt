@@ -30,9 +30,14 @@ pub record Narrow (sh : Shape) : Type 0 where
   pub size : sh .size ≤ 8
   pub truelen : sh .truelen ≤ 8
 
-width-le : (c : ℕ) → c < 4 → width c ≤ 8
+-- a greater width code stands for no fewer bytes, and the greatest for 8
+pub width-grows : (c k : ℕ) → c ≤ k → width c ≤ width k
 unfolding width
-width-le c h = pow-le-pow-right {n = 2} (omega arith) {i = c} {j = 3} (omega arith)
+width-grows c k h = pow-le-pow-right {n = 2} (omega arith) {i = c} {j = k} h
+
+pub width-le : (c : ℕ) → c < 4 → width c ≤ 8
+unfolding width
+width-le c h = width-grows c 3 (omega arith)
 
 pick-le : (b : Bool) (w : ℕ) → w ≤ 8 → pick b w 1 ≤ 8
 pick-le true w h = h

@@ -3,7 +3,6 @@
 use mathlib.Core.Path.{_≡_, refl, ap, _∙_}
 use Prim.Native.Nat.{ℕ, _+_, _*_, _≤_, _<_}
 use mathlib.Core.Bool.{Bool, true, false, _&&_, _||_}
-use native.Mathlib.Nat.{pow-le-pow-right}
 use native.Mathlib.Omega.{arith}
 use native.Mathlib.Decide.{decLe}
 use lib.Dec.{leb, ltb, eqb, lit<}
@@ -47,10 +46,6 @@ object-sized w k slot count gap more =
 unfoldable pub array-sized : ℕ → ℕ → ℕ → ℕ → Sized
 array-sized w k pair more =
     pick (hashes k) (pick (eqb pair 0) (made (8 + more) false) (made (6 + 2 * w + more) false)) (made (5 + 2 * width pair + more) false)
-
-pub width-most : (c : ℕ) → c < 4 → width c ≤ 8
-unfolding width
-width-most c l = pow-le-pow-right {n = 2} (lit< tt) {i = c} {j = 3} (omega arith)
 
 -- a wide gap leaves the long form
 far : (l s n : Bool) → pick (both l (both s false)) Short (pick (both n false) Medium Long) ≡ Long

@@ -27,7 +27,7 @@ use Rattle.phd.specs.declared.Tail.{Tail}
 use Rattle.phd.specs.declared.classes.Cache.{Cache}
 use Rattle.phd_record.specs.Found.{found-of, recorded}
 use Rattle.phd_record.specs.Arrays.{ArrayShape, behind}
-use Rattle.phd_record.proofs.QuickLaws.{reads-field, run-address, run-count, lacks-field, lacks-count, lacks-name, lacks-links, lacks-length, clear-references, front-whole, middle-whole, tail-whole, fields-whole, unflagged, medium-known}
+use Rattle.phd_record.proofs.QuickLaws.{reads-field, run-address, run-count, lacks-field, lacks-count, lacks-name, lacks-links, lacks-length, clear-references, front-whole, middle-whole, tail-whole, fields-whole, unflagged, none-known}
 
 -- a count is below 2^31
 pub counted-below : (z : ℤ) (n : ℕ) → counted z ≡ Just n → n < 2 ^ 31
@@ -210,7 +210,7 @@ primitive-whole h before c index s at top hk sh t hb a n hash size name low high
     let from : ℕ = at + sh .gap + sh .len in
     let place : ℕ = from + hb in
     let i : run (record-of h before c index t) s at ≡ run (fields top before c index 0 hk sh) s at =
-    rw (et, ek, es) (unflagged h before c index t s at Primitive 0 low (omega arith) (tagged-primitive t low high) (medium-known c t (omega arith))) in
+    rw (et, ek, es) (unflagged h before c index t s at Primitive 0 low (omega arith) (tagged-primitive t low high) (none-known c t (omega arith))) in
     ap (found-of c) i
     ∙ rw em
     (fields-whole top before c index 0 hk sh s at _ _ _ 0 [] _ from place place place place (place + 4)

@@ -4,10 +4,10 @@ use mathlib.Core.Bool.{Bool, true, false, not}
 use mathlib.Core.List.{List, [], _∷_}
 use mathlib.Core.Logic.{_⊎_, inl, inr, ⊎-elim}
 use Prim.Native.Nat.{ℕ, zero, suc, _+_, _-_, _*_, _/_, _%_, _≤_, _<_}
-use native.Mathlib.Nat.{suc-mul, mul-le-mul, pow-le-pow-right}
+use native.Mathlib.Nat.{suc-mul, mul-le-mul}
 use native.Mathlib.Omega.{arith}
 use borrow.Author.Tests.{le-ltb, le-leb, lt-leb, ne-eqb}
-use lib.Dec.{eqb}
+use lib.Dec.{eqb, leb}
 use lib.ListN.{length, take, drop}
 use Rattle.layout.specs.Numbers.{pick, both, either, value, value-after, signed, moved, counted}
 use Rattle.layout.specs.Layout.{Outcome, whole, onward, run, field, run-then, run-yield, run-position, run-field, run-none, run-need, run-check}
@@ -17,7 +17,7 @@ use Rattle.layout.specs.declared.Text.{Text}
 use Rattle.layout_quick.specs.Quick.{clear, target, clear-reference}
 use Rattle.phd.specs.Phd.{Item, highest, bit, width, tagged, formed, known-class, moved-bit, hashed-bit, flag-byte, hash-kind, hash-bytes, shape, front, middle, class-name, link-count, references, links, true-length, tail, linked, fields, record-of, entry}
 use Rattle.phd.specs.References.{in-front, references-none, references-more}
-use Rattle.phd.specs.Shapes.{Word}
+use Rattle.phd.specs.Shapes.{Word, width-grows}
 use Rattle.phd.specs.declared.classes.Cache.{Cache}
 use Rattle.phd.specs.declared.Facts.{Facts}
 use Rattle.phd.specs.declared.Form.{Form}
@@ -28,7 +28,7 @@ use Rattle.phd.specs.declared.Shape.{Shape}
 use Rattle.phd.specs.declared.Tagged.the-variants.{Begins}
 use Rattle.phd.specs.declared.Tail.{Tail}
 use Rattle.phd_record.specs.Found.{found-of, recorded}
-use Rattle.phd_record.specs.Taken.{Taken}
+use Rattle.phd_record.specs.Taken.{Taken, Worded}
 use Rattle.phd_record.specs.declared.Found.{Found}
 
 -- ---- one field
@@ -177,44 +177,52 @@ pub record Object (sh : Shape) : Type 0 where
   pub word : sh .word ≤ 8
   pub refs : sh .count * sh .link ≤ 56
 
-width-most : (c k : ℕ) → c ≤ k → width c ≤ width k
-unfolding width
-width-most c k h = pow-le-pow-right {n = 2} (omega arith) {i = c} {j = k} h
-
 module _ (w t : ℕ) where
   near-gap : width (t / 0x04 % 2) ≤ 2
   unfolding width
-  near-gap = width-most (t / 0x04 % 2) 1 (omega arith)
+  near-gap = width-grows (t / 0x04 % 2) 1 (omega arith)
 
   few-links : (n : ℕ) → n ≤ 7 → n * width (t % 4) ≤ 56
   unfolding width
-  few-links n h = mul-le-mul {n₁ = n} {m₁ = width (t % 4)} {n₂ = 7} {m₂ = 8} h (width-most (t % 4) 3 (omega arith))
+  few-links n h = mul-le-mul {n₁ = n} {m₁ = width (t % 4)} {n₂ = 7} {m₂ = 8} h (width-grows (t % 4) 3 (omega arith))
 
-  pub short-object : Object (shape w Short t 0)
+  short-object : Object (shape w Short t 0)
   unfolding shape
   short-object =
       let g : width (t / 0x04 % 2) ≤ 2 = near-gap in
       let r : t / 0x08 % 4 * width (t % 4) ≤ 56 = few-links _ (omega arith) in
       omega arith
 
-  pub medium-object : w ≤ 8 → Object (shape w Medium t 0)
+  medium-object : w ≤ 8 → Object (shape w Medium t 0)
   unfolding shape
   medium-object h =
       let g : width (t / 0x04 % 2) ≤ 2 = near-gap in
       let r : t / 0x08 % 8 * width (t % 4) ≤ 56 = few-links _ (omega arith) in
       omega arith
 
-pub short-word : (w t : ℕ) → shape w Short t 0 .word ≡ 0
-unfolding shape
-short-word w t = refl
-
-pub medium-word : (w t : ℕ) → shape w Medium t 0 .word ≡ w
-unfolding shape
-medium-word w t = refl
-
 -- W in bytes
-pub word-bytes : (w : ℕ) → Word w → (w / 8 ≡ 4) ⊎ (w / 8 ≡ 8)
-word-bytes w h = ⊎-elim (λ e. inl (omega arith)) (λ e. inr (omega arith)) h
+pub word-bytes : (w : ℕ) → Word w → Worded (w / 8)
+word-bytes w h = inr (⊎-elim (λ e. inl (omega arith)) (λ e. inr (omega arith)) h)
+
+pub worded-most : (w : ℕ) → Worded w → w ≤ 8
+worded-most w h = ⊎-elim (λ e. omega arith) (λ r. ⊎-elim (λ e. omega arith) (λ e. omega arith) r) h
+
+two-forms : (b : Bool) (fm : Form) → pick b (Begins Short) (Begins Medium) ≡ Begins fm → (fm ≡ Short) ⊎ (fm ≡ Medium)
+two-forms true fm e = inl cc
+two-forms false fm e = inr cc
+
+-- the form that a tag from 0x40 on begins
+module _ (w t : ℕ) (fm : Form) (l : 0x40 ≤ t) (g : tagged t ≡ Begins fm) (h : Worded w) where
+  object-forms : (fm ≡ Short) ⊎ (fm ≡ Medium)
+  unfolding tagged
+  object-forms = two-forms (leb 0x80 t) fm (rw (le-leb 0x40 t l) at g)
+
+  pub object-shape : Object (shape w fm t 0)
+  object-shape = ⊎-elim (λ e. rw e (short-object w t)) (λ e. rw e (medium-object w t (worded-most w h))) object-forms
+
+  pub object-word : Worded (shape w fm t 0 .word)
+  unfolding shape
+  object-word = ⊎-elim (λ e. rw e (inl refl)) (λ e. rw e h) object-forms
 
 pick-few : (a b : Bool) → pick a 4 (pick b 2 0) ≤ 4
 pick-few true b = omega arith
@@ -225,17 +233,9 @@ pub hash-few : (k : ℕ) → hash-bytes k ≤ 4
 unfolding hash-bytes
 hash-few k = pick-few (eqb k 2) (eqb k 3)
 
-pub tagged-short : (t : ℕ) → 0x80 ≤ t → tagged t ≡ Begins Short
-unfolding tagged
-tagged-short t h = rw (le-leb 0x80 t h)
-
-pub tagged-medium : (t : ℕ) → 0x40 ≤ t → t < 0x80 → tagged t ≡ Begins Medium
-unfolding tagged
-tagged-medium t h l = rw (lt-leb 0x80 t l, le-leb 0x40 t h)
-
-pub medium-known : (c : Cache) (t : ℕ) → t < 0x80 → known-class c t ≡ Just 0
+pub none-known : (c : Cache) (t : ℕ) → t < 0x80 → known-class c t ≡ Just 0
 unfolding known-class
-medium-known c t l = rw (lt-leb 0x80 t l)
+none-known c t l = rw (lt-leb 0x80 t l)
 
 -- What is found of an object, where the code's numbers are what the layout says of them.
 module _ (top before : ℕ) (c : Cache) (index known hk hb : ℕ) (sh : Shape) (s : List ℕ) (at a word from hash place end : ℕ) (ob : Object sh)

@@ -2,17 +2,17 @@
 // a function here does not take is read field by field, as any record can be.
 ghost use mathlib.Core.Path.{_≡_};
 ghost use mathlib.Core.Bool.{true, false};
-ghost use mathlib.Core.Logic.{_⊎_};
 ghost use Prim.Native.Nat.{_+_, _≤_, _<_};
 ghost use lib.ListN.{length, take, drop};
 ghost use Rattle.layout.specs.Numbers.{value, signed as signedOf, moved as movedBy, counted as countedOf};
 ghost use Rattle.layout.specs.Layout.{run};
 ghost use Rattle.layout.specs.Fields.{no-text};
-ghost use Rattle.phd.specs.Phd.{entry, record-of};
+ghost use Rattle.phd.specs.Phd.{tagged, entry, record-of};
 ghost use Rattle.phd.specs.Shapes.{Word};
+ghost use Rattle.phd.specs.declared.Tagged.the-variants.{Begins};
 ghost use Rattle.layout_quick.specs.Quick.{clear};
 ghost use Rattle.phd_record.specs.Arrays.{ArrayShape, behind};
-ghost use Rattle.phd_record.specs.Taken.{Taken};
+ghost use Rattle.phd_record.specs.Taken.{Taken, Worded};
 use super::Found;
 use super::What;
 use super::fields::recorded;
@@ -104,79 +104,33 @@ fn hash_at(s: &[u8], at: usize, n: usize) -> u64
     layout_quick::of4(s, at, n)
 }
 
-// A class word of w bytes, 4 or 8.
+// A class word of w bytes, 4 or 8, or 0 where there is none.
 fn word(s: &[u8], at: usize, w: usize) -> u64
-    requires { ⌜ (at + 8 ≤ length (now s)) × ((w ≡ 4) ⊎ (w ≡ 8)) ⌝ }
+    requires { ⌜ (at + 8 ≤ length (now s)) × Worded w ⌝ }
     ensures { λ r. ⌜ r ≡ value (take w (drop at (now (s .entry)))) ⌝ }
 {
+    if w == 0 {
+        return 0;
+    }
     if w == 8 {
         return layout_quick::be8(s, at);
     }
     layout_quick::be4(s, at)
 }
 
-// A short object behind its tag.
-fn short(
-    s: &[u8],
-    at: usize,
-    facts: Facts,
-    before: u64,
-    cache: Cache,
-    index: u64,
-    tag: u64,
-) -> Quick
-    requires { ⌜ (at + 90 ≤ length (now s)) × Word (facts .word) × (0x80 ≤ tag) ⌝ }
-    ensures { λ r. ⌜ Taken cache (run (record-of facts before cache index tag) (now (s .entry)) at) (r .took) (r .found) ⌝ }
+// The form of an object with no flag byte, by its tag.
+fn object_form(tag: u64) -> Form
+    requires { ⌜ 0x40 ≤ tag ⌝ }
+    ensures { λ r. ⌜ tagged tag ≡ Begins r ⌝ }
 {
-    let top = phd::forms::highest_of(facts.word);
-    let hk = phd::forms::hash_kind_of(facts, tag, 0);
-    let hb = phd::forms::hash_bytes_of(hk);
-    let sh = phd::forms::shape_of((facts.word / 8) as usize, Form::Short, tag, 0);
-    let Maybe::Just(class) = phd::forms::known(cache, tag) else {
-        return none(cache);
-    };
-    let Maybe::Just(address) = near(s, at, sh.gap, before, top) else {
-        return none(cache);
-    };
-    if !layout_quick::clear(sh.link, address, top) {
-        return none(cache);
+    if 0x80 <= tag {
+        return Form::Short;
     }
-    let from = at + sh.gap;
-    let hash = hash_at(s, from, hb);
-    let place = from + hb;
-    let end = place + sh.count as usize * sh.link;
-    let front = Front {
-        address,
-        word: 0,
-        len: 0,
-    };
-    let middle = Middle {
-        inst: 0,
-        hash,
-        superclass: 0,
-    };
-    let tail = Tail {
-        size: 0,
-        truelen: 0,
-    };
-    took(recorded(
-        end,
-        place,
-        sh.count,
-        tail,
-        cache,
-        index,
-        class,
-        hk,
-        sh,
-        front,
-        middle,
-        no_name(),
-    ))
+    Form::Medium
 }
 
-// A medium object behind its tag.
-fn medium(
+// A short or medium object behind its tag.
+fn object(
     s: &[u8],
     at: usize,
     facts: Facts,
@@ -185,27 +139,30 @@ fn medium(
     index: u64,
     tag: u64,
 ) -> Quick
-    requires { ⌜ (at + 90 ≤ length (now s)) × Word (facts .word) × (0x40 ≤ tag) × (tag < 0x80) ⌝ }
+    requires { ⌜ (at + 90 ≤ length (now s)) × Word (facts .word) × (0x40 ≤ tag) ⌝ }
     ensures { λ r. ⌜ Taken cache (run (record-of facts before cache index tag) (now (s .entry)) at) (r .took) (r .found) ⌝ }
 {
     let top = phd::forms::highest_of(facts.word);
     let hk = phd::forms::hash_kind_of(facts, tag, 0);
     let hb = phd::forms::hash_bytes_of(hk);
-    let sh = phd::forms::shape_of((facts.word / 8) as usize, Form::Medium, tag, 0);
+    let sh = phd::forms::shape_of((facts.word / 8) as usize, object_form(tag), tag, 0);
+    let Maybe::Just(known) = phd::forms::known(cache, tag) else {
+        return none(cache);
+    };
     let Maybe::Just(address) = near(s, at, sh.gap, before, top) else {
         return none(cache);
     };
     if !layout_quick::clear(sh.link, address, top) {
         return none(cache);
     }
-    let class = word(s, at + sh.gap, sh.word);
+    let word = word(s, at + sh.gap, sh.word);
     let from = at + sh.gap + sh.word;
     let hash = hash_at(s, from, hb);
     let place = from + hb;
     let end = place + sh.count as usize * sh.link;
     let front = Front {
         address,
-        word: class,
+        word,
         len: 0,
     };
     let middle = Middle {
@@ -224,7 +181,7 @@ fn medium(
         tail,
         cache,
         index,
-        0,
+        known,
         hk,
         sh,
         front,
@@ -378,11 +335,8 @@ pub fn record(s: &[u8], at: usize, facts: Facts, before: u64, cache: Cache, inde
     ensures { λ r. ⌜ Taken cache (run (entry facts before cache index) (now (s .entry)) at) (r .took) (r .found) ⌝ }
 {
     let tag = layout_quick::of4(s, at, 1);
-    if 0x80 <= tag {
-        return short(s, at + 1, facts, before, cache, index, tag);
-    }
     if 0x40 <= tag {
-        return medium(s, at + 1, facts, before, cache, index, tag);
+        return object(s, at + 1, facts, before, cache, index, tag);
     }
     if 0x20 <= tag {
         return primitive(s, at + 1, facts, before, cache, index, tag);

@@ -7,7 +7,8 @@ use lib.IntN.{pos}
 use borrow.Author.Tests.{eq-eqb, ne-eqb}
 use Rattle.layout_put.specs.Put.{code, most}
 use Rattle.layout_put.specs.Widths.{code-lt, most-lt}
-use Rattle.phd_put.specs.Sized.{made-is, array-sized, width-most}
+use Rattle.phd.specs.Shapes.{width-le}
+use Rattle.phd_put.specs.Sized.{made-is, array-sized}
 use Rattle.phd_put.proofs.sizes.primitive.Statement.{statement}
 use Rattle.phd_put.proofs.sizes.primitive.Tie as tie
 
@@ -21,7 +22,7 @@ pair-small c = rw (pair-is c) (most-lt (c .before .before .args .gap) _ 4 (omega
 wide-small : (c : tie.After-width-of) → c .width-of .result ≤ 8
 wide-small c =
     let e = c .width-of .ensures in
-    let l = width-most (c .before .before .before .greater .result) (pair-small (c .before .before .before)) in
+    let l = width-le (c .before .before .before .greater .result) (pair-small (c .before .before .before)) in
     omega arith
 
 code-of-requires : tie.Need-code-of-requires

@@ -8,7 +8,8 @@ use Rattle.phd.specs.Shapes.{hash-narrow}
 use Rattle.phd_rows.specs.Rows.{refs-of}
 use Rattle.phd_form.specs.Form.{measure}
 use Rattle.phd_form.specs.declared.Measure.{Measure}
-use Rattle.phd_put.specs.Sized.{made-is, rest, width-most, class-sized, objects-sized, object-planned, array-planned}
+use Rattle.phd.specs.Shapes.{width-le}
+use Rattle.phd_put.specs.Sized.{made-is, rest, class-sized, objects-sized, object-planned, array-planned}
 use Rattle.phd_put.proofs.sizes.record.Statement.{statement}
 use Rattle.phd_put.proofs.sizes.record.Tie as tie
 
@@ -44,7 +45,7 @@ near-small : (c : tie.After-width-of) → c .width-of .result ≤ 8
 near-small c =
     let g = c .before .before .before .before .before in
     let e = c .width-of .ensures in
-    let l = width-most (g .gap-code .result) (gap-small g) in
+    let l = width-le (g .gap-code .result) (gap-small g) in
     omega arith
 
 links-small : (c : tie.After-width-of2) → begin (hashed c) .args .row .count * c .width-of2 .result < 2 ^ 34
@@ -52,7 +53,7 @@ unfolding measure
 links-small c =
     let n = begin (hashed c) .args .row .count in
     let e = c .width-of2 .ensures in
-    let l = width-most (c .before .before .widest .result) (link-small (c .before .before)) in
+    let l = width-le (c .before .before .widest .result) (link-small (c .before .before)) in
     let k : n < 2 ^ 31 = begin (hashed c) .pre .0 .1 .count-most in
     let p : n * c .width-of2 .result ≤ n * 8 = mul-le-mul-left n (omega arith) in
     omega arith

@@ -1,7 +1,6 @@
 -- `array` meets its contract: what stands up to its hash, and then what `linked` says.
 use borrow.Author.Needs.{needs}
 use mathlib.Core.Path.{_≡_, sym, ap, _∙_}
-use mathlib.Core.Logic.{_⊎_, ⊎-elim}
 use Prim.Native.Nat.{_+_, _^_, _≤_, _<_}
 use native.Mathlib.Omega.{arith}
 use lib.ListN.{length}
@@ -10,7 +9,8 @@ use Rattle.layout.specs.Layout.{whole, run}
 use Rattle.layout.specs.Fields.{outcome}
 use Rattle.phd.specs.Phd.{flag-byte}
 use Rattle.phd_record.specs.Found.{found-of}
-use Rattle.phd_record.proofs.QuickLaws.{nothing, word-bytes}
+use Rattle.phd_record.specs.Taken.{Worded}
+use Rattle.phd_record.proofs.QuickLaws.{nothing, word-bytes, worded-most}
 use Rattle.phd_record.proofs.ArrayLaws.{flags-next, array-shape, array-word, array-front}
 use Rattle.phd_record.proofs.quick.array.Statement.{statement}
 use Rattle.phd_record.proofs.quick.array.Tie as tie
@@ -35,16 +35,12 @@ abbrev flags-of : tie.Else1 → tie.After-flags2
 flags-of c = shape-of c .before .before .before
 
 module _ (c : tie.Else1) where
-  word-is : let sh = shape-of c .shape-of .result in (sh .word ≡ 4) ⊎ (sh .word ≡ 8)
+  word-is : Worded (shape-of c .shape-of .result .word)
   word-is = rw (shape-of c .shape-of .ensures, array-word _ _ _) (word-bytes _ (start (flags-of c) .pre .1))
 
   room : let sh = shape-of c .shape-of .result in let f = flags-of c in
       f .flags2 .given .0 .1 .0 + sh .gap + sh .word + 70 ≤ length (start f .args .s .now)
-  room =
-      ⊎-elim
-      (λ e. omega (arith, next (flags-of c), c .if1 .left, start (flags-of c) .pre .0))
-      (λ e. omega (arith, next (flags-of c), c .if1 .left, start (flags-of c) .pre .0))
-      word-is
+  room = omega (arith, worded-most _ word-is, next (flags-of c), c .if1 .left, start (flags-of c) .pre .0)
 
   fits : let sh = shape-of c .shape-of .result in let f = flags-of c in f .flags2 .given .0 .1 .0 + sh .gap + sh .word + 70 < 2 ^ 64
   fits = omega (arith, room, start (flags-of c) .good .0 .0)

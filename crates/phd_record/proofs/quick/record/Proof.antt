@@ -24,24 +24,14 @@ behind c n =
 of4-requires : tie.Need-of4-requires
 of4-requires c κs = search needs
 
-add-short : tie.Need-add-short
-add-short c = search needs
+add-object : tie.Need-add-object
+add-object c = search needs
 
-short-requires : tie.Need-short-requires
-short-requires c κs = search needs
+object-requires : tie.Need-object-requires
+object-requires c κs = search needs
 
 returns : tie.Need-returns
-returns c = λ x. c .short .ensures x ∙ ap (found-of (start (c .before .before) .args .cache)) (sym (behind (c .before .before) (λ e. omega arith)))
-
-add-medium : tie.Need-add-medium
-add-medium c = search needs
-
-medium-requires : tie.Need-medium-requires
-medium-requires c κs = search needs
-
-returns-2 : tie.Need-returns-2
-returns-2 c =
-    λ x. c .medium .ensures x ∙ ap (found-of (start (c .before .before .before) .args .cache)) (sym (behind (c .before .before .before) (λ e. omega arith)))
+returns c = λ x. c .object .ensures x ∙ ap (found-of (start (c .before .before) .args .cache)) (sym (behind (c .before .before) (λ e. omega arith)))
 
 add-primitive : tie.Need-add-primitive
 add-primitive c = search needs
@@ -49,9 +39,9 @@ add-primitive c = search needs
 primitive-requires : tie.Need-primitive-requires
 primitive-requires c κs = search needs
 
-returns-3 : tie.Need-returns-3
-returns-3 c =
-    λ x. c .primitive .ensures x ∙ ap (found-of (start (c .before .before .before .before) .args .cache)) (sym (behind (c .before .before .before .before) (λ e. omega arith)))
+returns-2 : tie.Need-returns-2
+returns-2 c =
+    λ x. c .primitive .ensures x ∙ ap (found-of (start (c .before .before .before) .args .cache)) (sym (behind (c .before .before .before) (λ e. omega arith)))
 
 add-array : tie.Need-add-array
 add-array c = search needs
@@ -59,9 +49,9 @@ add-array c = search needs
 array-requires : tie.Need-array-requires
 array-requires c κs = search needs
 
-returns-4 : tie.Need-returns-4
-returns-4 c =
-    let d = c .before .before .before .before .before in
+returns-3 : tie.Need-returns-3
+returns-3 c =
+    let d = c .before .before .before .before in
     let a = start d .args in
     let t : d .of4 .result ≡ 8 = omega arith in
     λ x. c .array .ensures x
@@ -71,25 +61,22 @@ returns-4 c =
 none-requires : tie.Need-none-requires
 none-requires c κs = search needs
 
-returns-5 : tie.Need-returns-5
-returns-5 c = nothing _ _ _ _ (c .none .ensures)
+returns-4 : tie.Need-returns-4
+returns-4 c = nothing _ _ _ _ (c .none .ensures)
 
 pub record-spec : {M : Type 1} → statement M
 record-spec =
     tie.close
     (tie.spec
     of4-requires
-    add-short
-    short-requires
+    add-object
+    object-requires
     returns
-    add-medium
-    medium-requires
-    returns-2
     add-primitive
     primitive-requires
-    returns-3
+    returns-2
     add-array
     array-requires
-    returns-4
+    returns-3
     none-requires
-    returns-5)
+    returns-4)
