@@ -10,8 +10,23 @@ pub type Facts = [u64; 16];
 /// A header to write: W, all hashed, from OpenJ9, VM string there, its place and its length in the name bytes.
 pub type Header = [u64; 6];
 
-/// How the library takes a slice: a pointer and a length, as two words.
+/// Writing or text, as the library has it: a slice is a pointer and a length, as two words.
+type Making = unsafe extern "C" fn(
+    header: *const Header,
+    rows: *const u64,
+    rows_len: usize,
+    refs: *const u64,
+    refs_len: usize,
+    names: *const u8,
+    names_len: usize,
+    out: *mut u8,
+    out_len: usize,
+    facts: *mut Facts,
+) -> u64;
+
 mod boundary {
+    use super::{Facts, Header};
+
     extern "C" {
         pub fn phd_read(
             dump: *const u8,
@@ -20,10 +35,10 @@ mod boundary {
             rows_len: usize,
             refs: *mut u64,
             refs_len: usize,
-            facts: *mut [u64; 16],
+            facts: *mut Facts,
         ) -> u64;
         pub fn phd_write(
-            header: *const [u64; 6],
+            header: *const Header,
             rows: *const u64,
             rows_len: usize,
             refs: *const u64,
@@ -32,10 +47,10 @@ mod boundary {
             names_len: usize,
             out: *mut u8,
             out_len: usize,
-            facts: *mut [u64; 16],
+            facts: *mut Facts,
         ) -> u64;
         pub fn phd_text(
-            header: *const [u64; 6],
+            header: *const Header,
             rows: *const u64,
             rows_len: usize,
             refs: *const u64,
@@ -44,7 +59,7 @@ mod boundary {
             names_len: usize,
             out: *mut u8,
             out_len: usize,
-            facts: *mut [u64; 16],
+            facts: *mut Facts,
         ) -> u64;
     }
 }
@@ -65,18 +80,16 @@ pub fn read(dump: &[u8], rows: &mut [u64], refs: &mut [u64], facts: &mut Facts) 
     }
 }
 
-/// Writes the tables as a dump.
-pub fn write(
+fn make(
+    call: Making,
     header: &Header,
-    rows: &[u64],
-    refs: &[u64],
-    names: &[u8],
+    (rows, refs, names): (&[u64], &[u64], &[u8]),
     out: &mut [u8],
     facts: &mut Facts,
 ) -> u64 {
     // As for `read`.
     unsafe {
-        boundary::phd_write(
+        call(
             header,
             rows.as_ptr(),
             rows.len(),
@@ -91,6 +104,18 @@ pub fn write(
     }
 }
 
+/// Writes the tables as a dump.
+pub fn write(
+    header: &Header,
+    rows: &[u64],
+    refs: &[u64],
+    names: &[u8],
+    out: &mut [u8],
+    facts: &mut Facts,
+) -> u64 {
+    make(boundary::phd_write, header, (rows, refs, names), out, facts)
+}
+
 /// Writes the tables as classic text.
 pub fn text(
     header: &Header,
@@ -100,19 +125,5 @@ pub fn text(
     out: &mut [u8],
     facts: &mut Facts,
 ) -> u64 {
-    // As for `read`.
-    unsafe {
-        boundary::phd_text(
-            header,
-            rows.as_ptr(),
-            rows.len(),
-            refs.as_ptr(),
-            refs.len(),
-            names.as_ptr(),
-            names.len(),
-            out.as_mut_ptr(),
-            out.len(),
-            facts,
-        )
-    }
+    make(boundary::phd_text, header, (rows, refs, names), out, facts)
 }
