@@ -48,13 +48,13 @@ pub record Bounded (m : Measure) : Type 0 where
   pub prim-most : m .prim < 8
 
 -- Hash kinds 1 and 2 need a flag byte.
-unfoldable pub flagged : Measure → Bool
-flagged m = either (eqb (m .hashkind) 1) (eqb (m .hashkind) 2)
+unfoldable pub flagged : ℕ → Bool
+flagged k = either (eqb k 1) (eqb k 2)
 
 -- a gap fits a short where its width code is below 2
 unfoldable pub object-form : Measure → Form
 object-form m =
-    pick (flagged m) Long
+    pick (flagged (m .hashkind)) Long
     (pick (both (leb (m .count) 3) (both (ltb (m .slot) 4) (ltb (m .gap) 2))) Short
     (pick (both (leb (m .count) 7) (ltb (m .gap) 2)) Medium Long))
 
@@ -62,7 +62,7 @@ unfoldable pub form-of : Measure → Form
 form-of m =
     pick (eqb (m .kind) 1) Class
     (pick (eqb (m .kind) 2) (object-form m)
-    (pick (eqb (m .kind) 3) ObjectArray (pick (flagged m) LongPrimitive Primitive)))
+    (pick (eqb (m .kind) 3) ObjectArray (pick (flagged (m .hashkind)) LongPrimitive Primitive)))
 
 unfoldable pub tag-of : Form → Measure → ℕ
 tag-of Short m = 0x80 + 0x20 * m .slot + 0x08 * m .count + 0x04 * m .gap + m .link

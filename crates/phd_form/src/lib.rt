@@ -81,16 +81,16 @@ pub fn measure_of(cache: Cache, before: u64, row: Row, refs: &[u64]) -> Measure
 }
 
 // Whether the hash kind needs a flag byte.
-fn flagged(m: Measure) -> bool
-    ensures { λ r. ⌜ r ≡ flaggedOf m ⌝ }
+pub fn flagged(kind: u64) -> bool
+    ensures { λ r. ⌜ r ≡ flaggedOf kind ⌝ }
 {
-    m.hashkind == 1 || m.hashkind == 2
+    (kind == 1) | (kind == 2)
 }
 
 fn choose_object(m: Measure) -> Form
     ensures { λ r. ⌜ r ≡ object-form m ⌝ }
 {
-    if flagged(m) {
+    if flagged(m.hashkind) {
         return Form::Long;
     }
     if m.count <= 3 && m.slot < 4 && m.gap < 2 {
@@ -115,7 +115,7 @@ fn choose(m: Measure) -> Form
     if m.kind == 3 {
         return Form::ObjectArray;
     }
-    if flagged(m) {
+    if flagged(m.hashkind) {
         return Form::LongPrimitive;
     }
     Form::Primitive

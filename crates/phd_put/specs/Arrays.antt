@@ -81,7 +81,7 @@ module _ (h : Facts) (c : Cache) (before index : ℕ) (r : Rec)
         let b : code z ≤ p = rw e at (most-right (code d) (code z)) in
         (code-more d p a d8, ltb-true _ _ (code-more z p b z8))
 
-    pub primitive-sound : flagged (measure c before (r .row) (r .refs)) ≡ false
+    pub primitive-sound : flagged (measure c before (r .row) (r .refs) .hashkind) ≡ false
         → Sound h c before r Primitive (tag-of Primitive (measure c before (r .row) (r .refs))) 0 0
     unfolding measure flagged tag-of tagged known-class shape
     primitive-sound nf =

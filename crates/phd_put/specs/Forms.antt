@@ -38,7 +38,7 @@ module _ (h : Facts) (c : Cache) (before index : ℕ) (r : Rec)
       → SoundForm (object-form (measure c before (r .row) (r .refs)))
   unfolding object-form tag-of flags-of measure
   object-sound k2 s0 l0 y0 n0 =
-      by (flagged m) (leb n 3) (ltb s 4) (ltb d 2) (leb n 7) refl refl refl refl refl
+      by (flagged (m .hashkind)) (leb n 3) (ltb s 4) (ltb d 2) (leb n 7) refl refl refl refl refl
     where
       m : Measure
       m = measure c before (r .row) (r .refs)
@@ -55,12 +55,12 @@ module _ (h : Facts) (c : Cache) (before index : ℕ) (r : Rec)
       a-long : SoundForm Long
       a-long = (0, long-sound h c before index r w g bf bl k2 s0 l0 y0 n0)
 
-      not-short : (n7 d2 : Bool) → flagged m ≡ false → ltb d 2 ≡ d2 → leb n 7 ≡ n7 → SoundForm (pick (both n7 d2) Medium Long)
+      not-short : (n7 d2 : Bool) → flagged (m .hashkind) ≡ false → ltb d 2 ≡ d2 → leb n 7 ≡ n7 → SoundForm (pick (both n7 d2) Medium Long)
       not-short true true e1 e4 e5 = (0, medium-sound h c before index r w g bf bl k2 s0 l0 y0 n0 e1 (ltb-true _ _ e4) (leb-true _ _ e5))
       not-short true false e1 e4 e5 = a-long
       not-short false d2 e1 e4 e5 = a-long
 
-      by : (f n3 s4 d2 n7 : Bool) → flagged m ≡ f → leb n 3 ≡ n3 → ltb s 4 ≡ s4 → ltb d 2 ≡ d2 → leb n 7 ≡ n7
+      by : (f n3 s4 d2 n7 : Bool) → flagged (m .hashkind) ≡ f → leb n 3 ≡ n3 → ltb s 4 ≡ s4 → ltb d 2 ≡ d2 → leb n 7 ≡ n7
           → SoundForm (pick f Long (pick (both n3 (both s4 d2)) Short (pick (both n7 d2) Medium Long)))
       by true n3 s4 d2 n7 e1 e2 e3 e4 e5 = a-long
       by false true true true n7 e1 e2 e3 e4 e5 =
@@ -76,7 +76,7 @@ module _ (h : Facts) (c : Cache) (before index : ℕ) (r : Rec)
       m : Measure
       m = measure c before (r .row) (r .refs)
 
-      array : (a : Bool) → flagged m ≡ a → r .row .kind ≡ 4 → r .row .word ≡ 0 → r .row .count ≡ 0
+      array : (a : Bool) → flagged (m .hashkind) ≡ a → r .row .kind ≡ 4 → r .row .word ≡ 0 → r .row .count ≡ 0
           → r .row .prim < 8 → r .row .namelen ≡ 0 → SoundForm (pick a LongPrimitive Primitive)
       array true e k4 c0 r0 y8 n0 = (0, long-primitive-sound h c before index r w g bf bl k4 c0 r0 y8 n0)
       array false e k4 c0 r0 y8 n0 = (0, primitive-sound h c before index r w g bf bl k4 c0 r0 y8 n0 e)
@@ -91,7 +91,7 @@ module _ (h : Facts) (c : Cache) (before index : ℕ) (r : Rec)
           (0, array-sound h c before index r w g bf bl k nl y0 n0)
       by (a-primitive k c0 r0 _ _ y8 n0) =
           rw (ne-eqb (r .row .kind) 1 (omega arith), ne-eqb (r .row .kind) 2 (omega arith), ne-eqb (r .row .kind) 3 (omega arith))
-          (array (flagged m) refl k c0 r0 y8 n0)
+          (array (flagged (m .hashkind)) refl k c0 r0 y8 n0)
 
 pub form-sound : (h : Facts) (c : Cache) (before index : ℕ) (r : Rec)
     → Word (h .word) → Good h index r → before % 4 ≡ 0 → before ≤ highest (h .word)

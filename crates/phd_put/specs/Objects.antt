@@ -112,7 +112,7 @@ module _ (h : Facts) (c : Cache) (before index : ℕ) (r : Rec)
       cached = λ e. word-ok;
     }
 
-    pub short-sound : flagged (measure c before (r .row) (r .refs)) ≡ false → code (gap before (r .row .address)) < 2
+    pub short-sound : flagged (measure c before (r .row) (r .refs) .hashkind) ≡ false → code (gap before (r .row .address)) < 2
         → r .row .count ≤ 3 → slot-of c (r .row .word) < 4
         → Sound h c before r Short (tag-of Short (measure c before (r .row) (r .refs))) 0 (r .row .word)
     unfolding measure flagged tag-of tagged known-class shape given there
@@ -131,7 +131,7 @@ module _ (h : Facts) (c : Cache) (before index : ℕ) (r : Rec)
         (object-formed 0 0 n false absent absent refl)
         (record { kind = sym k2; word = refl; size = sym s0; len = sym l0; prim = sym y0; cached = λ e. absurd (true-false (sym e)) })
 
-    pub medium-sound : flagged (measure c before (r .row) (r .refs)) ≡ false → code (gap before (r .row .address)) < 2 → r .row .count ≤ 7
+    pub medium-sound : flagged (measure c before (r .row) (r .refs) .hashkind) ≡ false → code (gap before (r .row .address)) < 2 → r .row .count ≤ 7
         → Sound h c before r Medium (tag-of Medium (measure c before (r .row) (r .refs))) 0 0
     unfolding measure flagged tag-of tagged known-class shape there
     medium-sound nf f2 n7 =

@@ -7,7 +7,7 @@ use native.Mathlib.Omega.{arith}
 use native.Mathlib.Decide.{decLe}
 use lib.Dec.{leb, ltb, eqb, lit<}
 use borrow.Author.Tests.{le-leb, lt-leb, le-ltb, lt-ltb, eq-eqb, ne-eqb}
-use Rattle.layout.specs.Numbers.{pick, both, either}
+use Rattle.layout.specs.Numbers.{pick, both}
 use Rattle.phd.specs.Phd.{bit, width, hash-bytes, shape}
 use Rattle.phd.specs.declared.Form.{Form}
 use Rattle.phd.specs.declared.Form.the-variants.{Short, Medium, Long, Class, ObjectArray, Primitive, LongPrimitive}
@@ -25,10 +25,6 @@ made n b = record { size = n; cached = b }
 pub made-is : (x : Sized) (n : ℕ) (b : Bool) → (x .size ≡ n) × (x .cached ≡ b) → x ≡ made n b
 made-is x n b e = ap (λ (k : ℕ). made k (x .cached)) (e .0) ∙ ap (made n) (e .1)
 
--- whether a hash kind needs a flag byte
-unfoldable pub hashes : ℕ → Bool
-hashes k = either (eqb k 1) (eqb k 2)
-
 -- the bytes of the hash and the name, and with those of the gap and the references
 abbrev pub fixed : Row → ℕ
 fixed r = hash-bytes (r .hashkind) + r .namelen
@@ -39,13 +35,13 @@ rest m r = width (m .gap) + fixed r + r .count * width (m .link)
 -- an object, by its hash kind, slot, count, gap code, and those bytes
 unfoldable pub object-sized : ℕ → ℕ → ℕ → ℕ → ℕ → ℕ → Sized
 object-sized w k slot count gap more =
-    pick (hashes k || leb 2 gap || ltb 7 count) (made (6 + w + more) true)
+    pick (flagged k || leb 2 gap || ltb 7 count) (made (6 + w + more) true)
     (pick (leb count 3 && ltb slot 4) (made (1 + more) false) (made (1 + w + more) true))
 
 -- a primitive array, by its hash kind, the code of its gap and length, and the bytes of the hash and the name
 unfoldable pub array-sized : ℕ → ℕ → ℕ → ℕ → Sized
 array-sized w k pair more =
-    pick (hashes k) (pick (eqb pair 0) (made (8 + more) false) (made (6 + 2 * w + more) false)) (made (5 + 2 * width pair + more) false)
+    pick (flagged k) (pick (eqb pair 0) (made (8 + more) false) (made (6 + 2 * w + more) false)) (made (5 + 2 * width pair + more) false)
 
 -- a wide gap leaves the long form
 far : (l s n : Bool) → pick (both l (both s false)) Short (pick (both n false) Medium Long) ≡ Long
@@ -98,8 +94,8 @@ module _ (w : ℕ) (m : Measure) (r : Row) (b : Bounded m) where
       chosen ObjectArray (rw (ne-eqb (m .kind) 1 (omega arith), ne-eqb (m .kind) 2 (omega arith), eq-eqb (m .kind) 3 e))
       ∙ rw (k .1, k .2) (ap (λ (x : ℕ). made x false) (omega arith))
 
-  object-formed : (a : Bool) → hashes (m .hashkind) ≡ a → sized (formed (object-form m)) r ≡ object-sized w (m .hashkind) (m .slot) (m .count) (m .gap) (rest m r)
-  unfolding object-form flagged hashes object-sized
+  object-formed : (a : Bool) → flagged (m .hashkind) ≡ a → sized (formed (object-form m)) r ≡ object-sized w (m .hashkind) (m .slot) (m .count) (m .gap) (rest m r)
+  unfolding object-form object-sized
   object-formed true f = rw f long-sized
   object-formed false f = elim (decLe 2 (m .gap)) [
     | yes g ↦ rw (f, le-ltb (m .gap) 2 g, le-leb 2 (m .gap) g, far) long-sized
@@ -124,7 +120,7 @@ module _ (w : ℕ) (m : Measure) (r : Row) (b : Bounded m) where
   pub object-planned : m .kind ≡ 2 → sized (planned w m) r ≡ object-sized w (m .hashkind) (m .slot) (m .count) (m .gap) (rest m r)
   unfolding form-of
   object-planned e =
-      chosen (object-form m) (rw (ne-eqb (m .kind) 1 (omega arith), eq-eqb (m .kind) 2 e)) ∙ object-formed (hashes (m .hashkind)) refl
+      chosen (object-form m) (rw (ne-eqb (m .kind) 1 (omega arith), eq-eqb (m .kind) 2 e)) ∙ object-formed (flagged (m .hashkind)) refl
 
   primitive-sized : sized (formed Primitive) r ≡ made (5 + 2 * width (m .pair) + fixed r) false
   unfolding sized size-of tag-of flags-of shape
@@ -141,9 +137,9 @@ module _ (w : ℕ) (m : Measure) (r : Row) (b : Bounded m) where
       let k = array-flags (m .prim) v (hash-flags (m .hashkind)) (b .prim-most) l (hash-flags-lt (m .hashkind)) in
       rw (f, k .2, e) (ap (λ (x : ℕ). made x false) (omega arith))
 
-  array-formed : (a : Bool) → hashes (m .hashkind) ≡ a
-      → sized (formed (pick (flagged m) LongPrimitive Primitive)) r ≡ array-sized w (m .hashkind) (m .pair) (fixed r)
-  unfolding flagged hashes array-sized
+  array-formed : (a : Bool) → flagged (m .hashkind) ≡ a
+      → sized (formed (pick (flagged (m .hashkind)) LongPrimitive Primitive)) r ≡ array-sized w (m .hashkind) (m .pair) (fixed r)
+  unfolding array-sized
   array-formed true f = elim (decLe (m .pair) 0) [
     | yes p ↦ let q = eq-eqb (m .pair) 0 (omega arith) in rw (f, q) (long-primitive-sized 0 1 (lit< tt) refl (rw q))
     | no p ↦ let q = ne-eqb (m .pair) 0 (omega arith) in rw (f, q) (long-primitive-sized 1 w (lit< tt) refl (rw q))
@@ -154,5 +150,5 @@ module _ (w : ℕ) (m : Measure) (r : Row) (b : Bounded m) where
       → sized (planned w m) r ≡ array-sized w (m .hashkind) (m .pair) (fixed r)
   unfolding form-of
   array-planned x y z =
-      chosen (pick (flagged m) LongPrimitive Primitive) (rw (ne-eqb (m .kind) 1 x, ne-eqb (m .kind) 2 y, ne-eqb (m .kind) 3 z))
-      ∙ array-formed (hashes (m .hashkind)) refl
+      chosen (pick (flagged (m .hashkind)) LongPrimitive Primitive) (rw (ne-eqb (m .kind) 1 x, ne-eqb (m .kind) 2 y, ne-eqb (m .kind) 3 z))
+      ∙ array-formed (flagged (m .hashkind)) refl

@@ -7,7 +7,7 @@ ghost use Rattle.layout_put.specs.Put.{code, most};
 ghost use Rattle.phd_rows.specs.Rows.{refs-of};
 ghost use Rattle.phd_form.specs.Form.{slot-of, measure, planned, Bounded};
 ghost use Rattle.phd_put.specs.Record.{sized as sizedBy};
-ghost use Rattle.phd_put.specs.Sized.{hashes, object-sized, array-sized};
+ghost use Rattle.phd_put.specs.Sized.{object-sized, array-sized};
 use phd::Cache;
 use phd_rows::Row;
 
@@ -27,19 +27,12 @@ fn made(size: usize, cached: bool) -> Sized
     }
 }
 
-// Whether the hash kind needs a flag byte.
-fn flagged(row: Row) -> bool
-    ensures { λ r. ⌜ r ≡ hashes (row .hashkind) ⌝ }
-{
-    (row.hashkind == 1) | (row.hashkind == 2)
-}
-
 // An object: `rest` is the bytes of its gap, hash, references and name.
 fn object(w: usize, cache: Cache, row: Row, gap: u64, rest: usize) -> Sized
     requires { ⌜ (w ≤ 8) × (rest < 2 ^ 40) ⌝ }
     ensures { λ r. ⌜ r ≡ object-sized w (row .hashkind) (slot-of cache (row .word)) (row .count) gap rest ⌝ }
 {
-    if flagged(row) | (2 <= gap) | (7 < row.count) {
+    if phd_form::flagged(row.hashkind) | (2 <= gap) | (7 < row.count) {
         return made(6 + w + rest, true);
     }
     if (row.count <= 3) & (phd_form::find_slot(cache, row.word) < 4) {
@@ -54,7 +47,7 @@ fn primitive(w: usize, row: Row, gap: u64, rest: usize) -> Sized
     ensures { λ r. ⌜ r ≡ array-sized w (row .hashkind) (most gap (code (pos (row .len)))) rest ⌝ }
 {
     let pair = layout_put::greater(gap, layout_put::code_of(row.len));
-    if flagged(row) {
+    if phd_form::flagged(row.hashkind) {
         if pair == 0 {
             return made(8 + rest, false);
         }
@@ -86,5 +79,6 @@ pub fn record(w: usize, cache: Cache, before: u64, row: Row, refs: &[u64]) -> Si
     if row.kind == 3 {
         return made(14 + w + rest, false);
     }
+    // the form of a row of no kind is that of a primitive array
     primitive(w, row, gap, fixed)
 }

@@ -9,7 +9,7 @@ use Rattle.phd_form.proofs.choose.Statement.{statement}
 use Rattle.phd_form.proofs.choose.Tie as tie
 
 -- what is left behind the tests of the kind
-primitive : (c : tie.Else3) → let m = c .before .before .before .before .before .before .args .m in form-of m ≡ pick (flagged m) LongPrimitive Primitive
+primitive : (c : tie.Else3) → let m = c .before .before .before .before .before .before .args .m in form-of m ≡ pick (flagged (m .hashkind)) LongPrimitive Primitive
 unfolding form-of
 primitive c =
     let d = c .before .before in

@@ -11,7 +11,7 @@ use Rattle.phd_form.proofs.choose_object.Statement.{statement}
 use Rattle.phd_form.proofs.choose_object.Tie as tie
 
 -- the tests that failed
-plain : (c : tie.Else1) → flagged (c .before .before .args .m) ≡ false
+plain : (c : tie.Else1) → flagged (c .before .before .args .m .hashkind) ≡ false
 plain c = sym (c .before .flagged .ensures) ∙ c .if1 .left
 
 not-short : (c : tie.Joined2) → let m = c .before .before .before .before .args .m in

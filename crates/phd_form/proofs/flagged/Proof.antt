@@ -1,16 +1,13 @@
--- `flagged` meets its contract.
-use borrow.Author.Tests.{eq-eqb, ne-eqb}
+-- `flagged` meets its contract: its tests, joined.
+use lib.Dec.{eqb}
+use Rattle.phd_rows.proofs.Laws.{either-joined}
 use Rattle.phd_form.specs.Form.{flagged}
 use Rattle.phd_form.proofs.flagged.Statement.{statement}
 use Rattle.phd_form.proofs.flagged.Tie as tie
 
 returns : tie.Need-returns
 unfolding flagged
-returns c = rw (eq-eqb _ _ (c .if1 .taken))
-
-returns-2 : tie.Need-returns-2
-unfolding flagged
-returns-2 c = rw (ne-eqb _ _ (c .before .if1 .left))
+returns c = let k = c .args .kind in either-joined (eqb k 1) (eqb k 2)
 
 pub flagged-spec : {M : Type 1} → statement M
-flagged-spec = tie.close (tie.spec returns returns-2)
+flagged-spec = tie.close (tie.spec returns)

@@ -3,12 +3,13 @@ use borrow.Author.Needs.{needs}
 use mathlib.Core.Path.{_≡_}
 use mathlib.Core.Bool.{false, _||_}
 use lib.Dec.{leb, ltb}
-use Rattle.phd_put.specs.Sized.{made-is, hashes, object-sized}
+use Rattle.phd_form.specs.Form.{flagged}
+use Rattle.phd_put.specs.Sized.{made-is, object-sized}
 use Rattle.phd_put.proofs.sizes.object.Statement.{statement}
 use Rattle.phd_put.proofs.sizes.object.Tie as tie
 
 -- the long form is passed over
-not-long : (c : tie.Else1) → let a = c .before .before .before .args in hashes (a .row .hashkind) || leb 2 (a .gap) || ltb 7 (a .row .count) ≡ false
+not-long : (c : tie.Else1) → let a = c .before .before .before .args in flagged (a .row .hashkind) || leb 2 (a .gap) || ltb 7 (a .row .count) ≡ false
 not-long c = rw (c .before .before .flagged .ensures) at (c .if1 .left)
 
 flagged-requires : tie.Need-flagged-requires
