@@ -129,8 +129,6 @@ def arrays():
         d.array(0x2000 + 0x10 * i, 0x1000 + 0x10 * i, [0x2000], i, code=2, width=1)
     yield "array-types", texted(d.medium(0x3000, 0x1010, code=1).medium(0x3010, 0x1030).end())
     yield "array-class-0", texted(begun().klass(0, b"Zero", 4, code=1).array(8, 0, [4], 3).medium(16, 0).end())
-    d = begun().array(0x1010, 0x1000, [0x1020], 5, 4).array(0x1020, 0x1000, [], 2, 2**31 - 1)
-    yield "array-nulls", texted(d.array(0x1030, 0x1000, [0x1010, 0x1010, 0x1020], 3, 10).end())
 
 
 def primitives(named=(), after=(), **header):
@@ -225,6 +223,54 @@ def counts():
     yield "refs-each", texted(d.end())
     d = begun().medium(0x1010, 0x1000).short(0x1020, 0, [0x1000, 0x1010, 0x1020])
     yield "refs-short-medium", texted(d.medium(0x1030, 0x1000, [0x1000 + 4 * n for n in range(7)]).short(0x1040, 0).end())
+
+
+# ---- nulls
+
+
+def nulls_of(*arrays, **header):
+    """Arrays of so many references and such a true length, behind the class A."""
+    d, hash = begun(**header), dict(hash=7) if header.get("hashed") else {}
+    for count, length in arrays:
+        d.array(d.address + 0x10, 0x1000, [0x1000 + 4 * n for n in range(count)], 9, length, **hash)
+    return d
+
+
+def ends(sample, totals):
+    """The sample, of which the last line's figures are these."""
+    assert sample[1][-4].endswith(f" : {totals}"), sample[1][-4]
+    return sample
+
+
+def nulls():
+    # a true length of 5 with two references lists two, adds 3 nulls and 5 in all
+    yield "nulls-some", ends(texted(nulls_of((2, 5)).end()), "2,5(3)")
+    yield "nulls-none", ends(texted(nulls_of((0, 0), (1, 1), (3, 3)).end()), "4,4(0)")
+    yield "nulls-all", ends(texted(nulls_of((0, 1), (0, 4)).end()), "3,5(5)")
+    yield "nulls-several", ends(texted(nulls_of((1, 4), (0, 2**31 - 1), (2, 2), (3, 10)).end()), "5,2147483663(2147483657)")
+    for word in (32, 64):
+        d = nulls_of((2, 6), word=word, hashed=True).medium(0x1020, 0x1000, [0x1000, 0x1010], hash=1)
+        yield f"nulls-hashed-{word}", ends(texted(d.end()), "3,8(4)")
+    # lengths of other rows are no nulls, nor are references
+    d = nulls_of((1, 3)).primitive(0x1020, 1, 100, 50).long_primitive(0x1030, 7, 90, 2, hash=ASKED)
+    d.klass(0x1040, b"B", 8, refs=[0x1000, 0x1010]).medium(0x1050, 0x1040, [0x1010]).array(0x1060, 0x1040, [0x1050], 3, 2)
+    yield "nulls-and-others", ends(texted(d.primitive(0x1070, 0, 2**31 - 1, 9, code=2).end()), "8,8(3)")
+    # each figure has its own digits
+    for count, length in (1, 9), (1, 10), (1, 11), (2, 100), (0, 9), (0, 10), (0, 10**9 - 1), (0, 10**9), (1, 10**9):
+        sample = texted(nulls_of((count, length)).end())
+        yield f"nulls-{length}-less-{count}", ends(sample, f"2,{length}({length - count})")
+    # sums over 32 bits
+    for arrays in (2, 3, 5, ROWS - 1):
+        total = arrays * (2**31 - 1)
+        sample = texted(nulls_of(*[(0, 2**31 - 1)] * arrays).end())
+        yield f"nulls-most-{arrays}", ends(sample, f"{arrays + 1},{total}({total})")
+    # of a dump that is cut off, those before; of rows that are changed, those of the rows as they are lent
+    whole = nulls_of((2, 5), (1, 4)).end()
+    yield "nulls-cut", ends(texted(Lent(whole, len(whole.bytes) - 2)), "2,5(3)")
+    yield "nulls-changed", ends(texted(Lent(whole).but(1, length=7)), "3,11(8)")
+    yield "nulls-none-left", ends(texted(Lent(whole).but(1, length=2).but(2, length=1)), "3,3(0)")
+    for length in (0, 1, 2**31, 2**32 + 5, 2**64 - 1):
+        yield f"bad-array-length-{length:x}", refused(Lent(whole).but(1, length=length), 16, 1)
 
 
 # ---- rows without their class
@@ -332,7 +378,7 @@ def lent_otherwise():
 
 
 def samples():
-    for group in (headers, addresses, classes, arrays, primitive_arrays, hashes, figures, counts, lost, cuts):
+    for group in (headers, addresses, classes, arrays, primitive_arrays, hashes, figures, counts, nulls, lost, cuts):
         yield from group()
     for group in (bad_headers, bad_rows, lent_otherwise):
         yield from group()

@@ -116,7 +116,9 @@ class Lent:
         kinds = [row["kind"] for row in rows]
         by_kind = [kinds.count(kind) for kind in (CLASS, OBJECT, ARRAY, PRIMITIVE)]
         yield "// Breakdown - Classes: {}, Objects: {}, ObjectArrays: {}, PrimitiveArrays: {}".format(*by_kind)
-        yield f"// EOF:  Total 'Objects',Refs(null) : {len(rows)},{sum(row['count'] for row in rows)}(0)"
+        refs = sum(row["count"] for row in rows)
+        nulls = sum(row["length"] - row["count"] for row in rows if row["kind"] == ARRAY)
+        yield f"// EOF:  Total 'Objects',Refs(null) : {len(rows)},{refs + nulls}({nulls})"
 
     def text(self):
         assert self.lost() is None

@@ -1,20 +1,24 @@
--- 01's dump, as classic text: its reading's tables give 01's eleven lines. It holds by computing.
--- A reader must believe that the dump (Phd's Cases) and the lines are 01's.
+-- 01's dump, as classic text: its reading's tables give 01's eleven lines. Then an object array with nulls. Both hold by
+-- computing. A reader must believe that the dump (Phd's Cases) and the lines are 01's.
 use mathlib.Core.Path.{_≡_, refl}
-use Prim.Native.Nat.{_*_}
+use Prim.Native.Nat.{ℕ, _*_}
 use mathlib.Core.List.{List, [], _∷_, map}
+use mathlib.Core.Bool.{false}
+use Rattle.phd.specs.declared.Facts.{Facts}
 use Rattle.phd.specs.Phd.{row-width, limit, bit, highest, same, hash-bytes, Result, reading}
 use Rattle.phd.specs.Cases.{dump, computing as reads-computing}
 use Rattle.layout.specs.Numbers.{within}
+use Rattle.layout.specs.Fields.{no-text}
 use Rattle.phd_rows.specs.Rows.{row-at, refs-of, name-of, row-count}
 use Rattle.phd_rows.specs.Good.{every, good-vm, good-header, good-hash, good-class, no-name, good-object, good-array, good-primitive, good-kind, good-place, good-span, good-numbers, good-ref, good-refs, good-row, first-bad}
 use Rattle.phd_rows.specs.Judged.{refused, done, judged}
-use Rattle.classic.specs.Classic.{ascii, places-in, places, decimal, capital, numeral, address, first-from, is-class-at, is-class-named, is-lost, found-row, letters, signature, array-type, naming, type-of, bytes-of, word-of, first-line, listed, second-line, row-lines, version, sum-from, nulls, breakdown, totals, ended, lines, text-of, texting}
+use Rattle.phd_counts.specs.Counts.{nulls-of, sum-from, nulls}
+use Rattle.classic.specs.Classic.{ascii, places-in, places, decimal, capital, numeral, address, first-from, is-class-at, is-class-named, is-lost, found-row, letters, signature, array-type, naming, type-of, bytes-of, word-of, first-line, listed, second-line, row-lines, version, breakdown, totals, ended, lines, text-of, texting}
 use Prim.Native.String.{String}
 
 -- for a proof by computing: whoever unfolds this unfolds all that a text is made of
 unfoldable pub computing : Unit {0}
-unfolding within limit bit highest same hash-bytes row-at refs-of name-of row-count every good-vm good-header good-hash good-class no-name good-object good-array good-primitive good-kind good-place good-span good-numbers good-ref good-refs good-row first-bad refused done judged places-in places decimal capital numeral address first-from is-class-at is-class-named is-lost found-row letters signature array-type naming type-of bytes-of word-of first-line listed second-line row-lines version sum-from nulls breakdown totals ended lines text-of texting
+unfolding within limit bit highest same hash-bytes row-at refs-of name-of row-count every good-vm good-header good-hash good-class no-name good-object good-array good-primitive good-kind good-place good-span good-numbers good-ref good-refs good-row first-bad refused done judged nulls-of sum-from nulls places-in places decimal capital numeral address first-from is-class-at is-class-named is-lost found-row letters signature array-type naming type-of bytes-of word-of first-line listed second-line row-lines version breakdown totals ended lines text-of texting
 computing = tt
 
 -- 01's lines
@@ -46,3 +50,28 @@ as-said = refl
 pub too-small : texting (it .facts) dump (it .refs) (it .rows) 279 ≡ refused 17 0
 unfolding computing reads-computing dump
 too-small = refl
+
+-- ---- an object array with nulls
+
+-- the class A at 0x1000, and at 0x1010 an array of them: its true length is 5, and it has two references
+abbrev with-array : List ℕ
+with-array =
+    1 ∷ 0x1000 ∷ 0 ∷ 0 ∷ 0 ∷ 0 ∷ 0 ∷ 16 ∷ 0 ∷ 0 ∷ 1 ∷ 0
+    ∷ 3 ∷ 0x1010 ∷ 0x1000 ∷ 0 ∷ 0 ∷ 0 ∷ 2 ∷ 7 ∷ 5 ∷ 0 ∷ 0 ∷ 0 ∷ []
+
+-- it lists two, and adds 3 nulls and 5 in all
+abbrev array-said : List String
+array-said =
+    "// Version: "
+    ∷ "0x00001000 [0] CLS A"
+    ∷ "0x00000000"
+    ∷ "0x00001010 [28] OBJ [LA;"
+    ∷ "0x00001000 0x00001000 0x00001010"
+    ∷ "// Breakdown - Classes: 1, Objects: 0, ObjectArrays: 1, PrimitiveArrays: 0"
+    ∷ "// EOF:  Total 'Objects',Refs(null) : 2,5(3)"
+    ∷ []
+
+pub with-nulls : let h : Facts = record { word = 32; hashed = false; openj9 = false; vm = no-text } in
+    texting h (0x41 ∷ []) (0x1000 ∷ 0x1010 ∷ []) with-array 300 ≡ done (ended (map ascii array-said))
+unfolding computing
+with-nulls = refl

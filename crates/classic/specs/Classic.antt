@@ -14,12 +14,13 @@ use Rattle.layout.specs.declared.Text.{Text}
 use Rattle.layout_put.specs.Put.{join}
 use Rattle.phd.specs.Phd.{same}
 use Rattle.phd.specs.declared.Facts.{Facts}
-use Rattle.phd_rows.specs.Rows.{row-at, refs-of, name-of, vm-text, row-count}
+use Rattle.phd_rows.specs.Rows.{row-at, of-kind, refs-of, name-of, vm-text, row-count}
 use Rattle.phd_rows.specs.Good.{good-header, bad-of}
 use Rattle.phd_rows.specs.Judged.{Outcome, judged}
 use Rattle.phd_rows.specs.declared.Row.{Row}
 use Rattle.phd_rows.specs.declared.Found.{Found}
 use Rattle.phd_rows.specs.declared.Found.the-variants.{At, Nowhere}
+use Rattle.phd_counts.specs.Counts.{one-of, count-of, sum, nulls}
 
 -- ---- characters and numbers
 
@@ -69,10 +70,6 @@ first-from test rows i (suc n) = pick (test (row-at rows i)) (At i) (first-from 
 -- of all rows
 abbrev pub first-row : (Row → Bool) → List ℕ → Found
 first-row test rows = first-from test rows 0 (row-count rows)
-
--- a row's kind: 1 class, 2 object, 3 object array, 4 primitive array
-abbrev pub of-kind : ℕ → Row → Bool
-of-kind k r = eqb (r .kind) k
 
 -- a class row with that address; a class row so named
 unfoldable pub is-class-at : ℕ → Row → Bool
@@ -177,26 +174,7 @@ row-lines word names refs rows i (suc n) =
 unfoldable pub version : List ℕ → Text → List ℕ
 version names t = ascii "// Version: " ++ pick (t .there) (vm-text names t) []
 
--- a sum over n rows from number i on, and over all
-unfoldable pub sum-from : (Row → ℕ) → List ℕ → ℕ → ℕ → ℕ
-sum-from f rows i zero = 0
-sum-from f rows i (suc n) = f (row-at rows i) + sum-from f rows (suc i) n
-
-abbrev pub sum : (Row → ℕ) → List ℕ → ℕ
-sum f rows = sum-from f rows 0 (row-count rows)
-
--- how many rows are of a kind, and how many references all rows have
-abbrev pub one-of : ℕ → Row → ℕ
-one-of k r = pick (of-kind k r) 1 0
-
-abbrev pub count-of : Row → ℕ
-count-of r = r .count
-
--- nulls are written as 0
-unfoldable pub nulls : List ℕ → ℕ
-nulls rows = 0
-
--- the two trailers: rows by kind; all rows, references and nulls
+-- the two trailers: rows by kind; all rows, references with the nulls, and the nulls by themselves
 unfoldable pub breakdown : List ℕ → List ℕ
 breakdown rows = join (
     figure "// Breakdown - Classes: " (sum (one-of 1) rows)
@@ -207,7 +185,7 @@ breakdown rows = join (
 unfoldable pub totals : List ℕ → List ℕ
 totals rows = join (
     figure "// EOF:  Total 'Objects',Refs(null) : " (row-count rows)
-    ∷ figure "," (sum count-of rows)
+    ∷ figure "," (sum count-of rows + nulls rows)
     ∷ figure "(" (nulls rows) ∷ ascii ")" ∷ [])
 
 -- ---- the text

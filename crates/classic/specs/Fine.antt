@@ -1,20 +1,19 @@
 -- What the text asks of rows of which none is bad, as facts for proofs.
 -- Assumes nothing.
 use mathlib.Core.Path.{_≡_}
-use Prim.Native.Nat.{ℕ, zero, suc, _+_, _^_, _≤_, _<_}
-use native.Mathlib.Nat.{zero-add}
+use Prim.Native.Nat.{ℕ, _+_, _^_, _≤_, _<_}
 use native.Mathlib.Omega.{arith}
 use mathlib.Core.Bool.{true}
 use mathlib.Core.List.{List}
 use lib.ListN.{length}
 use Rattle.phd.specs.declared.Facts.{Facts}
 use Rattle.phd_rows.specs.Rows.{row-at, bare, rec-of, row-count}
-use Rattle.phd_rows.specs.Good.{good-row, first-bad, bad-of}
-use Rattle.phd_rows.specs.Kept.{Kinded, a-class, an-object, an-array, a-primitive, none-bad, lent-of, good-of}
+use Rattle.phd_rows.specs.Good.{good-row}
+use Rattle.phd_rows.specs.Kept.{Kinded, a-class, an-object, an-array, a-primitive, lent-of, good-of, each-row}
 use Rattle.phd_rows.specs.Judged.{AllRight}
 use Rattle.phd_rows.specs.declared.Row.{Row}
-use Rattle.phd_rows.specs.declared.Found.the-variants.{Nowhere}
-use Rattle.classic.specs.Classic.{count-of, sum-from, sum}
+use Rattle.phd_counts.specs.Counts.{count-of, sum}
+use Rattle.phd_counts.specs.Exact.{exact}
 
 -- a row's name lies in the name bytes, and its numbers are small
 pub record Short (names : List ℕ) (r : Row) : Type 0 where
@@ -44,22 +43,6 @@ small r name (an-array _ size _ _ prim _) = (omega arith, omega arith)
 small r name (a-primitive _ _ _ size _ prim _) = (omega arith, omega arith)
 
 module _ (h : Facts) (names refs rows : List ℕ) where
-  -- what good rows are, each of n rows from number i on is, if none of them is bad
-  each : (P : Row → Type 0) → ((index : ℕ) (r : Row) → good-row h names refs index r ≡ true → P r)
-      → (n i index : ℕ) → first-bad h names refs rows i index n ≡ Nowhere → (k : ℕ) → k < n → P (row-at rows (i + k))
-  each P f zero i index e k l = absurd (omega arith)
-  each P f (suc n) i index e zero l =
-      let z : i + 0 ≡ i = omega arith in
-      rw z (f index (row-at rows i) (none-bad h names refs rows n i index e .0))
-  each P f (suc n) i index e (suc k) l =
-      let z : i + suc k ≡ suc i + k = omega arith in
-      rw z (each P f n (suc i) (index + row-at rows i .count) (none-bad h names refs rows n i index e .1) k (omega arith))
-
-  -- so is each row of the table
-  of-each : (P : Row → Type 0) → ((index : ℕ) (r : Row) → good-row h names refs index r ≡ true → P r)
-      → bad-of h names refs rows ≡ Nowhere → (i : ℕ) → i < row-count rows → P (row-at rows i)
-  of-each P f e i l = rw zero-add at (each P f (row-count rows) 0 0 e i l)
-
   short-of : (index : ℕ) (r : Row) → good-row h names refs index r ≡ true → Short names r
   unfolding rec-of
   short-of index r g =
@@ -67,22 +50,11 @@ module _ (h : Facts) (names refs rows : List ℕ) where
       let s = small r _ (good-of h names refs index r g .kinded) in
       record { named = l .named; short = l .short; size = s .0; few = l .few; type = s .1 }
 
-  -- the references of n rows from number i on, beginning at an index, are no more than the table has behind it
-  all-from : (n i index : ℕ) → first-bad h names refs rows i index n ≡ Nowhere → index ≤ length refs → index + sum-from count-of rows i n ≤ length refs
-  unfolding sum-from rec-of bare
-  all-from zero i index e l = omega arith
-  all-from (suc n) i index e l =
-      let g = none-bad h names refs rows n i index e in
-      let s : row-at rows i .first + row-at rows i .count ≤ length refs = lent-of h names refs index (row-at rows i) (g .0) .span in
-      let f : row-at rows i .first ≡ index = good-of h names refs index (row-at rows i) (g .0) .first in
-      let r = all-from n (suc i) (index + row-at rows i .count) (g .1) (omega arith) in
-      omega arith
-
   pub all-short : AllRight h names refs rows → AllShort names rows
-  all-short a = record { row = of-each (Short names) short-of (a .1) }
+  all-short a = record { row = each-row h names refs rows (Short names) short-of (a .1) }
 
   pub all-linked : AllRight h names refs rows → AllLinked refs rows
   all-linked a = record {
-    span = of-each (λ r. r .first + r .count ≤ length refs) (λ index r g. lent-of h names refs index r g .span) (a .1);
-    all = rw zero-add at (all-from (row-count rows) 0 0 (a .1) (omega arith));
+    span = each-row h names refs rows (λ r. r .first + r .count ≤ length refs) (λ index r g. lent-of h names refs index r g .span) (a .1);
+    all = exact h names refs rows a .lent;
   }

@@ -10,12 +10,12 @@ use mathlib.Core.List.{List}
 use lib.Dec.{eqb}
 use borrow.Author.Tests.{eqb-true, eq-eqb}
 use Rattle.layout.specs.Numbers.{pick, either}
-use Rattle.phd_rows.specs.Rows.{row-at, row-count}
+use Rattle.phd_rows.specs.Rows.{row-at, of-kind, row-count}
 use Rattle.phd_rows.specs.Kept.{both-left, both-right}
 use Rattle.phd_rows.specs.declared.Row.{Row}
 use Rattle.phd_rows.specs.declared.Found.{Found}
 use Rattle.phd_rows.specs.declared.Found.the-variants.{At, Nowhere}
-use Rattle.classic.specs.Classic.{first-from, first-row, of-kind, is-class-at, class-at, nowhere, is-lost}
+use Rattle.classic.specs.Classic.{first-from, first-row, is-class-at, class-at, nowhere, is-lost}
 
 -- The row number i is one of the table, it is so and so, and none before it is.
 pub record First (P : Row → Type 0) (rows : List ℕ) (i : ℕ) : Type 0 where

@@ -11,12 +11,12 @@ use lib.Dec.{eqb}
 use Rattle.layout.specs.Numbers.{pick}
 use Rattle.layout_put.specs.Put.{join}
 use Rattle.phd.specs.Shapes.{Word}
-use Rattle.phd_rows.specs.Rows.{name-of}
+use Rattle.phd_rows.specs.Rows.{of-kind, name-of}
 use Rattle.phd_rows.specs.Kept.{length-refs-of, length-name-of}
 use Rattle.phd_rows.specs.declared.Row.{Row}
 use Rattle.phd_rows.specs.declared.Found.{Found}
 use Rattle.phd_rows.specs.declared.Found.the-variants.{At, Nowhere}
-use Rattle.classic.specs.Classic.{ascii, places, figure, address, class-at, of-kind, no-row, found-row, signature, array-type, naming, type-of, bytes-of, first-line, second-line, ended}
+use Rattle.classic.specs.Classic.{ascii, places, figure, address, class-at, no-row, found-row, signature, array-type, naming, type-of, bytes-of, first-line, second-line, ended}
 use Rattle.classic.specs.Search.{found-below}
 use Rattle.classic.specs.Fine.{Short, AllShort}
 use Rattle.classic_put.specs.Digits.{length-decimal, places-most, length-address, length-listed}

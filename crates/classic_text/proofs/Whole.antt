@@ -8,16 +8,22 @@ use lib.Seq.{sets}
 use Rattle.layout_put.specs.Puts.{Puts, Room, puts-then, room-first, room-behind}
 use Rattle.phd.specs.declared.Facts.{Facts}
 use Rattle.phd_rows.specs.Judged.{AllRight}
+use Rattle.phd_counts.specs.Counts.{tally-of}
+use Rattle.phd_counts.specs.Exact.{exact}
+use Rattle.phd_counts.specs.declared.Tally.{Tally}
 use Rattle.classic.specs.Classic.{text-of}
-use Rattle.classic_text.specs.declared.trailers.Tally.{Tally}
-use Rattle.classic_text.specs.Parts.{version-text, rows-text, rows-size, tally-of, trailers-by, text-parts}
-use Rattle.classic_text.specs.Sizes.{trailers-most}
-use Rattle.classic_text.specs.Ways.{few-of, rows-small}
+use Rattle.classic_text.specs.Parts.{Totalled, version-text, rows-text, rows-size, trailers-by, text-parts}
+use Rattle.classic_text.specs.Sizes.{tally-totalled, trailers-most}
+use Rattle.classic_text.specs.Ways.{rows-small}
 use Rattle.classic_text.specs.Promises.{sized}
 
 module _ (h : Facts) (names refs rows : List ℕ) (t : Tally) (e : t ≡ tally-of rows) where
   parts : text-of h names refs rows ≡ version-text names (h .vm) ++ (rows-text (h .word) names refs rows ++ trailers-by t)
   parts = rw e (text-parts h names refs rows)
+
+  -- its references and nulls, summed
+  pub totalled : AllRight h names refs rows → Totalled t
+  totalled a = rw e (tally-totalled rows (exact h names refs rows a .few))
 
   -- what the functions find: v the size of the version line, w that with the rows, x that of the trailers
   module _ (a : AllRight h names refs rows) (v w x : ℕ) (p : v ≡ length (version-text names (h .vm))) (q : w ≡ v + rows-size (h .word) names rows) (r : x ≡ length (trailers-by t)) where
@@ -33,7 +39,7 @@ module _ (h : Facts) (names refs rows : List ℕ) (t : Tally) (e : t ≡ tally-o
     pub size-fits : w + x < 2 ^ 63
     size-fits =
         let s = rows-small h names refs rows a in
-        let m = trailers-most rows (few-of h names refs rows a) in
+        let m = trailers-most rows (exact h names refs rows a .few) in
         let z = trailers-is in
         omega arith
 

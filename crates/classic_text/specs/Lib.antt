@@ -1,10 +1,8 @@
 -- In reading order: Promises (what holds of a text) and Parts (the text in its three parts, as the functions size and put them).
--- The rest are the proofs on the way: Counts (sums over the rows, row after row), Sizes (how many bytes the parts have), Loops
--- (row after row, for the functions that size and put the rows) and Ways (the five ways of a text, and what good tables give
--- the functions).
+-- The rest are the proofs on the way: Sizes (how many bytes the parts have), Loops (row after row, for the functions that size
+-- and put the rows) and Ways (the five ways of a text, and what good tables give the functions).
 pub mod Promises
 pub mod Parts
-pub mod Counts
 pub mod Sizes
 pub mod Loops
 pub mod Ways

@@ -10,11 +10,11 @@ use lib.ListN.{length}
 use Rattle.layout_put.specs.Puts.{Puts, Room, Rest, room-first, rest-begins, rest-next, rest-room, rest-ends}
 use Rattle.phd_rows.specs.Rows.{row-at, row-count}
 use Rattle.phd_rows.specs.declared.Row.{Row}
+use Rattle.phd_counts.specs.Counting.{left, sum-next, sum-done}
 use Rattle.classic.specs.Classic.{row-lines, ended}
 use Rattle.classic.specs.Fine.{Short, AllShort, AllLinked}
 use Rattle.classic_row.specs.Row.{row-text, row-size}
 use Rattle.classic_text.specs.Parts.{rows-text, rows-size}
-use Rattle.classic_text.specs.Counts.{left, sum-next, sum-done}
 use Rattle.classic_text.specs.Sizes.{lines-more}
 
 -- ---- what is left, from the row number i on

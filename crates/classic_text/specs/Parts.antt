@@ -1,16 +1,16 @@
 -- The text in its three parts, as they are sized and put: the version line, the lines of the rows, and the trailers by a tally
 -- of the rows. That they are the text of the definition (Classic) is proved.
 use mathlib.Core.Path.{_≡_, refl}
-use Prim.Native.Nat.{ℕ, _+_, _^_, _≤_, _<_}
+use Prim.Native.Nat.{ℕ, _+_, _^_, _<_}
 use mathlib.Core.List.{List, [], _∷_, _++_, append-assoc}
 use Rattle.layout.specs.declared.Text.{Text}
 use Rattle.layout_put.specs.Put.{join}
 use Rattle.phd.specs.declared.Facts.{Facts}
 use Rattle.phd_rows.specs.Rows.{row-count}
-use Rattle.phd_rows.specs.declared.Row.{Row}
-use Rattle.classic.specs.Classic.{ascii, figure, row-lines, version, sum, one-of, count-of, nulls, breakdown, totals, ended, lines, text-of}
+use Rattle.phd_counts.specs.Counts.{sum, tally-of}
+use Rattle.phd_counts.specs.declared.Tally.{Tally}
+use Rattle.classic.specs.Classic.{ascii, figure, row-lines, version, breakdown, totals, ended, lines, text-of}
 use Rattle.classic_row.specs.Row.{row-size}
-use Rattle.classic_text.specs.declared.trailers.Tally.{Tally}
 
 -- ---- the version line
 
@@ -27,43 +27,9 @@ rows-size word names rows = sum (row-size word names rows) rows
 
 -- ---- the trailers
 
-unfoldable pub tally-of : List ℕ → Tally
-tally-of rows = record {
-  classes = sum (one-of 1) rows;
-  objects = sum (one-of 2) rows;
-  arrays = sum (one-of 3) rows;
-  primitives = sum (one-of 4) rows;
-  rows = row-count rows;
-  refs = sum count-of rows;
-  nulls = nulls rows;
-}
-
--- a tally with a row more
-unfoldable pub counted : Tally → Row → Tally
-counted t r = record {
-  classes = t .classes + one-of 1 r;
-  objects = t .objects + one-of 2 r;
-  arrays = t .arrays + one-of 3 r;
-  primitives = t .primitives + one-of 4 r;
-  rows = t .rows + 1;
-  refs = t .refs + count-of r;
-  nulls = t .nulls;
-}
-
--- no count of it can leave 64 bits
-pub record Small (t : Tally) (r : Row) : Type 0 where
-  pub classes : t .classes < 2 ^ 62
-  pub objects : t .objects < 2 ^ 62
-  pub arrays : t .arrays < 2 ^ 62
-  pub primitives : t .primitives < 2 ^ 62
-  pub rows : t .rows < 2 ^ 62
-  pub refs : t .refs < 2 ^ 62
-  pub count : r .count < 2 ^ 62
-
--- the rows and references of a table are few
-pub record Few (rows : List ℕ) : Type 0 where
-  pub few-rows : row-count rows ≤ 2 ^ 30
-  pub few-refs : sum count-of rows ≤ 2 ^ 30
+-- the references of a tally with its nulls are far below what 64 bits hold
+pub record Totalled (t : Tally) : Type 0 where
+  pub small : t .refs + t .nulls < 2 ^ 62
 
 unfoldable pub breakdown-by : Tally → List ℕ
 breakdown-by t = join (
@@ -75,7 +41,7 @@ breakdown-by t = join (
 unfoldable pub totals-by : Tally → List ℕ
 totals-by t = join (
     figure "// EOF:  Total 'Objects',Refs(null) : " (t .rows)
-    ∷ figure "," (t .refs)
+    ∷ figure "," (t .refs + t .nulls)
     ∷ figure "(" (t .nulls) ∷ ascii ")" ∷ [])
 
 unfoldable pub trailers-by : Tally → List ℕ

@@ -5,18 +5,21 @@ use mathlib.Core.Logic.{_↔_, _⊎_}
 use Prim.Native.Nat.{ℕ, zero, suc, _+_, _*_, _≤_, _<_}
 use native.Mathlib.Omega.{arith}
 use mathlib.Core.Bool.{true, false}
-use mathlib.Core.List.{List, []}
+use mathlib.Core.List.{List, [], _∷_}
 use lib.ListN.{length, length-append}
 use lib.Dec.{leb}
 use borrow.Author.Tests.{le-leb, lt-leb, leb-true, leb-false}
+use Rattle.layout_put.specs.Put.{join}
 use Rattle.phd.specs.declared.Facts.{Facts}
 use Rattle.phd_rows.specs.Rows.{row-count}
 use Rattle.phd_rows.specs.Good.{good-header, bad-of}
 use Rattle.phd_rows.specs.Judged.{Outcome, done, AllRight, Exact as ByTests}
 use Rattle.phd_rows.specs.declared.Found.the-variants.{At, Nowhere}
-use Rattle.classic.specs.Classic.{first-row, is-class-at, class-at, is-lost, row-lines, lines, text-of, texting}
+use Rattle.phd_counts.specs.Counts.{sum, nulls, tally-of}
+use Rattle.phd_counts.specs.Exact.{with-nulls, exact as all-exact}
+use Rattle.classic.specs.Classic.{ascii, figure, first-row, is-class-at, class-at, is-lost, row-lines, totals, lines, text-of, texting}
 use Rattle.classic.specs.Fine.{all-linked}
-use Rattle.classic_text.specs.Parts.{version-text, rows-size, tally-of, trailers-by, text-parts}
+use Rattle.classic_text.specs.Parts.{version-text, rows-size, trailers-by, text-parts}
 use Rattle.classic_text.specs.Sizes.{rows-long}
 use Rattle.classic.specs.Firsts.{First, None, ClassRow, Classless, first-is, none-is, class-row-is, classless-is}
 use Rattle.classic_text.specs.Ways.{by-tests}
@@ -96,6 +99,15 @@ class-first rows a = first-is (ClassRow a) (is-class-at a) rows (class-row-is a)
 
 pub class-none : (rows : List ℕ) (a : ℕ) → (class-at rows a ≡ Nowhere) ↔ None (ClassRow a) rows
 class-none rows a = none-is (ClassRow a) (is-class-at a) rows (class-row-is a)
+
+-- ---- the figures of the last line
+
+-- Of good tables the reference total is what the rows have, nulls included: the true lengths of object arrays, and the references
+-- of all other rows. What an object array's nulls are is said by phd_counts (Exact).
+pub last-line : (h : Facts) (names refs rows : List ℕ) → AllRight h names refs rows
+    → totals rows ≡ join (figure "// EOF:  Total 'Objects',Refs(null) : " (row-count rows) ∷ figure "," (sum with-nulls rows) ∷ figure "(" (nulls rows) ∷ ascii ")" ∷ [])
+unfolding totals
+last-line h names refs rows a = rw (all-exact h names refs rows a .total)
 
 -- ---- how long the text is
 

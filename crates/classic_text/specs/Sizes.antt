@@ -1,7 +1,7 @@
 -- How many bytes the version line, the lines of the rows and the trailers have, and how many they are at most.
 -- Assumes nothing.
 use mathlib.Core.Path.{_≡_, refl}
-use Prim.Native.Nat.{ℕ, zero, suc, _+_, _*_, _^_, _≤_}
+use Prim.Native.Nat.{ℕ, zero, suc, _+_, _*_, _^_, _≤_, _<_}
 use native.Mathlib.Omega.{arith}
 use mathlib.Core.Bool.{Bool, true, false}
 use mathlib.Core.List.{List, [], _∷_, _++_}
@@ -11,13 +11,14 @@ use Rattle.layout.specs.declared.Text.{Text}
 use Rattle.phd.specs.Shapes.{Word}
 use Rattle.phd_rows.specs.Rows.{vm-text, row-at, row-count}
 use Rattle.phd_rows.specs.Kept.{Vm, length-text}
-use Rattle.classic.specs.Classic.{ascii, places, row-lines, version, sum-from, sum, one-of, count-of, nulls, ended}
+use Rattle.phd_counts.specs.Counts.{one-of, count-of, sum-from, sum, nulls, tally-of}
+use Rattle.phd_counts.specs.Counting.{Few, sum-most}
+use Rattle.phd_counts.specs.declared.Tally.{Tally}
+use Rattle.classic.specs.Classic.{ascii, places, row-lines, version, ended}
 use Rattle.classic.specs.Fine.{AllShort, AllLinked}
 use Rattle.classic_put.specs.Digits.{length-decimal, places-most}
 use Rattle.classic_row.specs.Row.{row-text, row-size, length-row, row-size-most}
-use Rattle.classic_text.specs.Parts.{Few, ended-append, version-text, rows-text, rows-size, tally-of, trailers-by, breakdown-by, totals-by}
-use Rattle.classic_text.specs.Counts.{sum-most}
-use Rattle.classic_text.specs.declared.trailers.Tally.{Tally}
+use Rattle.classic_text.specs.Parts.{Totalled, ended-append, version-text, rows-text, rows-size, trailers-by, breakdown-by, totals-by}
 
 -- ---- the version line
 
@@ -75,17 +76,25 @@ module _ (word : ℕ) (names refs rows : List ℕ) (w : Word word) (a : AllShort
 
 -- ---- the trailers
 
+pub tally-totalled : (rows : List ℕ) → Few rows → Totalled (tally-of rows)
+unfolding tally-of
+tally-totalled rows f =
+    let r = f .few-refs in
+    let n = f .few-nulls in
+    record { small = omega arith }
+
 pub length-trailers : (t : Tally)
-    → length (trailers-by t) ≡ 113 + (places (t .classes) + places (t .objects) + places (t .arrays) + places (t .primitives)) + (places (t .rows) + places (t .refs) + places (t .nulls))
+    → length (trailers-by t) ≡ 113 + (places (t .classes) + places (t .objects) + places (t .arrays) + places (t .primitives)) + (places (t .rows) + places (t .refs + t .nulls) + places (t .nulls))
 unfolding trailers-by breakdown-by totals-by ended
 length-trailers t = simp (length-append, length-decimal) (omega arith)
 
 pub trailers-most : (rows : List ℕ) → Few rows → length (trailers-by (tally-of rows)) ≤ 253
-unfolding tally-of nulls
+unfolding tally-of
 trailers-most rows f =
-    let m : (n : ℕ) → n ≤ 2 ^ 30 → places n ≤ 20 = λ n l. places-most n (omega arith) in
+    let m : (n : ℕ) → n < 2 ^ 62 → places n ≤ 20 = λ n l. places-most n (omega arith) in
     let k : (k : ℕ) → places (sum (one-of k) rows) ≤ 20 = λ k. let s = sum-most k rows 0 (row-count rows) in let r = f .few-rows in m _ (omega arith) in
-    let r = m _ (f .few-rows) in
-    let s = m _ (f .few-refs) in
-    let z = m 0 (omega arith) in
+    let n = f .few-nulls in
+    let r = m (row-count rows) (omega (arith, f .few-rows)) in
+    let s = m (sum count-of rows + nulls rows) (tally-totalled rows f .small) in
+    let z = m (nulls rows) (omega arith) in
     rw length-trailers (omega (arith, k 1, k 2, k 3, k 4))

@@ -16,7 +16,7 @@ use Rattle.phd_rows.specs.declared.Found.the-variants.{Nowhere}
 use Rattle.phd_rows.specs.declared.Written.{Written}
 use Rattle.classic.specs.Classic.{first-row, is-lost, text-of, texting}
 use Rattle.classic.specs.Fine.{all-short, all-linked}
-use Rattle.classic_text.specs.Parts.{Few, version-text, rows-size}
+use Rattle.classic_text.specs.Parts.{version-text, rows-size}
 use Rattle.classic_text.specs.Sizes.{version-most, rows-size-most}
 
 -- ---- the ways
@@ -58,13 +58,6 @@ module _ (h : Facts) (names refs rows : List ℕ) (room : ℕ) where
 module _ (h : Facts) (names refs rows : List ℕ) (a : AllRight h names refs rows) where
   pub good-vm-of : Vm names (h .vm)
   good-vm-of = vm-lent _ _ (vm-of h names rows refs (a .0))
-
-  -- their rows and references are few
-  pub few-of : Few rows
-  few-of =
-      let l = all-linked h names refs rows a .all in
-      let m = few-refs h names rows refs (a .0) in
-      record { few-rows = few-rows h names rows refs (a .0); few-refs = omega arith }
 
   -- the version line and the rows are far below what 64 bits hold
   pub rows-small : length (version-text names (h .vm)) + rows-size (h .word) names rows < 2 ^ 62

@@ -20,7 +20,7 @@ fn fit(header: Header, rows: &[u64], refs: &[u64], names: &[u8], out: &mut [u8])
     ensures is { λ r. ⌜ r ≡ texting header (now (names .entry)) (now (refs .entry)) (now (rows .entry)) (length (now (out .entry))) .answer ⌝ }
     ensures out { λ _. ⌜ now (out .exit) ≡ stored (now (out .entry)) (texting header (now (names .entry)) (now (refs .entry)) (now (rows .entry)) (length (now (out .entry))) .bytes) ⌝ }
 {
-    let tally = trailers::count_all(rows);
+    let tally = phd_counts::count_all(rows);
     let first = version::size(names, header.vm);
     let size = rows::size(header.word, names, rows, first) + trailers::size(tally);
     if out.len() < size {

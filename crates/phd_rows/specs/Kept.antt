@@ -3,6 +3,7 @@
 use mathlib.Core.Path.{_≡_, refl}
 use mathlib.Core.Logic.{inl, inr}
 use Prim.Native.Nat.{ℕ, zero, suc, _+_, _%_, _^_, _≤_, _<_}
+use native.Mathlib.Nat.{zero-add}
 use native.Mathlib.Omega.{arith}
 use mathlib.Core.Bool.{Bool, true, false}
 use mathlib.Core.List.{List, [], _∷_}
@@ -16,7 +17,7 @@ use Rattle.phd.specs.Phd.{highest, hash-bytes}
 use Rattle.phd.specs.Shapes.{Word}
 use Rattle.phd.specs.declared.Facts.{Facts}
 use Rattle.phd_rows.specs.Rows.{Rec, row-at, refs-of, name-of, vm-text, bare, rec-of, row-count}
-use Rattle.phd_rows.specs.Good.{every, good-vm, good-header, good-hash, good-class, no-name, good-object, good-array, good-primitive, good-kind, good-place, good-span, good-numbers, good-ref, good-refs, good-row, first-bad}
+use Rattle.phd_rows.specs.Good.{every, good-vm, good-header, good-hash, good-class, no-name, good-object, good-array, good-primitive, good-kind, good-place, good-span, good-numbers, good-ref, good-refs, good-row, first-bad, bad-of}
 use Rattle.phd_rows.specs.declared.Row.{Row}
 use Rattle.phd_rows.specs.declared.Found.{Found}
 use Rattle.phd_rows.specs.declared.Found.the-variants.{At, Nowhere}
@@ -201,6 +202,21 @@ pub none-bad : (h : Facts) (names refs rows : List ℕ) (n i index : ℕ) → fi
     → (good-row h names refs index (row-at rows i) ≡ true) × (first-bad h names refs rows (suc i) (index + row-at rows i .count) n ≡ Nowhere)
 unfolding first-bad
 none-bad h names refs rows n i index e = by-none (good-row h names refs index (row-at rows i)) _ i e
+
+-- what good rows are, every row of a table without a bad one is
+module _ (h : Facts) (names refs rows : List ℕ) (P : Row → Type 0) (f : (index : ℕ) (r : Row) → good-row h names refs index r ≡ true → P r) where
+  -- of n rows from number i on
+  each-from : (n i index : ℕ) → first-bad h names refs rows i index n ≡ Nowhere → (k : ℕ) → k < n → P (row-at rows (i + k))
+  each-from zero i index e k l = absurd (omega arith)
+  each-from (suc n) i index e zero l =
+      let z : i + 0 ≡ i = omega arith in
+      rw z (f index (row-at rows i) (none-bad h names refs rows n i index e .0))
+  each-from (suc n) i index e (suc k) l =
+      let z : i + suc k ≡ suc i + k = omega arith in
+      rw z (each-from n (suc i) (index + row-at rows i .count) (none-bad h names refs rows n i index e .1) k (omega arith))
+
+  pub each-row : bad-of h names refs rows ≡ Nowhere → (i : ℕ) → i < row-count rows → P (row-at rows i)
+  each-row e i l = rw zero-add at (each-from (row-count rows) 0 0 e i l)
 
 -- ---- a good header
 

@@ -1,7 +1,9 @@
 -- The rows of a table that is lent, and the records that they are: 01's "The tables".
 -- A reader must believe that two records are the same, in 01's sense, exactly when their `Rec` are equal.
 use Prim.Native.Nat.{ℕ, zero, suc, _+_, _*_, _/_}
+use mathlib.Core.Bool.{Bool}
 use mathlib.Core.List.{List, [], _∷_}
+use lib.Dec.{eqb}
 use lib.ListN.{length, getD, take, drop}
 use Rattle.layout.specs.declared.Text.{Text}
 use Rattle.phd.specs.Phd.{row-width}
@@ -25,6 +27,10 @@ row-at rows i =
       namelen = n 10;
       prim = n 11;
     }
+
+-- whether a row is of a kind: 1 class, 2 object, 3 object array, 4 primitive array
+abbrev pub of-kind : ℕ → Row → Bool
+of-kind k r = eqb (r .kind) k
 
 -- a row's references, out of the second table; its name, out of the dump or of the name bytes lent
 unfoldable pub refs-of : List ℕ → Row → List ℕ

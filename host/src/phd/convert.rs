@@ -46,9 +46,9 @@ fn tell(reading: &Reading) -> Result<(), Trouble> {
         .collect();
     let kept = format!(
         "kept are the records before that place: {} ({}) with {}",
-        words::grouped(reading.tally().records),
+        words::grouped(reading.records()),
         kinds.join(", "),
-        words::count(reading.tally().references, "reference"),
+        words::count(reading.references(), "reference"),
     );
     say::about(&reading.name, &kept);
     Ok(())
@@ -84,9 +84,8 @@ fn make(reading: &Reading, form: Form) -> Result<Vec<u8>, Trouble> {
 /// About how long a text is: two lines for a record, a number for a reference.
 fn likely_text(reading: &Reading) -> usize {
     let address = 3 + reading.width() as usize / 4;
-    let all = reading.tally();
-    let lines = all.records as usize * (2 * address + 80);
-    lines + all.references as usize * address + 1024
+    let lines = reading.records() as usize * (2 * address + 80);
+    lines + reading.references() as usize * address + 1024
 }
 
 fn put(reading: &Reading, form: Form, out: &mut [u8], facts: &mut Facts) -> u64 {

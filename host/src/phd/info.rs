@@ -53,17 +53,26 @@ fn report(reading: &Reading) -> String {
 }
 
 fn counts(reading: &Reading) -> String {
-    let mut text = format!("  {:<18}{:>14}{:>16}\n", "", "records", "references");
-    for (kind, tally) in words::KINDS.iter().zip(reading.tally_by_kind()) {
+    let kinds = reading.tally_by_kind();
+    let all = Tally {
+        records: reading.records(),
+        references: reading.references(),
+        nulls: kinds.iter().map(|tally| tally.nulls).sum(),
+    };
+    let mut text = line("", ["records", "references", "nulls"].map(String::from));
+    for (kind, tally) in words::KINDS.iter().zip(kinds) {
         text += &counted(kind, tally);
     }
-    text + &counted("all", reading.tally())
+    text + &counted("all", all)
 }
 
 fn counted(kind: &str, tally: Tally) -> String {
-    let records = words::grouped(tally.records);
-    let references = words::grouped(tally.references);
-    format!("  {kind:<18}{records:>14}{references:>16}\n")
+    let counts = [tally.records, tally.references, tally.nulls];
+    line(kind, counts.map(words::grouped))
+}
+
+fn line(name: &str, [records, references, nulls]: [String; 3]) -> String {
+    format!("  {name:<18}{records:>14}{references:>16}{nulls:>16}\n")
 }
 
 fn header(reading: &Reading) -> String {

@@ -6,11 +6,15 @@ use crate::room::{self, NoMemory};
 use crate::say::Trouble;
 use phd_host::library::{self, Facts, Header, ROW};
 
-/// Where a row has its kind, its address, its class word and its count of references.
+/// Where a row has its kind, its address, its class word, its count of references and its length.
 const KIND: usize = 0;
 const ADDRESS: usize = 1;
 const CLASS: usize = 2;
 const REFERENCES: usize = 6;
+const LENGTH: usize = 8;
+
+/// The kind of an object array.
+const OBJECT_ARRAY: u64 = 3;
 
 /// Replies of a reading that has no room for a row, or for a record's references.
 const NO_ROW: u64 = 13;
@@ -25,11 +29,21 @@ pub struct Reading {
     facts: Facts,
 }
 
-/// How many records there are of a kind, and how many references they have.
+/// How many records there are of a kind, how many references they have, and how many nulls.
 #[derive(Clone, Copy, Default)]
 pub struct Tally {
     pub records: u64,
     pub references: u64,
+    pub nulls: u64,
+}
+
+/// A row's nulls: of an object array its length less its references. A reading stores no array with more references than that.
+fn nulls(row: &[u64]) -> u64 {
+    if row[KIND] == OBJECT_ARRAY {
+        row[LENGTH] - row[REFERENCES]
+    } else {
+        0
+    }
 }
 
 impl Reading {
@@ -82,11 +96,13 @@ impl Reading {
         &self.refs[..self.facts[3] as usize]
     }
 
-    pub fn tally(&self) -> Tally {
-        Tally {
-            records: self.facts[2],
-            references: self.facts[3],
-        }
+    pub fn records(&self) -> u64 {
+        self.facts[2]
+    }
+
+    /// The references that the records list; nulls are not among them.
+    pub fn references(&self) -> u64 {
+        self.facts[3]
     }
 
     /// For classes, objects, object arrays and primitive arrays.
@@ -96,6 +112,7 @@ impl Reading {
             let kind = &mut kinds[row[KIND] as usize - 1];
             kind.records += 1;
             kind.references += row[REFERENCES];
+            kind.nulls += nulls(row);
         }
         kinds
     }

@@ -67,8 +67,8 @@ pub fn around(reading: &Reading) -> String {
     if reading.width() == 0 {
         return "No record was read, and nothing is known of the header.".into();
     }
-    let records = count(reading.tally().records, "record");
-    let before = match reading.tally().records {
+    let records = count(reading.records(), "record");
+    let before = match reading.records() {
         0 => "No record stands before that place.".into(),
         1 => format!("The {records} before that place was read whole and is right."),
         _ => format!("The {records} before that place were read whole and are right."),
@@ -80,7 +80,7 @@ pub fn around(reading: &Reading) -> String {
 }
 
 fn end(reading: &Reading) -> String {
-    let records = count(reading.tally().records, "record");
+    let records = count(reading.records(), "record");
     let tag = at(reading.place().saturating_sub(1));
     format!("All of it was read: {records}, up to the end tag at {tag}.")
 }

@@ -1,4 +1,4 @@
-//! The scope paper's whole dump, its cuts and its text.
+//! The scope paper's whole dump, its cuts and its text; the nulls of arrays.
 
 use super::{read, text, write, ROW};
 
@@ -126,5 +126,39 @@ fn written() {
         assert_eq!(job(&HEADER, &rows, &REFS, &dump, &mut out, &mut facts), 0);
         assert_eq!(facts[..3], [0, size as u64, 0]);
         assert_eq!((&out[..size], out[size]), (wanted, 0xEE));
+    }
+}
+
+/// Object arrays of so many references and such a true length, behind the paper's rows, and how the text then ends: a true
+/// length of 5 with two references lists two, adds 3 nulls and 5 in all.
+#[test]
+fn nulls() {
+    let tries: [(&[(u64, u64)], &str); 6] = [
+        (&[], "4,1(0)"),
+        (&[(2, 5)], "5,6(3)"),
+        (&[(0, 0), (3, 3)], "6,4(0)"),
+        (&[(0, 4)], "5,5(4)"),
+        (&[(1, 2), (0, 7), (2, 2)], "7,12(8)"),
+        (&[(0, 0x7FFF_FFFF); 3], "7,6442450942(6442450941)"),
+    ];
+    for (arrays, wanted) in tries {
+        let (mut rows, mut refs) = (ROWS.concat(), REFS.to_vec());
+        for (count, length) in arrays {
+            let first = refs.len() as u64;
+            let row = [3, 0x2000, 0x1000, 0, 0, first, *count, 9, *length, 0, 0, 0];
+            rows.extend::<[u64; ROW]>(row);
+            refs.extend(vec![0x1010; *count as usize]);
+        }
+        let (mut out, mut facts) = ([0; 1000], [UNTOUCHED; 16]);
+        assert_eq!(
+            text(&HEADER, &rows, &refs, &dump(), &mut out, &mut facts),
+            0
+        );
+        let told = String::from_utf8_lossy(&out[..facts[1] as usize]);
+        assert!(told.ends_with(&format!(" : {wanted}\n")), "{told}");
+        let last = arrays.last().map_or("0x00000000".into(), |(count, _)| {
+            "0x00001000".to_string() + &" 0x00001010".repeat(*count as usize)
+        });
+        assert_eq!(told.lines().rev().nth(2), Some(&last[..]));
     }
 }

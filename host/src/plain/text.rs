@@ -60,7 +60,7 @@ fn whole(lent: &Lent, classes: &Classes, put: impl FnMut(&[u8])) -> Result<(), S
         put,
     };
     let mut kinds = [0; 5];
-    let mut refs = 0;
+    let (mut refs, mut nulls) = (0, 0);
     page.put(b"// Version: ");
     page.put(lent.version());
     page.put(b"\n");
@@ -69,6 +69,9 @@ fn whole(lent: &Lent, classes: &Classes, put: impl FnMut(&[u8])) -> Result<(), S
             .ok_or((Reply::NoClass, index as u64))?;
         kinds[row.kind as usize] += 1;
         refs += row.count;
+        if row.kind == OBJECT_ARRAY {
+            nulls += row.length - row.count;
+        }
     }
     page.put(b"// Breakdown - Classes: ");
     page.decimal(kinds[CLASS as usize]);
@@ -81,8 +84,10 @@ fn whole(lent: &Lent, classes: &Classes, put: impl FnMut(&[u8])) -> Result<(), S
     page.put(b"\n// EOF:  Total 'Objects',Refs(null) : ");
     page.decimal(lent.rows.len() as u64);
     page.put(b",");
-    page.decimal(refs);
-    page.put(b"(0)\n");
+    page.decimal(refs + nulls);
+    page.put(b"(");
+    page.decimal(nulls);
+    page.put(b")\n");
     Ok(())
 }
 

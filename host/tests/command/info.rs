@@ -12,12 +12,12 @@ a.phd: whole (reply 0)
   All of it was read: 4 records, up to the end tag at byte 73 (0x49).
   Nothing follows the end tag.
 
-                           records      references
-  classes                        1               0
-  objects                        2               1
-  object arrays                  0               0
-  primitive arrays               1               0
-  all                            4               1
+                           records      references           nulls
+  classes                        1               0               0
+  objects                        2               1               0
+  object arrays                  0               0               0
+  primitive arrays               1               0               0
+  all                            4               1               0
 
   file size           74 bytes
   address width       32 bit
@@ -38,12 +38,12 @@ a.phd: cut off (reply 1)
   The file ends inside the record that begins at byte 64 (0x40), after 1 byte of it.
   The 2 records before that place were read whole and are right.
 
-                           records      references
-  classes                        1               0
-  objects                        1               1
-  object arrays                  0               0
-  primitive arrays               0               0
-  all                            2               1
+                           records      references           nulls
+  classes                        1               0               0
+  objects                        1               1               0
+  object arrays                  0               0               0
+  primitive arrays               0               0               0
+  all                            2               1               0
 
   file size           65 bytes
   address width       32 bit
@@ -128,18 +128,67 @@ fn flags_and_vm_version() {
         .prints("VM version          \"\"\n");
 }
 
+/// An object array of the class A at a byte's gap, with so many references, each to itself, and such a true length.
+fn array(references: u8, length: u32) -> Vec<u8> {
+    let mut record = b"\x08\0\x04\0\0\x10\0\0\0\0".to_vec();
+    record.push(references);
+    record.extend(vec![0; references.into()]);
+    record.extend(b"\0\0\0\x05");
+    record.extend(length.to_be_bytes());
+    record
+}
+
+/// The example with records more.
+fn with(records: &[Vec<u8>]) -> Vec<u8> {
+    [&example()[..73], &records.concat(), b"\x03"].concat()
+}
+
 #[test]
 fn every_kind_of_record() {
     let folder = Folder::new("info-kinds");
-    let array = b"\x08\0\x04\0\0\x10\0\0\0\0\x02\x01\x02\0\0\0\x05\0\0\0\x02";
-    let dump = [&example()[..73], &array[..], b"\x03"].concat();
-    folder.put("a.phd", &dump);
+    folder.put("a.phd", &with(&[array(2, 1_000_002)]));
     let ran = folder.phd(&["info", "a.phd"]).ended(0);
-    ran.prints("  classes                        1               0\n")
-        .prints("  objects                        2               1\n")
-        .prints("  object arrays                  1               2\n")
-        .prints("  primitive arrays               1               0\n")
-        .prints("  all                            5               3\n");
+    ran.prints("  classes                        1               0               0\n")
+        .prints("  objects                        2               1               0\n")
+        .prints("  object arrays                  1               2       1,000,000\n")
+        .prints("  primitive arrays               1               0               0\n")
+        .prints("  all                            5               3       1,000,000\n");
+}
+
+/// Arrays without nulls, with some, with nothing else, and several; what `info` says of them, and the figures of the text's end.
+#[test]
+fn nulls_in_info_and_in_the_text() {
+    let folder = Folder::new("info-nulls");
+    let most = u32::MAX >> 1;
+    let trials = [
+        (vec![], [0, 0, 0]),
+        (vec![array(0, 0), array(3, 3)], [2, 3, 0]),
+        (vec![array(2, 5)], [1, 2, 3]),
+        (vec![array(0, 4)], [1, 0, 4]),
+        (vec![array(0, 1), array(2, 5), array(1, 1)], [3, 3, 4]),
+        (
+            vec![array(1, most), array(0, most), array(1, most)],
+            [3, 2, 3 * u64::from(most) - 2],
+        ),
+    ];
+    for (records, [arrays, references, nulls]) in trials {
+        folder.put("a.phd", &with(&records));
+        let ran = folder.phd(&["info", "a.phd"]).ended(0).quiet();
+        let said = |name: &str| -> Vec<u64> {
+            let told = ran.out().lines().map(str::trim);
+            let line = told.filter_map(|line| line.strip_prefix(name)).next();
+            let numbers = line.unwrap().replace(',', "");
+            let numbers = numbers.split_whitespace().map(str::parse);
+            numbers.collect::<Result<_, _>>().unwrap()
+        };
+        let (rows, listed) = (arrays + 4, references + 1);
+        assert_eq!(said("object arrays "), [arrays, references, nulls]);
+        assert_eq!(said("all "), [rows, listed, nulls]);
+        let all = listed + nulls;
+        let last = format!("\n// EOF:  Total 'Objects',Refs(null) : {rows},{all}({nulls})\n");
+        let ran = folder.phd(&["text", "a.phd"]).ended(0).quiet();
+        assert!(ran.out().ends_with(&last), "{last}{}", ran.out());
+    }
 }
 
 /// The example with an error in its header: other bytes at a place, the reply, and the words for it.

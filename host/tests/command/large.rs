@@ -20,8 +20,8 @@ fn many_short_records() {
     folder.put("a", &dump);
     let ran = folder.phd(&["info", "a"]).ended(0).quiet();
     ran.prints("a: whole (reply 0)\n")
-        .prints("  objects                  200,001               1\n")
-        .prints("  all                      200,002               1\n")
+        .prints("  objects                  200,001               1               0\n")
+        .prints("  all                      200,002               1               0\n")
         .prints("file size           400,065 bytes\n");
     folder.phd(&["copy", "a", "b"]).ended(0).quiet();
     assert!(folder.get("b") == dump);
@@ -43,8 +43,8 @@ fn many_references() {
     dump.push(3);
     folder.put("a", &dump);
     let ran = folder.phd(&["info", "a"]).ended(0).quiet();
-    ran.prints("  objects                   10,001          30,001\n")
-        .prints("  object arrays                  1         300,000\n");
+    ran.prints("  objects                   10,001          30,001               0\n")
+        .prints("  object arrays                  1         300,000               0\n");
     folder.phd(&["copy", "a", "b"]).ended(0).quiet();
     assert!(folder.get("b") == dump);
     let ran = folder.phd(&["text", "a"]).ended(0).quiet();

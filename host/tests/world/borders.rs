@@ -1,4 +1,4 @@
-//! The borders of the widths, and how often good tables meet them.
+//! The borders of the widths and the kinds of nulls, and how often tables meet them.
 
 use crate::encode::gap;
 use crate::tables::*;
@@ -22,6 +22,37 @@ pub const GAPS: [i64; 12] = [
 
 /// The same of a length, which ends with an int.
 pub const LENGTHS: [i64; 5] = [127, 128, 32_767, 32_768, (1 << 31) - 1];
+
+/// What is met of nulls: an array with none, with some, with nothing else; several arrays with nulls; more than an int holds.
+pub const NULLS: [i64; 5] = [NONE, SOME, ALL, SEVERAL, MANY];
+const NONE: i64 = 0;
+const SOME: i64 = 1;
+const ALL: i64 = 2;
+const SEVERAL: i64 = 3;
+const MANY: i64 = 4;
+
+/// Counts what the object arrays of tables have of nulls.
+pub fn note_nulls(tables: &Tables, tally: &mut Tally) {
+    let rows = (0..tables.count()).map(|index| tables.row(index));
+    let (mut having, mut total) = (0, 0);
+    for row in rows.filter(|row| row[KIND] == IS_ARRAY) {
+        let nulls = row[LENGTH] - row[COUNT];
+        let kind = match (row[COUNT], nulls) {
+            (_, 0) => NONE,
+            (0, _) => ALL,
+            _ => SOME,
+        };
+        tally.count("nulls", kind);
+        having += u64::from(nulls > 0);
+        total += nulls;
+    }
+    if having > 1 {
+        tally.count("nulls", SEVERAL);
+    }
+    if total > u64::from(u32::MAX) {
+        tally.count("nulls", MANY);
+    }
+}
 
 /// Counts the gaps, references and lengths of good tables that lie at a border.
 pub fn note(tables: &Tables, tally: &mut Tally) {

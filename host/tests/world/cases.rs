@@ -1,7 +1,7 @@
 //! Random cases: valid and spoiled tables, loosely encoded, damaged and senseless dumps, and rooms too small by one, on the
 //! library and on the plain implementation, compared in full.
 
-use crate::borders::{self, GAPS, LENGTHS};
+use crate::borders::{self, GAPS, LENGTHS, NULLS};
 use crate::compare::{self, of_dump, of_tables, Job, Outcome, TEXT, WRITE};
 use crate::damage;
 use crate::dice::Dice;
@@ -48,6 +48,7 @@ fn cases() {
         tally.rare("gap", &GAPS, LEAST),
         tally.rare("reference", &GAPS, LEAST),
         tally.rare("length", &LENGTHS, LEAST),
+        tally.rare("nulls", &NULLS, LEAST),
     ];
     assert_eq!(
         rare.concat(),
@@ -66,6 +67,9 @@ impl Case<'_> {
     fn make(&mut self, job: &Job, lent: &Tables, room: usize) -> Result<Outcome, String> {
         let made = compare::make(job, lent, room, self.dice.any())?;
         self.tally.count(job.name, made.reply as i64);
+        if job.name == TEXT.name && made.reply == 0 {
+            borders::note_nulls(lent, self.tally);
+        }
         Ok(made)
     }
 

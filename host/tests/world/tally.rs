@@ -36,7 +36,15 @@ impl Tally {
         for (name, count) in &self.kinds {
             println!("  {name}: {count}");
         }
-        for what in ["read", "write", "text", "gap", "reference", "length"] {
+        for what in [
+            "read",
+            "write",
+            "text",
+            "gap",
+            "reference",
+            "length",
+            "nulls",
+        ] {
             let of_it = self.counts.iter().filter(|((name, _), _)| *name == what);
             let told: Vec<_> = of_it
                 .map(|((_, number), n)| format!("{number}: {n}"))

@@ -6,10 +6,11 @@ use native.Mathlib.Omega.{arith}
 use lib.ListN.{length}
 use Rattle.phd_rows.specs.Judged.{refused-keeps, done-stores}
 use Rattle.phd_rows.specs.Kept.{word-of}
+use Rattle.phd_counts.specs.Exact.{exact}
 use Rattle.classic.specs.Classic.{text-of}
 use Rattle.classic.specs.Fine.{all-short, all-linked}
-use Rattle.classic_text.specs.Ways.{no-room, fits, good-vm-of, few-of, rows-small}
-use Rattle.classic_text.proofs.Whole.{size-is, size-fits, version-room, rows-room, trailers-room, text-put}
+use Rattle.classic_text.specs.Ways.{no-room, fits, good-vm-of, rows-small}
+use Rattle.classic_text.proofs.Whole.{totalled, size-is, size-fits, version-room, rows-room, trailers-room, text-put}
 use Rattle.classic_text.proofs.fit.Statement.{statement}
 use Rattle.classic_text.proofs.fit.Tie as tie
 
@@ -22,7 +23,7 @@ found : (c : tie.After-size3) → let a = begin c .args in c .before .size2 .res
 found c = size-is _ _ _ _ _ (c .before .before .before .count-all .ensures) (begin c .pre .0) _ _ _ (c .before .before .size .ensures) (c .before .size2 .ensures) (c .size3 .ensures)
 
 count-all-requires : tie.Need-count-all-requires
-count-all-requires c κs = few-of _ _ _ _ (c .before .before .before .before .pre .0)
+count-all-requires c κs = exact _ _ _ _ (c .before .before .before .before .pre .0) .few
 
 size-requires : tie.Need-size-requires
 size-requires c κs = good-vm-of _ _ _ _ (c .before .before .before .before .before .pre .0)
@@ -36,7 +37,9 @@ size-requires-2 c κs =
     (word-of _ _ _ _ (p .0), (all-short _ _ _ _ p, omega arith))
 
 size-requires-3 : tie.Need-size-requires-3
-size-requires-3 c κs = search needs
+size-requires-3 c κs =
+    let d = c .before .before .before .before .before .before .before in
+    totalled _ _ _ _ _ (c .before .before .count-all .ensures) (d .pre .0)
 
 add-size : tie.Need-add-size
 add-size c =
@@ -70,7 +73,8 @@ put-requires-3 : tie.Need-put-requires-3
 put-requires-3 c κs =
     let d = c .before .before .before .before .before .before .before .before .before in
     let a = begin (d .before) .args in
-    trailers-room (a .header) (a .names .now) (a .refs .now) (a .rows .now) _ (d .before .before .before .before .count-all .ensures) _ (enough d) (c .before .before .before .before .before .before .before .put .ensures) (c .before .before .before .put2 .ensures)
+    let e = d .before .before .before .before .count-all .ensures in
+    (totalled _ _ _ _ _ e (begin (d .before) .pre .0), trailers-room (a .header) (a .names .now) (a .refs .now) (a .rows .now) _ e _ (enough d) (c .before .before .before .before .before .before .before .put .ensures) (c .before .before .before .put2 .ensures))
 
 same-length : tie.Need-same-length
 same-length c = search needs

@@ -6,7 +6,7 @@ use Prim.Native.Nat.{ℕ}
 use Rattle.layout_put.specs.Put.{join}
 use Rattle.classic.specs.Classic.{ended}
 use Rattle.classic_text.specs.Parts.{breakdown-by, totals-by, trailers-by}
-use Rattle.classic_text.specs.declared.trailers.Tally.{Tally}
+use Rattle.phd_counts.specs.declared.Tally.{Tally}
 use Rattle.layout_put.specs.Partly.{Partly, begin, next, fits, ends}
 use Rattle.classic_text.proofs.trailers.put.Statement.{statement}
 use Rattle.classic_text.proofs.trailers.put.Tie as tie
@@ -20,7 +20,7 @@ in-parts t = refl
 
 -- what is left at the entry, and after each call
 abbrev none : tie.Start → Partly
-none c = begin (c .args .out .now) (c .args .at) (parts (c .args .t)) (in-parts (c .args .t)) (c .pre)
+none c = begin (c .args .out .now) (c .args .at) (parts (c .args .t)) (in-parts (c .args .t)) (c .pre .1)
 
 abbrev first : tie.After-put-breakdown → Partly
 first c = next (none (c .before .before .before)) (c .put-breakdown .ensures)
@@ -41,7 +41,9 @@ put-byte-requires : tie.Need-put-byte-requires
 put-byte-requires c κs = fits (first (c .before .before .before))
 
 put-totals-requires : tie.Need-put-totals-requires
-put-totals-requires c κs = fits (second (c .before .before .before))
+put-totals-requires c κs =
+    let d = c .before .before .before in
+    (d .before .before .before .before .before .before .before .pre .0, fits (second d))
 
 put-byte-requires-2 : tie.Need-put-byte-requires-2
 put-byte-requires-2 c κs = fits (third (c .before .before .before))

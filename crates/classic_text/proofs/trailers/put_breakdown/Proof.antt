@@ -7,7 +7,7 @@ use Rattle.layout_put.specs.Put.{join}
 use Rattle.layout_put.specs.Partly.{Partly, begin, next, fits, ends}
 use Rattle.classic.specs.Classic.{figure}
 use Rattle.classic_text.specs.Parts.{breakdown-by}
-use Rattle.classic_text.specs.declared.trailers.Tally.{Tally}
+use Rattle.phd_counts.specs.declared.Tally.{Tally}
 use Rattle.classic_text.proofs.trailers.put_breakdown.Statement.{statement}
 use Rattle.classic_text.proofs.trailers.put_breakdown.Tie as tie
 

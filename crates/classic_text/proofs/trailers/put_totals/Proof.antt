@@ -2,17 +2,18 @@
 use borrow.Author.Needs.{needs}
 use mathlib.Core.Path.{_≡_, refl}
 use mathlib.Core.List.{List, [], _∷_}
-use Prim.Native.Nat.{ℕ}
+use Prim.Native.Nat.{ℕ, _+_}
+use native.Mathlib.Omega.{arith}
 use Rattle.layout_put.specs.Put.{join}
 use Rattle.layout_put.specs.Partly.{Partly, begin, next, fits, ends}
 use Rattle.classic.specs.Classic.{ascii, figure}
 use Rattle.classic_text.specs.Parts.{totals-by}
-use Rattle.classic_text.specs.declared.trailers.Tally.{Tally}
+use Rattle.phd_counts.specs.declared.Tally.{Tally}
 use Rattle.classic_text.proofs.trailers.put_totals.Statement.{statement}
 use Rattle.classic_text.proofs.trailers.put_totals.Tie as tie
 
 abbrev parts : Tally → List (List ℕ)
-parts t = figure "// EOF:  Total 'Objects',Refs(null) : " (t .rows) ∷ figure "," (t .refs) ∷ figure "(" (t .nulls) ∷ ascii ")" ∷ []
+parts t = figure "// EOF:  Total 'Objects',Refs(null) : " (t .rows) ∷ figure "," (t .refs + t .nulls) ∷ figure "(" (t .nulls) ∷ ascii ")" ∷ []
 
 in-parts : (t : Tally) → totals-by t ≡ join (parts t)
 unfolding totals-by
@@ -20,10 +21,10 @@ in-parts t = refl
 
 -- what is left at the entry, and after each call
 abbrev none : tie.Start → Partly
-none c = begin (c .args .out .now) (c .args .at) (parts (c .args .t)) (in-parts (c .args .t)) (c .pre)
+none c = begin (c .args .out .now) (c .args .at) (parts (c .args .t)) (in-parts (c .args .t)) (c .pre .1)
 
 abbrev first : tie.After-put-figure → Partly
-first c = next (none (c .before .before .before .before)) (c .put-figure .ensures)
+first c = next (none (c .before .before .before .before .before)) (c .put-figure .ensures)
 
 abbrev second : tie.After-put-figure2 → Partly
 second c = next (first (c .before .before .before .before .before)) (c .put-figure2 .ensures)
@@ -34,11 +35,14 @@ third c = next (second (c .before .before .before .before .before)) (c .put-figu
 abbrev fourth : tie.After-put-all → Partly
 fourth c = next (third (c .before .before .before .before .before)) (c .put-all .ensures)
 
+add-refs : tie.Need-add-refs
+add-refs c = let p = c .before .before .pre in omega arith
+
 slice-aggregate-put-figure : tie.Need-slice-aggregate-put-figure
 slice-aggregate-put-figure c = search needs
 
 put-figure-requires : tie.Need-put-figure-requires
-put-figure-requires c κs = fits (none (c .before .before .before))
+put-figure-requires c κs = fits (none (c .before .before .before .before))
 
 slice-aggregate-put-figure-2 : tie.Need-slice-aggregate-put-figure-2
 slice-aggregate-put-figure-2 c = search needs
@@ -68,6 +72,7 @@ pub put-totals-spec : {M : Type 1} → statement M
 put-totals-spec =
     tie.close
     (tie.spec
+    add-refs
     slice-aggregate-put-figure
     put-figure-requires
     slice-aggregate-put-figure-2

@@ -2,9 +2,9 @@
 use Prim.Native.Nat.{_-_}
 use native.Mathlib.Omega.{arith}
 use Rattle.phd_rows.specs.Rows.{row-count}
-use Rattle.classic_text.specs.Counts.{Counting, counting-begins, counting-next, counting-small, counting-ends}
-use Rattle.classic_text.proofs.trailers.count_all.Statement.{statement}
-use Rattle.classic_text.proofs.trailers.count_all.Tie as tie
+use Rattle.phd_counts.specs.Counting.{Counting, counting-begins, counting-next, counting-small, counting-ends}
+use Rattle.phd_counts.proofs.count_all.Statement.{statement}
+use Rattle.phd_counts.proofs.count_all.Tie as tie
 
 abbrev Inv-loop : tie.InvT-loop
 Inv-loop rows n t₀ i₀ t i = Counting rows i t

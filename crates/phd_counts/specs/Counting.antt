@@ -2,18 +2,35 @@
 -- is the sum over all. It begins so, each row keeps it, and at the end it is what was asked.
 -- Assumes nothing.
 use mathlib.Core.Path.{_≡_, refl}
-use Prim.Native.Nat.{ℕ, zero, suc, _+_, _-_, _≤_, _<_}
+use Prim.Native.Nat.{ℕ, zero, suc, _+_, _-_, _^_, _≤_, _<_}
 use native.Mathlib.Nat.{sub-zero}
 use native.Mathlib.Numerals.{add-one}
 use native.Mathlib.Omega.{arith}
 use mathlib.Core.Bool.{Bool, true, false}
 use mathlib.Core.List.{List}
 use Rattle.layout.specs.Numbers.{pick}
-use Rattle.phd_rows.specs.Rows.{row-at, row-count}
+use Rattle.phd_rows.specs.Rows.{row-at, of-kind, row-count}
 use Rattle.phd_rows.specs.declared.Row.{Row}
-use Rattle.classic.specs.Classic.{sum-from, sum, of-kind, one-of, count-of, nulls}
-use Rattle.classic_text.specs.Parts.{tally-of, counted, Small, Few}
-use Rattle.classic_text.specs.declared.trailers.Tally.{Tally}
+use Rattle.phd_counts.specs.Counts.{one-of, count-of, nulls-of, sum-from, sum, nulls, tally-of, counted}
+use Rattle.phd_counts.specs.declared.Tally.{Tally}
+
+-- the rows, references and nulls of a table are few
+pub record Few (rows : List ℕ) : Type 0 where
+  pub few-rows : row-count rows ≤ 2 ^ 30
+  pub few-refs : sum count-of rows ≤ 2 ^ 30
+  pub few-nulls : nulls rows ≤ 2 ^ 61
+
+-- no count of a tally can leave 64 bits with a row more
+pub record Small (t : Tally) (r : Row) : Type 0 where
+  pub classes : t .classes < 2 ^ 62
+  pub objects : t .objects < 2 ^ 62
+  pub arrays : t .arrays < 2 ^ 62
+  pub primitives : t .primitives < 2 ^ 62
+  pub rows : t .rows < 2 ^ 62
+  pub refs : t .refs < 2 ^ 62
+  pub count : r .count < 2 ^ 62
+  pub nulls : t .nulls < 2 ^ 62
+  pub unlisted : nulls-of r < 2 ^ 62
 
 -- ---- a sum over the rows
 
@@ -53,6 +70,21 @@ unfolding sum-from
 sum-most k rows i zero = omega arith
 sum-most k rows i (suc n) = omega (arith, one-most (of-kind k (row-at rows i)), sum-most k rows (suc i) n)
 
+-- ---- a tally with a row more, by what is added to its counts
+
+pub counted-is : (t : Tally) (r : Row) {a b c d n : ℕ} → a ≡ one-of 1 r → b ≡ one-of 2 r → c ≡ one-of 3 r → d ≡ one-of 4 r → n ≡ nulls-of r
+    → record {
+      classes = t .classes + a;
+      objects = t .objects + b;
+      arrays = t .arrays + c;
+      primitives = t .primitives + d;
+      rows = t .rows + 1;
+      refs = t .refs + r .count;
+      nulls = t .nulls + n;
+    } ≡ counted t r
+unfolding counted
+counted-is t r p q u v w = rw (p, q, u, v, w)
+
 -- ---- a tally of the rows before number i
 
 pub record Counting (rows : List ℕ) (i : ℕ) (t : Tally) : Type 0 where
@@ -63,10 +95,9 @@ pub record Counting (rows : List ℕ) (i : ℕ) (t : Tally) : Type 0 where
   pub passed : t .rows ≡ i
   pub at-most : i ≤ row-count rows
   pub refs : Summed count-of rows i (t .refs)
-  pub nulls : t .nulls ≡ nulls rows
+  pub nulls : Summed nulls-of rows i (t .nulls)
 
 pub counting-begins : (rows : List ℕ) → Counting rows 0 (record { classes = 0; objects = 0; arrays = 0; primitives = 0; rows = 0; refs = 0; nulls = 0 })
-unfolding nulls
 counting-begins rows = record {
   classes = summed-begins (one-of 1) rows;
   objects = summed-begins (one-of 2) rows;
@@ -75,7 +106,7 @@ counting-begins rows = record {
   passed = refl;
   at-most = omega arith;
   refs = summed-begins count-of rows;
-  nulls = refl;
+  nulls = summed-begins nulls-of rows;
 }
 
 module _ (rows : List ℕ) (i : ℕ) (t : Tally) (z : Counting rows i t) where
@@ -89,14 +120,16 @@ module _ (rows : List ℕ) (i : ℕ) (t : Tally) (z : Counting rows i t) where
     passed = omega arith;
     at-most = omega arith;
     refs = summed-next count-of rows i (t .refs) l (z .refs);
-    nulls = z .nulls;
+    nulls = summed-next nulls-of rows i (t .nulls) l (z .nulls);
   })
 
   -- no count can leave 64 bits
   pub counting-small : (r : Row) → i < row-count rows → r ≡ row-at rows i → Few rows → Small t r
+  unfolding nulls
   counting-small r l e few =
       let n : ℕ = row-count rows in
       let c = sum-next count-of rows i l in
+      let u = sum-next nulls-of rows i l in
       rw e (record {
         classes = omega (arith, sum-most 1 rows 0 n);
         objects = omega (arith, sum-most 2 rows 0 n);
@@ -105,10 +138,12 @@ module _ (rows : List ℕ) (i : ℕ) (t : Tally) (z : Counting rows i t) where
         rows = omega arith;
         refs = omega arith;
         count = omega arith;
+        nulls = omega arith;
+        unlisted = omega arith;
       })
 
   pub counting-ends : row-count rows ≤ i → t ≡ tally-of rows
-  unfolding tally-of
+  unfolding tally-of nulls
   counting-ends l =
       let r : t .rows ≡ row-count rows = omega arith in
       rw (
@@ -117,6 +152,6 @@ module _ (rows : List ℕ) (i : ℕ) (t : Tally) (z : Counting rows i t) where
         ← (summed-ends (one-of 3) rows i (t .arrays) l (z .arrays)),
         ← (summed-ends (one-of 4) rows i (t .primitives) l (z .primitives)),
         ← (summed-ends count-of rows i (t .refs) l (z .refs)),
-        ← (z .nulls),
+        ← (summed-ends nulls-of rows i (t .nulls) l (z .nulls)),
         ← r,
       )

@@ -1,0 +1,25 @@
+-- The nulls of some tables: of arrays that have none, some, or only nulls, of several of them, and of rows that are no object
+-- arrays. It holds by computing. A reader must believe that the numbers are rows as 01 has them.
+use mathlib.Core.Path.{_≡_, refl}
+use Prim.Native.Nat.{ℕ}
+use mathlib.Core.List.{List, [], _∷_, _++_, map}
+use Rattle.phd_rows.specs.Rows.{row-at, row-count}
+use Rattle.phd_counts.specs.Counts.{nulls-of, sum-from, nulls}
+
+-- a row of a kind, with its first reference's index, its count of references and its length
+abbrev row : ℕ → ℕ → ℕ → ℕ → List ℕ
+row kind first count len = kind ∷ 0x1000 ∷ 0x2000 ∷ 0 ∷ 0 ∷ first ∷ count ∷ 6 ∷ len ∷ 0 ∷ 0 ∷ 0 ∷ []
+
+abbrev tables : List (List ℕ)
+tables =
+    []
+    ∷ row 3 0 2 2
+    ∷ row 3 0 2 5
+    ∷ row 3 0 0 4
+    ∷ (row 3 0 2 2 ++ row 3 2 2 5 ++ row 3 4 0 4 ++ row 3 4 1 3)
+    ∷ (row 1 0 2 0 ++ row 2 2 3 0 ++ row 4 5 0 9)
+    ∷ (row 4 0 0 9 ++ row 3 0 1 2 ++ row 2 1 3 0) ∷ []
+
+pub as-said : map nulls tables ≡ 0 ∷ 0 ∷ 3 ∷ 4 ∷ 9 ∷ 0 ∷ 1 ∷ []
+unfolding row-at row-count nulls-of sum-from nulls
+as-said = refl

@@ -1,0 +1,90 @@
+// What is counted of a table's rows: how many are of each kind, their references, and the nulls of object arrays.
+// Each function's contract is an equation with a definition of specs/Counts.antt.
+ghost use mathlib.Core.Path.{_≡_};
+ghost use Rattle.layout.specs.Numbers.{pick};
+ghost use Rattle.phd_counts.specs.Counts.{nulls-of, tally-of, counted as countedOf};
+ghost use Rattle.phd_counts.specs.Counting.{Few, Small};
+use phd_rows::Row;
+
+// How many rows are of each kind, and how many rows, references and nulls there are in all.
+pub struct Tally {
+    pub classes: u64,
+    pub objects: u64,
+    pub arrays: u64,
+    pub primitives: u64,
+    pub rows: u64,
+    pub refs: u64,
+    pub nulls: u64,
+}
+
+// 1 where a test holds, else 0.
+fn one(b: bool) -> u64
+    ensures { λ r. ⌜ r ≡ pick b 1 0 ⌝ }
+{
+    if b {
+        return 1;
+    }
+    0
+}
+
+// A row's nulls: of an object array its true length less its count of references, of any other row none.
+pub fn nulls(row: Row) -> u64
+    ensures { λ r. ⌜ r ≡ nulls-of row ⌝ }
+{
+    if row.kind != 3 {
+        return 0;
+    }
+    if row.len < row.count {
+        return 0;
+    }
+    row.len - row.count
+}
+
+// The counts with a row more.
+pub fn counted(t: Tally, row: Row) -> Tally
+    requires { ⌜ Small t row ⌝ }
+    ensures { λ r. ⌜ r ≡ countedOf t row ⌝ }
+{
+    let listed = row.count;
+    let unlisted = nulls(row);
+    let classes = t.classes + one(row.kind == 1);
+    let objects = t.objects + one(row.kind == 2);
+    let arrays = t.arrays + one(row.kind == 3);
+    let primitives = t.primitives + one(row.kind == 4);
+    let rows = t.rows + 1;
+    let refs = t.refs + listed;
+    let nulls = t.nulls + unlisted;
+    Tally {
+        classes,
+        objects,
+        arrays,
+        primitives,
+        rows,
+        refs,
+        nulls,
+    }
+}
+
+// The counts of all rows.
+pub fn count_all(rows: &[u64]) -> Tally
+    requires { ⌜ Few (now rows) ⌝ }
+    ensures { λ r. ⌜ r ≡ tally-of (now (rows .entry)) ⌝ }
+{
+    let n = rows.len() / phd::ROW;
+    let mut t = Tally {
+        classes: 0,
+        objects: 0,
+        arrays: 0,
+        primitives: 0,
+        rows: 0,
+        refs: 0,
+        nulls: 0,
+    };
+    let mut i: usize = 0;
+    while i < n {
+        let row = phd_rows::row_at(rows, i);
+        t = counted(t, row);
+        i += 1;
+    }
+    t
+}
