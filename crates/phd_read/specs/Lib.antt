@@ -1,7 +1,8 @@
 -- In reading order: Answer (what a caller gets of a reading) and Promises (what holds of it).
--- The rest are the proofs on the way: Steps (record after record, and laws for the functions), Stored (a record's
--- references as they are stored) and Stepping (what a step does to the lent tables), for the functions' contracts, Links (a record that was read, and where its references stand), Rooms
--- (the tables' rooms and counts), Ranges (addresses and references), Replies (0 to 14) and Cut (two cuts of any bytes).
+-- The rest are the proofs on the way: Steps (record after record, and laws for the functions), Stored (a record's references as
+-- they are stored) and Stepping (what a step does to the lent tables), for the functions' contracts, Links (a record that was
+-- read, and where its references stand), Rooms (the tables' rooms and counts), Ranges (addresses and references), Lengths (a row's
+-- length), Replies (0 to 14) and Cut (two cuts of any bytes).
 pub mod Answer
 pub mod Stored
 pub mod Stepping
@@ -10,5 +11,6 @@ pub mod Steps
 pub mod Links
 pub mod Rooms
 pub mod Ranges
+pub mod Lengths
 pub mod Replies
 pub mod Cut

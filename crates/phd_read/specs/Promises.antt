@@ -14,6 +14,7 @@ use Rattle.layout.specs.Lent.{stored}
 use Rattle.phd_read.specs.Answer.{answer}
 use Rattle.phd_read.specs.Cut.{Begins, Final, Agree, more-agree, cuts-agree}
 use Rattle.phd_read.specs.Ranges.{addresses, reading-ranged}
+use Rattle.phd_read.specs.Lengths.{AllMeasured, reading-measured}
 use Rattle.phd_read.specs.Replies.{reading-answers}
 use Rattle.phd_read.specs.Rooms.{reading-keeps, counts}
 
@@ -32,6 +33,8 @@ pub record Sound (r : Result) (R F : ℕ) : Type 0 where
   -- the address of each row lies in 0 to 2^W - 1, and each reference in 1 to 2^W - 1
   pub rows-ranged : within 0 (highest (r .facts .word)) (addresses (r .rows)) ≡ true
   pub refs-ranged : within 1 (highest (r .facts .word)) (r .refs) ≡ true
+  -- the length of each row is below 2^31, and an object array has no more references than its true length
+  pub lengths : AllMeasured (r .rows)
 
 -- So it is of any bytes, and any tables.
 pub sound : (s : List ℕ) (R F : ℕ) → Sound (reading s R F) R F
@@ -43,6 +46,7 @@ sound s R F = record {
   refs-counted = counts s R F .1;
   rows-ranged = reading-ranged s R F .rows-in;
   refs-ranged = reading-ranged s R F .refs-in;
+  lengths = reading-measured s R F;
 }
 
 -- A lent table keeps its length.

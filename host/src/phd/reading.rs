@@ -37,7 +37,7 @@ pub struct Tally {
     pub nulls: u64,
 }
 
-/// A row's nulls: of an object array its length less its references. A reading stores no array with more references than that.
+/// A row's nulls: of an object array its length less its references. It is proved that no reading stores more references than that.
 fn nulls(row: &[u64]) -> u64 {
     if row[KIND] == OBJECT_ARRAY {
         row[LENGTH] - row[REFERENCES]

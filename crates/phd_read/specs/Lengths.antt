@@ -1,0 +1,150 @@
+-- In every stored row the length is below 2^31, and an object array has no more references than its true length.
+-- A reader must believe `Measured` and `number`.
+use mathlib.Core.Path.{_≡_, refl}
+use Prim.Native.Nat.{ℕ, _+_, _*_, _/_, _%_, _^_, _≤_, _<_}
+use native.Mathlib.Nat.{eq-or-lt-of-le}
+use native.Mathlib.Omega.{arith}
+use mathlib.Core.Bool.{Bool, true, false}
+use mathlib.Core.Logic.{_⊎_, inl, inr}
+use mathlib.Core.List.{List, _++_}
+use lib.ListN.{length, getD, length-append, List·getD-append}
+use lib.Seq.{getD-append-add}
+use lib.Dec.{eqb, ltb}
+use lib.IntN.{ℤ, pos, negsuc}
+use borrow.Author.Tests.{ltb-true, leb-true}
+use Rattle.layout.specs.Numbers.{pick, signed, counted}
+use Rattle.layout.specs.Layout.{Layout}
+use Rattle.layout.specs.Fields.{count}
+use Rattle.layout.specs.Values.{Gives, pick-either, gives-yield, gives-then, gives-last, gives-when, gives-pick, gives-check, gives-need}
+use Rattle.layout.specs.declared.Maybe.the-variants.{Just, Nothing}
+use Rattle.phd.specs.Phd.{row-width, shape, front, true-length, tail, there, row, Item, over, item, linked, fields, record-of, entry, reading}
+use Rattle.phd.specs.declared.classes.Cache.{Cache}
+use Rattle.phd.specs.declared.Facts.{Facts}
+use Rattle.phd.specs.declared.Form.{Form}
+use Rattle.phd.specs.declared.Form.the-variants.{Short, Medium, Long, Class, ObjectArray, Primitive, LongPrimitive}
+use Rattle.phd.specs.declared.Front.{Front}
+use Rattle.phd.specs.declared.Shape.{Shape}
+use Rattle.phd.specs.declared.Tail.{Tail}
+use Rattle.phd_read.specs.Links.{links-stand}
+use Rattle.phd_read.specs.Steps.{tables-hold, entry-forth}
+
+-- What holds of a row's kind, count of references and length.
+pub record Measured (kind refs len : ℕ) : Type 0 where
+  pub short : len < 2 ^ 31
+  pub array : kind ≡ 3 → refs ≤ len
+
+-- the number k of the row number i
+abbrev pub number : List ℕ → ℕ → ℕ → ℕ
+number rows i k = getD rows (i * row-width + k) 0
+
+-- ---- a record
+
+counted-small : (z : ℤ) (a : ℕ) → counted z ≡ Just a → a < 2 ^ 31
+unfolding counted
+counted-small (pos n) a h = by (ltb n (2 ^ 31)) refl h
+  where
+    by : (b : Bool) → ltb n (2 ^ 31) ≡ b → pick b (Just n) Nothing ≡ Just a → a < 2 ^ 31
+    by true e g = let l : n < 2 ^ 31 = ltb-true _ _ e in let z : n ≡ a = cc in omega arith
+    by false e g = let z : _≡_ {A = ℕ} 0 1 = cc in absurd (omega arith)
+counted-small (negsuc n) a h = let z : _≡_ {A = ℕ} 0 1 = cc in absurd (omega arith)
+
+gives-count : {s : List ℕ} (n : ℕ) → Gives s (λ c. c < 2 ^ 31) (count n)
+unfolding count
+gives-count n = gives-last _ _ (λ c. gives-when (gives-need 12 _) (λ a e. counted-small (signed n c) a e))
+
+gives-front : {s : List ℕ} (top before : ℕ) (sh : Shape) → Gives s (λ (v : Front). v .len < 2 ^ 31) (front top before sh)
+unfolding front
+gives-front top before sh =
+    gives-last _ _ (λ a. gives-last _ _ (λ word. gives-then _ _ _ (gives-count (sh .len)) (λ len l. gives-yield _ l)))
+
+-- a true length of w bytes is at least the count n
+abbrev Least : ℕ → ℕ → ℕ → Type 0
+Least w n t = (t < 2 ^ 31) × (eqb w 0 ≡ false → n ≤ t)
+
+-- a layout that goes by a test
+gives-by : {A : Type 0} {s : List ℕ} {P : A → Type 0} (b : Bool) (l m : Layout A) → (b ≡ true → Gives s P l) → (b ≡ false → Gives s P m) → Gives s P (pick b l m)
+gives-by true l m f g = f refl
+gives-by false l m f g = g refl
+
+gives-true : {s : List ℕ} (w n : ℕ) → Gives s (Least w n) (true-length w n)
+unfolding true-length
+gives-true w n =
+    gives-by (eqb w 0) _ _ (λ e. gives-yield 0 (omega arith, λ f. let z : _≡_ {A = ℕ} 0 1 = cc in absurd (omega arith)))
+    (λ e. gives-then _ _ _ (gives-count w) (λ t l. gives-then _ _ _ (gives-check 12 _) (λ _ c. gives-yield t (l, λ _. leb-true _ _ c))))
+
+gives-tail : {s : List ℕ} (size truelen n : ℕ) → Gives s (λ (t : Tail). Least truelen n (t .truelen)) (tail size truelen n)
+unfolding tail
+gives-tail size truelen n = gives-last _ _ (λ z. gives-then _ _ _ (gives-true truelen n) (λ t l. gives-yield _ l))
+
+abbrev Measures : Item → Type 0
+Measures over = Unit {0}
+Measures (item r ls a c) = Measured (getD r 0 0) (getD r 6 0) (getD r 8 0)
+
+gives-fields : {s : List ℕ} (top before : ℕ) (c : Cache) (index known hk : ℕ) (sh : Shape) → (sh .kind ≡ 3 → eqb (sh .truelen) 0 ≡ false)
+    → Gives s Measures (fields top before c index known hk sh)
+unfolding fields linked row there
+gives-fields top before c index known hk sh k =
+    gives-then _ _ _ (gives-front top before sh) (λ v l. gives-last _ _ (λ m. gives-last _ _ (λ name. gives-last _ _ (λ n. gives-last _ _ (λ ls.
+    gives-then _ _ _ (gives-tail (sh .size) (sh .truelen) n) (λ t p.
+    gives-yield _ (record {
+      short = pick-either (λ x. x < 2 ^ 31) (eqb (sh .truelen) 0) (v .len) (t .truelen) l (p .0);
+      array = λ e. rw (k e) (p .1 (k e));
+    })))))))
+
+-- only an object array has the kind 3, and it has a true length
+array-long : (w : ℕ) (fm : Form) (t f : ℕ) → shape w fm t f .kind ≡ 3 → eqb (shape w fm t f .truelen) 0 ≡ false
+unfolding shape
+array-long w Short t f e = absurd (omega arith)
+array-long w Medium t f e = absurd (omega arith)
+array-long w Long t f e = absurd (omega arith)
+array-long w Class t f e = absurd (omega arith)
+array-long w ObjectArray t f e = refl
+array-long w Primitive t f e = absurd (omega arith)
+array-long w LongPrimitive t f e = absurd (omega arith)
+
+gives-entry : {s : List ℕ} (h : Facts) (before : ℕ) (c : Cache) (index : ℕ) → Gives s Measures (entry h before c index)
+unfolding entry record-of
+gives-entry h before c index =
+    gives-last _ _ (λ t. gives-pick (eqb t 3) _ _ (gives-yield over tt) (gives-last _ _ (λ fm. gives-last _ _ (λ known. gives-last _ _ (λ f.
+    gives-fields _ before c index known _ _ (array-long _ fm t f))))))
+
+-- ---- the tables of a reading
+
+pub record AllMeasured (rows : List ℕ) : Type 0 where
+  pub whole-rows : length rows % row-width ≡ 0
+  pub each : (i : ℕ) → i < length rows / row-width → Measured (number rows i 0) (number rows i 6) (number rows i 8)
+
+-- one row more
+module _ (rows r : List ℕ) (w : length r ≡ row-width) (t : AllMeasured rows) (m : Measured (getD r 0 0) (getD r 6 0) (getD r 8 0)) where
+  -- a number of a row before, and of the last
+  before : (i k : ℕ) → i < length rows / row-width → k < row-width → number (rows ++ r) i k ≡ number rows i k
+  before i k l b = rw (List·getD-append rows r 0 (i * row-width + k) (omega (arith, t .whole-rows)))
+
+  last : (k : ℕ) → number (rows ++ r) (length rows / row-width) k ≡ getD r k 0
+  last k =
+      let e : length rows / row-width * row-width ≡ length rows = omega (arith, t .whole-rows) in
+      rw e (getD-append-add rows r k 0)
+
+  measured-more : AllMeasured (rows ++ r)
+  measured-more = record {
+    whole-rows = simp length-append (omega (arith, t .whole-rows));
+    each = λ i l.
+        let a : length (rows ++ r) ≡ length rows + length r = length-append rows r in
+        let b : i ≤ length rows / row-width = omega (arith, t .whole-rows) in
+        by i (eq-or-lt-of-le b);
+  }
+    where
+      by : (i : ℕ) → (i ≡ length rows / row-width) ⊎ (i < length rows / row-width) → Measured (number (rows ++ r) i 0) (number (rows ++ r) i 6) (number (rows ++ r) i 8)
+      by i (inl e) = rw (e, last 0, last 6, last 8) m
+      by i (inr l) = rw (before i 0 l (omega arith), before i 6 l (omega arith), before i 8 l (omega arith)) (t .each i l)
+
+-- So it is of any bytes, and any tables.
+pub reading-measured : (s : List ℕ) (R F : ℕ) → AllMeasured (reading s R F .rows)
+reading-measured s R F =
+    tables-hold s R F (λ _ rows refs. AllMeasured rows)
+    (λ h rows refs before c at r ls a k n t e p q.
+    let f = entry-forth h before c (length refs) s at (item r ls a k) n e in
+    let l : at ≤ length s = omega arith in
+    let w : length r ≡ row-width = links-stand h s before c (length refs) at r ls a k n e .numbers in
+    measured-more rows r w t (gives-entry h before c (length refs) .each at (item r ls a k) n l e))
+    (λ h. record { whole-rows = refl; each = λ i l. absurd (omega arith) })
