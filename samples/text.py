@@ -1,6 +1,7 @@
 """The classic text of a dump's records, and what the program that writes it must print.
 
-The text is made here from the records that were put into a dump (dump.py), as the format's paper says it under "Classic text".
+The text is made here from the records that were put into a dump (dump.py), as the format's paper says it under "Classic text",
+and its change request 3 of nulls.
 Behind its end tag a dump may have changes of what was read; how they are held is said in crates/text_samples/src/changes.rt.
 """
 from dump import ROW, Dump, line, unsigned

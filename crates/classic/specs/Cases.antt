@@ -2,7 +2,7 @@
 -- computing. A reader must believe that the dump (Phd's Cases) and the lines are 01's.
 use mathlib.Core.Path.{_≡_, refl}
 use Prim.Native.Nat.{ℕ, _*_}
-use mathlib.Core.List.{List, [], _∷_, map}
+use mathlib.Core.List.{List, [], _∷_, _++_, map}
 use mathlib.Core.Bool.{false}
 use Rattle.phd.specs.declared.Facts.{Facts}
 use Rattle.phd.specs.Phd.{row-width, limit, bit, highest, same, hash-bytes, Result, reading}
@@ -12,6 +12,7 @@ use Rattle.layout.specs.Fields.{no-text}
 use Rattle.phd_rows.specs.Rows.{row-at, refs-of, name-of, row-count}
 use Rattle.phd_rows.specs.Good.{every, good-vm, good-header, good-hash, good-class, no-name, good-object, good-array, good-primitive, good-kind, good-place, good-span, good-numbers, good-ref, good-refs, good-row, first-bad}
 use Rattle.phd_rows.specs.Judged.{refused, done, judged}
+use Rattle.phd_counts.specs.Cases.{row-of}
 use Rattle.phd_counts.specs.Counts.{nulls-of, sum-from, nulls}
 use Rattle.classic.specs.Classic.{ascii, places-in, places, decimal, capital, numeral, address, first-from, is-class-at, is-class-named, is-lost, found-row, letters, signature, array-type, naming, type-of, bytes-of, word-of, first-line, listed, second-line, row-lines, version, breakdown, totals, ended, lines, text-of, texting}
 use Prim.Native.String.{String}
@@ -56,8 +57,7 @@ too-small = refl
 -- the class A at 0x1000, and at 0x1010 an array of them: its true length is 5, and it has two references
 abbrev with-array : List ℕ
 with-array =
-    1 ∷ 0x1000 ∷ 0 ∷ 0 ∷ 0 ∷ 0 ∷ 0 ∷ 16 ∷ 0 ∷ 0 ∷ 1 ∷ 0
-    ∷ 3 ∷ 0x1010 ∷ 0x1000 ∷ 0 ∷ 0 ∷ 0 ∷ 2 ∷ 7 ∷ 5 ∷ 0 ∷ 0 ∷ 0 ∷ []
+    row-of (1 ∷ 0x1000 ∷ 0 ∷ 0 ∷ 0 ∷ 0 ∷ 0 ∷ 16 ∷ 0 ∷ 0 ∷ 1 ∷ []) ++ row-of (3 ∷ 0x1010 ∷ 0x1000 ∷ 0 ∷ 0 ∷ 0 ∷ 2 ∷ 7 ∷ 5 ∷ [])
 
 -- it lists two, and adds 3 nulls and 5 in all
 abbrev array-said : List String

@@ -3,12 +3,18 @@
 use mathlib.Core.Path.{_≡_, refl}
 use Prim.Native.Nat.{ℕ}
 use mathlib.Core.List.{List, [], _∷_, _++_, map}
+use lib.ListN.{take}
+use Rattle.phd.specs.Phd.{row-width}
 use Rattle.phd_rows.specs.Rows.{row-at, row-count}
 use Rattle.phd_counts.specs.Counts.{nulls-of, sum-from, nulls}
 
+-- a row of these numbers, in 01's order; those behind them are 0
+abbrev pub row-of : List ℕ → List ℕ
+row-of ns = take row-width (ns ++ 0 ∷ 0 ∷ 0 ∷ 0 ∷ 0 ∷ 0 ∷ 0 ∷ 0 ∷ [])
+
 -- a row of a kind, with its first reference's index, its count of references and its length
 abbrev row : ℕ → ℕ → ℕ → ℕ → List ℕ
-row kind first count len = kind ∷ 0x1000 ∷ 0x2000 ∷ 0 ∷ 0 ∷ first ∷ count ∷ 6 ∷ len ∷ 0 ∷ 0 ∷ 0 ∷ []
+row kind first count len = row-of (kind ∷ 0x1000 ∷ 0x2000 ∷ 0 ∷ 0 ∷ first ∷ count ∷ 6 ∷ len ∷ [])
 
 abbrev tables : List (List ℕ)
 tables =

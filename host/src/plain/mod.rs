@@ -1,4 +1,4 @@
-//! The format a second time, from the scope paper alone, to be held against the proved library.
+//! The format a second time, from the scope paper and its change requests alone, to be held against the proved library.
 
 mod cursor;
 mod lent;

@@ -145,8 +145,9 @@ fn nulls() {
         let (mut rows, mut refs) = (ROWS.concat(), REFS.to_vec());
         for (count, length) in arrays {
             let first = refs.len() as u64;
-            let row = [3, 0x2000, 0x1000, 0, 0, first, *count, 9, *length, 0, 0, 0];
-            rows.extend::<[u64; ROW]>(row);
+            let mut row = [0; ROW];
+            row[..9].copy_from_slice(&[3, 0x2000, 0x1000, 0, 0, first, *count, 9, *length]);
+            rows.extend(row);
             refs.extend(vec![0x1010; *count as usize]);
         }
         let (mut out, mut facts) = ([0; 1000], [UNTOUCHED; 16]);
