@@ -1,5 +1,5 @@
 -- 01's dump, as classic text: its reading's tables give 01's eleven lines. Then an object array with nulls. Both hold by
--- computing. A reader must believe that the dump (Phd's Cases) and the lines are 01's.
+-- computing. A reader must believe that the dump (Phd's Cases) and the lines are 01's, and the array's change request 3's.
 use mathlib.Core.Path.{_≡_, refl}
 use Prim.Native.Nat.{ℕ, _*_}
 use mathlib.Core.List.{List, [], _∷_, _++_, map}

@@ -1,5 +1,5 @@
 -- In every stored row the length is below 2^31, and an object array has no more references than its true length.
--- A reader must believe `Measured` and `number`.
+-- A reader must believe `Measured`, `number` and `AllMeasured`.
 use mathlib.Core.Path.{_≡_, refl}
 use Prim.Native.Nat.{ℕ, _+_, _*_, _/_, _%_, _^_, _≤_, _<_}
 use native.Mathlib.Nat.{eq-or-lt-of-le}
@@ -76,6 +76,7 @@ gives-tail : {s : List ℕ} (size truelen n : ℕ) → Gives s (λ (t : Tail). L
 unfolding tail
 gives-tail size truelen n = gives-last _ _ (λ z. gives-then _ _ _ (gives-true truelen n) (λ t l. gives-yield _ l))
 
+-- so it is of a record's row
 abbrev Measures : Item → Type 0
 Measures over = Unit {0}
 Measures (item r ls a c) = Measured (getD r 0 0) (getD r 6 0) (getD r 8 0)
@@ -110,6 +111,7 @@ gives-entry h before c index =
 
 -- ---- the tables of a reading
 
+-- of whole rows: a row's number 0 is its kind, 6 its count of references, 8 its length
 pub record AllMeasured (rows : List ℕ) : Type 0 where
   pub whole-rows : length rows % row-width ≡ 0
   pub each : (i : ℕ) → i < length rows / row-width → Measured (number rows i 0) (number rows i 6) (number rows i 8)
