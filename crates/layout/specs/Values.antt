@@ -1,16 +1,16 @@
 -- What holds of every value that a layout gives, and of every reply that it refuses with: found by its parts.
 -- Assumes nothing.
 use mathlib.Core.Path.{_≡_, refl, sym, subst, _∙_}
-use Prim.Native.Nat.{ℕ, suc, _+_, _-_, _*_, _≤_, _<_}
+use Prim.Native.Nat.{ℕ, suc, _+_, _-_, _*_, _^_, _≤_, _<_}
 use mathlib.Core.Bool.{Bool, true, false}
 use mathlib.Core.List.{List}
 use lib.ListN.{length, take, drop}
-use lib.Dec.{leb}
+use lib.Dec.{leb, ltb}
 use lib.IntN.{ℤ, pos, negsuc}
 use native.Mathlib.Omega.{arith}
 use native.Mathlib.Decide.{decLe}
-use borrow.Author.Tests.{leb-true, eqb-false, not-true}
-use Rattle.layout.specs.Numbers.{pick, value, signed, in-range, moved}
+use borrow.Author.Tests.{leb-true, ltb-true, eqb-false, not-true}
+use Rattle.layout.specs.Numbers.{pick, value, signed, in-range, moved, counted}
 use Rattle.layout.specs.Layout.{Layout, yield, refuse, bytes, Outcome, whole, stops, run, run-enough, run-short, run-then, then-inv, onward, run-yield, run-refuse, run-position, inside, _>>=_, position, raw, field, check, need}
 use Rattle.layout.specs.Fields.{exactly, below, address, reference, count, string}
 use Rattle.layout.specs.declared.Stop.the-variants.{Cut, Refused}
@@ -60,6 +60,11 @@ gives-when g w = record { each = λ at a e p h. w a (g .each at a e p h) }
 
 pub gives-pick : {A : Type 0} {s : List ℕ} {P : A → Type 0} (b : Bool) (l m : Layout A) → Gives s P l → Gives s P m → Gives s P (pick b l m)
 gives-pick {A} {s} {P} b l m g k = pick-either (Gives s P) b l m g k
+
+-- a layout that goes by a test
+pub gives-by : {A : Type 0} {s : List ℕ} {P : A → Type 0} (b : Bool) (l m : Layout A) → (b ≡ true → Gives s P l) → (b ≡ false → Gives s P m) → Gives s P (pick b l m)
+gives-by true l m f g = f refl
+gives-by false l m f g = g refl
 
 -- a test that let reading go on, and a value that was there
 pub gives-check : {s : List ℕ} (r : ℕ) (b : Bool) → Gives s (λ _. b ≡ true) (check r b)
@@ -170,6 +175,22 @@ unfolding reference
 gives-reference n base highest =
     gives-then _ _ _ (gives-address n base highest) (λ r l. gives-then _ _ _ (gives-check 9 _) (λ _ e.
     gives-yield r (let z : r ≡ 0 → ⊥ = eqb-false r 0 (not-true _ e) in omega arith, l)))
+
+-- ---- the range of counts
+
+-- a count is below 2^31
+pub counted-below : (z : ℤ) (n : ℕ) → counted z ≡ Just n → n < 2 ^ 31
+unfolding counted
+counted-below (pos m) n h = by (ltb m (2 ^ 31)) refl h
+  where
+    by : (b : Bool) → ltb m (2 ^ 31) ≡ b → pick b (Just m) Nothing ≡ Just n → n < 2 ^ 31
+    by true e g = let l : m < 2 ^ 31 = ltb-true _ _ e in let z : m ≡ n = cc in omega arith
+    by false e g = let z : _≡_ {A = ℕ} 0 1 = cc in absurd (omega arith)
+counted-below (negsuc m) n h = let z : _≡_ {A = ℕ} 0 1 = cc in absurd (omega arith)
+
+pub gives-count : {s : List ℕ} (n : ℕ) → Gives s (λ c. c < 2 ^ 31) (count n)
+unfolding count
+gives-count n = gives-last _ _ (λ c. gives-when (gives-need 12 _) (λ a e. counted-below (signed n c) a e))
 
 -- ---- the replies of the kinds of field
 

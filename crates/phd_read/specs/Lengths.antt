@@ -4,19 +4,14 @@ use mathlib.Core.Path.{_≡_, refl}
 use Prim.Native.Nat.{ℕ, _+_, _*_, _/_, _%_, _^_, _≤_, _<_}
 use native.Mathlib.Nat.{eq-or-lt-of-le}
 use native.Mathlib.Omega.{arith}
-use mathlib.Core.Bool.{Bool, true, false}
+use mathlib.Core.Bool.{true, false}
 use mathlib.Core.Logic.{_⊎_, inl, inr}
 use mathlib.Core.List.{List, _++_}
 use lib.ListN.{length, getD, length-append, List·getD-append}
 use lib.Seq.{getD-append-add}
-use lib.Dec.{eqb, ltb}
-use lib.IntN.{ℤ, pos, negsuc}
-use borrow.Author.Tests.{ltb-true, leb-true}
-use Rattle.layout.specs.Numbers.{pick, signed, counted}
-use Rattle.layout.specs.Layout.{Layout}
-use Rattle.layout.specs.Fields.{count}
-use Rattle.layout.specs.Values.{Gives, pick-either, gives-yield, gives-then, gives-last, gives-when, gives-pick, gives-check, gives-need}
-use Rattle.layout.specs.declared.Maybe.the-variants.{Just, Nothing}
+use lib.Dec.{eqb}
+use borrow.Author.Tests.{leb-true}
+use Rattle.layout.specs.Values.{Gives, pick-either, gives-yield, gives-then, gives-last, gives-pick, gives-by, gives-check, gives-count}
 use Rattle.phd.specs.Phd.{row-width, shape, front, true-length, tail, there, row, Item, over, item, linked, fields, record-of, entry, reading}
 use Rattle.phd.specs.declared.classes.Cache.{Cache}
 use Rattle.phd.specs.declared.Facts.{Facts}
@@ -39,19 +34,6 @@ number rows i k = getD rows (i * row-width + k) 0
 
 -- ---- a record
 
-counted-small : (z : ℤ) (a : ℕ) → counted z ≡ Just a → a < 2 ^ 31
-unfolding counted
-counted-small (pos n) a h = by (ltb n (2 ^ 31)) refl h
-  where
-    by : (b : Bool) → ltb n (2 ^ 31) ≡ b → pick b (Just n) Nothing ≡ Just a → a < 2 ^ 31
-    by true e g = let l : n < 2 ^ 31 = ltb-true _ _ e in let z : n ≡ a = cc in omega arith
-    by false e g = let z : _≡_ {A = ℕ} 0 1 = cc in absurd (omega arith)
-counted-small (negsuc n) a h = let z : _≡_ {A = ℕ} 0 1 = cc in absurd (omega arith)
-
-gives-count : {s : List ℕ} (n : ℕ) → Gives s (λ c. c < 2 ^ 31) (count n)
-unfolding count
-gives-count n = gives-last _ _ (λ c. gives-when (gives-need 12 _) (λ a e. counted-small (signed n c) a e))
-
 gives-front : {s : List ℕ} (top before : ℕ) (sh : Shape) → Gives s (λ (v : Front). v .len < 2 ^ 31) (front top before sh)
 unfolding front
 gives-front top before sh =
@@ -60,11 +42,6 @@ gives-front top before sh =
 -- a true length of w bytes is at least the count n
 abbrev Least : ℕ → ℕ → ℕ → Type 0
 Least w n t = (t < 2 ^ 31) × (eqb w 0 ≡ false → n ≤ t)
-
--- a layout that goes by a test
-gives-by : {A : Type 0} {s : List ℕ} {P : A → Type 0} (b : Bool) (l m : Layout A) → (b ≡ true → Gives s P l) → (b ≡ false → Gives s P m) → Gives s P (pick b l m)
-gives-by true l m f g = f refl
-gives-by false l m f g = g refl
 
 gives-true : {s : List ℕ} (w n : ℕ) → Gives s (Least w n) (true-length w n)
 unfolding true-length

@@ -2,16 +2,14 @@
 use mathlib.Core.Path.{_≡_, refl, ap, _∙_}
 use mathlib.Core.Bool.{Bool, true, false, not}
 use mathlib.Core.List.{List, []}
-use Prim.Native.Nat.{ℕ, _+_, _*_, _/_, _^_, _≤_, _<_}
+use Prim.Native.Nat.{ℕ, _+_, _*_, _/_, _≤_, _<_}
 use native.Mathlib.Omega.{arith}
-use lib.Dec.{ltb}
-use lib.IntN.{ℤ, pos, negsuc}
 use lib.ListN.{length, take, drop}
-use borrow.Author.Tests.{ltb-true, le-leb, lt-leb}
-use Rattle.layout.specs.Numbers.{pick, both, either, value, signed, moved, counted}
+use borrow.Author.Tests.{le-leb, lt-leb}
+use Rattle.layout.specs.Numbers.{both, either, value, signed, moved, counted}
 use Rattle.layout.specs.Layout.{whole, stops, run, field, run-then, run-yield, run-position, run-field, run-check, run-need}
 use Rattle.layout.specs.Fields.{no-text}
-use Rattle.layout.specs.declared.Maybe.the-variants.{Just, Nothing}
+use Rattle.layout.specs.declared.Maybe.the-variants.{Just}
 use Rattle.layout.specs.declared.Stop.the-variants.{Refused}
 use Rattle.layout.specs.declared.Text.{Text}
 use Rattle.layout_quick.specs.Quick.{clear}
@@ -28,16 +26,6 @@ use Rattle.phd.specs.declared.classes.Cache.{Cache}
 use Rattle.phd_record.specs.Found.{found-of, recorded}
 use Rattle.phd_record.specs.Arrays.{ArrayShape, behind}
 use Rattle.phd_record.proofs.QuickLaws.{reads-field, run-address, run-count, lacks-field, lacks-count, lacks-name, lacks-links, lacks-length, clear-references, front-whole, middle-whole, tail-whole, fields-whole, unflagged, none-known}
-
--- a count is below 2^31
-pub counted-below : (z : ℤ) (n : ℕ) → counted z ≡ Just n → n < 2 ^ 31
-unfolding counted
-counted-below (pos m) n h = by (ltb m (2 ^ 31)) refl h
-  where
-    by : (b : Bool) → ltb m (2 ^ 31) ≡ b → pick b (Just m) Nothing ≡ Just n → n < 2 ^ 31
-    by true e g = let l : m < 2 ^ 31 = ltb-true _ _ e in let z : m ≡ n = cc in omega arith
-    by false e g = let z : _≡_ {A = ℕ} 0 1 = cc in absurd (omega arith)
-counted-below (negsuc m) n h = let z : _≡_ {A = ℕ} 0 1 = cc in absurd (omega arith)
 
 -- ---- parts of 4 bytes, and a hash
 

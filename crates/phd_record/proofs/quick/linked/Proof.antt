@@ -4,9 +4,10 @@ use mathlib.Core.Path.{sym, _∙_}
 use Prim.Native.Nat.{_*_, _^_, _≤_, _<_}
 use native.Mathlib.Nat.{mul-le-mul}
 use native.Mathlib.Omega.{arith}
+use Rattle.layout.specs.Values.{counted-below}
 use Rattle.layout_quick.specs.Quick.{clear-narrow}
 use Rattle.phd_record.proofs.QuickLaws.{hash-few, nothing}
-use Rattle.phd_record.proofs.ArrayLaws.{counted-below, array-behind}
+use Rattle.phd_record.proofs.ArrayLaws.{array-behind}
 use Rattle.phd_record.proofs.quick.linked.Statement.{statement}
 use Rattle.phd_record.proofs.quick.linked.Tie as tie
 
