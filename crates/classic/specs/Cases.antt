@@ -71,7 +71,7 @@ array-said =
     ∷ "// EOF:  Total 'Objects',Refs(null) : 2,5(3)"
     ∷ []
 
-pub with-nulls : let h : Facts = record { word = 32; hashed = false; openj9 = false; vm = no-text } in
+pub array-as-said : let h : Facts = record { word = 32; hashed = false; openj9 = false; vm = no-text } in
     texting h (0x41 ∷ []) (0x1000 ∷ 0x1010 ∷ []) with-array 300 ≡ done (ended (map ascii array-said))
 unfolding computing
-with-nulls = refl
+array-as-said = refl

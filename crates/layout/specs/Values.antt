@@ -23,6 +23,11 @@ pub pick-either {ℓ} : {X : Type ℓ} (P : X → Type 0) (b : Bool) (x y : X) �
 pick-either P true x y p q = p
 pick-either P false x y p q = q
 
+-- 1 or 0 is at most 1
+pub one-most : (b : Bool) → pick b 1 0 ≤ 1
+one-most true = omega arith
+one-most false = omega arith
+
 -- ---- values
 
 -- P holds of every value that the layout gives at a place of the dump s. P may speak of s.

@@ -3,9 +3,19 @@
 ghost use mathlib.Core.Path.{_≡_};
 ghost use Prim.Native.Nat.{_+_, _-_, _^_, _≤_, _<_};
 ghost use lib.ListN.{length, take, drop};
-ghost use Rattle.layout.specs.Numbers.{value, signed as signedOf, step, moved as movedBy, counted as countedOf, within};
+ghost use Rattle.layout.specs.Numbers.{pick, value, signed as signedOf, step, moved as movedBy, counted as countedOf, within};
 ghost use Rattle.layout.specs.Layout.{run, field as fieldOf};
 ghost use Rattle.layout.specs.Fields.{outcome, text-outcome, Small, exactly as exactlyOf, below as belowOf, address as addressOf, reference as referenceOf, count as countOf, string as stringOf};
+
+// The one number where a test holds, else the other.
+pub fn choice(first: bool, x: u64, y: u64) -> u64
+    ensures { λ r. ⌜ r ≡ pick first x y ⌝ }
+{
+    if first {
+        return x;
+    }
+    y
+}
 
 // Why reading goes no further: a field lacked so many bytes, or what was read is refused with a numbered reply.
 pub enum Stop {

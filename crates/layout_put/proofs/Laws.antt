@@ -74,11 +74,6 @@ code-counts m = elim (decLe 0x8000 m) [
       ])
 ]
 
--- 1 or 0 is at most 1
-pub bit-most : (b : Bool) {r : ℕ} → r ≡ pick b 1 0 → r ≤ 1
-bit-most true e = omega arith
-bit-most false e = omega arith
-
 -- a greater number reaches the limits that a lower one does
 reach : (k a b : ℕ) → a ≤ b → pick (leb k a) 1 0 ≤ pick (leb k b) 1 0
 reach k a b h = elim (decLe k a) [

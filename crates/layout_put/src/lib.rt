@@ -8,6 +8,7 @@ ghost use lib.Dec.{leb};
 ghost use lib.Seq.{sets};
 ghost use Rattle.layout.specs.Numbers.{pick};
 ghost use Rattle.layout_put.specs.Put.{be, gap, complement, code, most, widest as widestOf, links};
+use layout::choice;
 
 // Puts the lowest n bytes of a number, whatever n is, one after another.
 fn put_each(out: &mut [u8], at: usize, n: usize, value: u64)
@@ -101,21 +102,11 @@ pub fn raw_gap(from: u64, to: u64) -> u64
     directed(from <= to, distance(from, to))
 }
 
-// 1 where a condition holds, else 0.
-fn one(holds: bool) -> u64
-    ensures { λ r. ⌜ r ≡ pick holds 1 0 ⌝ }
-{
-    if holds {
-        return 1;
-    }
-    0
-}
-
 // The least width code that holds a number, or as far a negative one, from -1 down.
 pub fn code_of(m: u64) -> u64
     ensures { λ r. ⌜ r ≡ code (pos m) ⌝ }
 {
-    one(0x80 <= m) + one(0x8000 <= m) + one(0x8000_0000 <= m)
+    choice(0x80 <= m, 1, 0) + choice(0x8000 <= m, 1, 0) + choice(0x8000_0000 <= m, 1, 0)
 }
 
 // The least width code that holds the gap from one address to another.

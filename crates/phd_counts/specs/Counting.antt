@@ -6,9 +6,8 @@ use Prim.Native.Nat.{ℕ, zero, suc, _+_, _-_, _^_, _≤_, _<_}
 use native.Mathlib.Nat.{sub-zero}
 use native.Mathlib.Numerals.{add-one}
 use native.Mathlib.Omega.{arith}
-use mathlib.Core.Bool.{Bool, true, false}
 use mathlib.Core.List.{List}
-use Rattle.layout.specs.Numbers.{pick}
+use Rattle.layout.specs.Values.{one-most}
 use Rattle.phd_rows.specs.Rows.{row-at, of-kind, row-count}
 use Rattle.phd_rows.specs.declared.Row.{Row}
 use Rattle.phd_counts.specs.Counts.{one-of, count-of, nulls-of, sum-from, sum, nulls, tally-of, counted}
@@ -61,10 +60,6 @@ module _ (f : Row → ℕ) (rows : List ℕ) where
   summed-ends i n l z = omega (arith, sum-done i l)
 
 -- at most one a row
-pub one-most : (b : Bool) → pick b 1 0 ≤ 1
-one-most true = omega arith
-one-most false = omega arith
-
 pub sum-most : (k : ℕ) (rows : List ℕ) (i n : ℕ) → sum-from (one-of k) rows i n ≤ n
 unfolding sum-from
 sum-most k rows i zero = omega arith

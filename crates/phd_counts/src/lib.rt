@@ -1,9 +1,9 @@
 // What is counted of a table's rows: how many are of each kind, their references, and the nulls of object arrays.
 // Each function's contract is an equation with a definition of specs/Counts.antt.
 ghost use mathlib.Core.Path.{_≡_};
-ghost use Rattle.layout.specs.Numbers.{pick};
 ghost use Rattle.phd_counts.specs.Counts.{nulls-of, tally-of, counted as countedOf};
 ghost use Rattle.phd_counts.specs.Counting.{Few, Small};
+use layout::choice;
 use phd_rows::Row;
 
 // How many rows are of each kind, and how many rows, references and nulls there are in all.
@@ -15,16 +15,6 @@ pub struct Tally {
     pub rows: u64,
     pub refs: u64,
     pub nulls: u64,
-}
-
-// 1 where a test holds, else 0.
-fn one(b: bool) -> u64
-    ensures { λ r. ⌜ r ≡ pick b 1 0 ⌝ }
-{
-    if b {
-        return 1;
-    }
-    0
 }
 
 // A row's nulls: of an object array its true length less its count of references, of any other row none.
@@ -47,10 +37,10 @@ pub fn counted(t: Tally, row: Row) -> Tally
 {
     let listed = row.count;
     let unlisted = nulls(row);
-    let classes = t.classes + one(row.kind == 1);
-    let objects = t.objects + one(row.kind == 2);
-    let arrays = t.arrays + one(row.kind == 3);
-    let primitives = t.primitives + one(row.kind == 4);
+    let classes = t.classes + choice(row.kind == 1, 1, 0);
+    let objects = t.objects + choice(row.kind == 2, 1, 0);
+    let arrays = t.arrays + choice(row.kind == 3, 1, 0);
+    let primitives = t.primitives + choice(row.kind == 4, 1, 0);
     let rows = t.rows + 1;
     let refs = t.refs + listed;
     let nulls = t.nulls + unlisted;

@@ -3,9 +3,9 @@
 ghost use mathlib.Core.Path.{_≡_};
 ghost use Prim.Native.Nat.{_+_, _≤_, _<_};
 ghost use lib.ListN.{length};
-ghost use Rattle.layout.specs.Numbers.{pick};
 ghost use Rattle.phd_rows.specs.Rows.{refs-of};
 ghost use Rattle.phd_form.specs.Form.{holds as holdsOf, slot-of, measure as measureOf, flagged as flaggedOf, object-form, form-of, tag-of, hash-flags, class-flags, flags-of, planned, Bounded};
+use layout::choice;
 use phd::Cache;
 use phd::Form;
 use phd::Shape;
@@ -40,16 +40,6 @@ fn holds(cache: Cache, word: u64, i: usize) -> bool
 {
     let words = cache.words;
     (i < cache.puts) & (words[i] == word)
-}
-
-// The one number, or the other.
-fn choice(first: bool, x: u64, y: u64) -> u64
-    ensures { λ r. ⌜ r ≡ pick first x y ⌝ }
-{
-    if first {
-        return x;
-    }
-    y
 }
 
 // The lowest slot that does, 4 for none.
