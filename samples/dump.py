@@ -1,8 +1,8 @@
 """A portable heap dump in the making, and what a reading of it must give.
 
-A dump is described record by record, in the terms of the format's paper. Each record adds its bytes, its row and its
-references, and what a reading must answer where the file is cut right behind it. Nothing here takes bytes apart: what is
-expected comes from what was put in.
+A dump is described record by record, in the terms of the format's paper. Each record adds its bytes, field by field, its row
+and its references, and what a reading must answer where the file is cut right behind it. Nothing here takes bytes apart: what
+is expected comes from what was put in.
 """
 
 # The numbers of a row, in their order. One that a record does not name is 0.
@@ -13,7 +13,8 @@ ROW = (
 # The room that a program has if nothing else is said: whole rows, and references.
 ROWS, REFS = 48, 70
 
-OPENING = b"\x00\x12portable heap dump"
+# the two fields that a dump begins with
+OPENING = b"\x00\x12", b"portable heap dump"
 
 # The dump that the paper has whole.
 PAPER = bytes.fromhex(
@@ -47,17 +48,19 @@ def gap(address, base, code):
 
 
 def links(address, refs, code):
-    return b"".join(gap(r, address, code) for r in refs)
+    return [gap(r, address, code) for r in refs]
 
 
 def line(answer):
-    return "reply {} place {} rows {} refs {} word {}".format(*answer)
+    return "reply {} place {} missing {} rows {} refs {} word {}".format(*answer)
 
 
 class Dump:
     def __init__(self, room_rows=ROWS, room_refs=REFS):
         self.room_rows, self.room_refs = room_rows, room_refs
         self.bytes = b""
+        # where each field ends
+        self.ends = []
         self.facts = dict(word=0, hashed=0, openj9=0, vm=0, place=0, len=0)
         self.rows, self.refs = [], []
         self.address = 0
@@ -77,23 +80,29 @@ class Dump:
         self.answer(reply, place)
         self.over = True
 
+    def add(self, *fields):
+        """Bytes, field by field. A field that a record lacks has none."""
+        for field in fields:
+            self.bytes += field
+            self.ends.append(len(self.bytes))
+
     # ---- the header
 
     def header(self, word=32, hashed=False, openj9=True, vm=b"Test"):
         flags = (word == 64) * 1 + hashed * 2 + openj9 * 4
-        self.bytes += OPENING + unsigned(6, 4) + unsigned(flags, 4) + b"\x01"
+        self.add(*OPENING, unsigned(6, 4), unsigned(flags, 4), b"\x01")
         self.facts.update(word=word, hashed=int(hashed), openj9=int(openj9))
         if vm is not None:
-            self.bytes += b"\x04" + unsigned(len(vm), 2)
+            self.add(b"\x04", unsigned(len(vm), 2))
             self.facts.update(vm=1, place=len(self.bytes), len=len(vm))
-            self.bytes += vm
-        self.bytes += b"\x02\x02"
+            self.add(vm)
+        self.add(b"\x02", b"\x02")
         self.answer(1, len(self.bytes))
         return self
 
     def bad_header(self, reply, judged, rest):
-        """A header that is refused. What is judged ends with the field at fault."""
-        self.bytes += judged
+        """A header that is refused, by its fields. What is judged ends with the field at fault."""
+        self.add(*judged)
         self.stop(reply, 0)
         self.bytes += rest
         return self
@@ -102,60 +111,61 @@ class Dump:
     # flag bits beside those that follow from the rest
 
     def short(self, address, slot, refs=(), code=0, width=0, hash=NONE):
-        data = unsigned(0x80 | slot << 5 | len(refs) << 3 | code << 2 | width, 1)
-        data += gap(address, self.address, code) + self.hash(hash) + links(address, refs, width)
+        data = [unsigned(0x80 | slot << 5 | len(refs) << 3 | code << 2 | width, 1)]
+        data += [gap(address, self.address, code), self.hash(hash), *links(address, refs, width)]
         return self.record(data, refs, kind=2, address=address, word=self.put[slot::4][-1], **self.hashes(hash))
 
     def medium(self, address, word, refs=(), code=0, width=0, hash=NONE):
-        data = unsigned(0x40 | len(refs) << 3 | code << 2 | width, 1)
-        data += gap(address, self.address, code) + self.word(word) + self.hash(hash) + links(address, refs, width)
+        data = [unsigned(0x40 | len(refs) << 3 | code << 2 | width, 1)]
+        data += [gap(address, self.address, code), self.word(word), self.hash(hash), *links(address, refs, width)]
         self.put.append(word)
         return self.record(data, refs, kind=2, address=address, word=word, **self.hashes(hash))
 
     def long(self, address, word, refs=(), code=0, width=0, hash=NONE, bits=0):
-        data = b"\x04" + unsigned(code << 6 | width << 4 | self.hash_bits(hash) | bits, 1)
-        data += gap(address, self.address, code) + self.word(word) + self.hash(hash)
-        data += signed(len(refs), 4) + links(address, refs, width)
+        data = [b"\x04", unsigned(code << 6 | width << 4 | self.hash_bits(hash) | bits, 1)]
+        data += [gap(address, self.address, code), self.word(word), self.hash(hash)]
+        data += [signed(len(refs), 4), *links(address, refs, width)]
         self.put.append(word)
         return self.record(data, refs, kind=2, address=address, word=word, **self.hashes(hash))
 
     def primitive(self, address, type, length, size, code=0, hash=NONE):
-        data = unsigned(0x20 | type << 2 | code, 1)
-        data += gap(address, self.address, code) + signed(length, 2**code) + self.hash(hash) + unsigned(size, 4)
+        data = [unsigned(0x20 | type << 2 | code, 1)]
+        data += [gap(address, self.address, code), signed(length, 2**code), self.hash(hash), unsigned(size, 4)]
         return self.record(data, kind=4, address=address, type=type, length=length, size=size, **self.hashes(hash))
 
     def long_primitive(self, address, type, length, size, words=False, hash=NONE, bits=0):
         code = (3 if self.facts["word"] == 64 else 2) if words else 0
-        data = b"\x07" + unsigned(type << 5 | words << 4 | self.hash_bits(hash) | bits, 1)
-        data += gap(address, self.address, code) + signed(length, 2**code) + self.hash(hash) + unsigned(size, 4)
+        data = [b"\x07", unsigned(type << 5 | words << 4 | self.hash_bits(hash) | bits, 1)]
+        data += [gap(address, self.address, code), signed(length, 2**code), self.hash(hash), unsigned(size, 4)]
         return self.record(data, kind=4, address=address, type=type, length=length, size=size, **self.hashes(hash))
 
     def array(self, address, word, refs=(), size=0, length=None, code=0, width=0, hash=NONE, bits=0):
         length = len(refs) if length is None else length
-        data = b"\x08" + unsigned(code << 6 | width << 4 | self.hash_bits(hash) | bits, 1)
-        data += gap(address, self.address, code) + self.word(word) + self.hash(hash)
-        data += signed(len(refs), 4) + links(address, refs, width) + unsigned(size, 4) + signed(length, 4)
+        data = [b"\x08", unsigned(code << 6 | width << 4 | self.hash_bits(hash) | bits, 1)]
+        data += [gap(address, self.address, code), self.word(word), self.hash(hash)]
+        data += [signed(len(refs), 4), *links(address, refs, width), unsigned(size, 4), signed(length, 4)]
         numbers = dict(size=size, length=length, **self.hashes(hash))
         return self.record(data, refs, kind=3, address=address, word=word, **numbers)
 
     def klass(self, address, name, size=16, word=0, refs=(), code=0, width=0, hash=NONE, bits=0):
         moved = 0x08 if self.hash_bits(hash) else 0
-        data = b"\x06" + unsigned(code << 6 | width << 4 | moved | bits, 1) + gap(address, self.address, code)
-        data += signed(size, 4) + self.hash(hash) + self.word(word) + unsigned(len(name), 2)
-        numbers = dict(size=size, name_place=len(self.bytes) + len(data), name_length=len(name), **self.hashes(hash))
-        data += name + signed(len(refs), 4) + links(address, refs, width)
+        data = [b"\x06", unsigned(code << 6 | width << 4 | moved | bits, 1), gap(address, self.address, code)]
+        data += [signed(size, 4), self.hash(hash), self.word(word), unsigned(len(name), 2)]
+        place = len(self.bytes) + sum(map(len, data))
+        numbers = dict(size=size, name_place=place, name_length=len(name), **self.hashes(hash))
+        data += [name, signed(len(refs), 4), *links(address, refs, width)]
         return self.record(data, refs, kind=1, address=address, word=word, **numbers)
 
     def fault(self, reply, judged, rest="03"):
-        """A record that is refused, in hexadecimal. What is judged ends with the field at fault."""
+        """A record that is refused, in hexadecimal, a word to a field. What is judged ends with the field at fault."""
         tag = len(self.bytes)
-        self.bytes += bytes.fromhex(judged)
+        self.add(*map(bytes.fromhex, judged.split()))
         self.stop(reply, tag)
         self.bytes += bytes.fromhex(rest)
         return self
 
     def end(self, more=b""):
-        self.bytes += b"\x03"
+        self.add(b"\x03")
         self.stop(0, len(self.bytes))
         self.bytes += more
         return self
@@ -180,9 +190,9 @@ class Dump:
         return {NONE: dict(hash_kind=0), ASKED: dict(hash_kind=1)}.get(hash, dict(hash_kind=2, hash=hash))
 
     def record(self, data, refs=(), **numbers):
-        """A record whole. Room is asked last, rows before references; one without room adds nothing."""
+        """A record whole, by its fields. Room is asked last, rows before references; one without room adds nothing."""
         tag = len(self.bytes)
-        self.bytes += data
+        self.add(*data)
         if len(self.rows) == self.room_rows:
             self.stop(13, tag)
         elif len(self.refs) + len(refs) > self.room_refs:
@@ -196,11 +206,22 @@ class Dump:
             self.answer(1, len(self.bytes))
         return self
 
+    # ---- what a reading of its first bytes gives
+
+    def missing(self, length):
+        """What the field lacks that they end in. Behind all that was put in comes a tag."""
+        return next((end - length for end in self.ends if end > length), 1)
+
+    def answered(self, length):
+        """Reply, place, missing bytes, row count, reference count and W."""
+        reply, place, *others = [answer for at, *answer in self.cuts if at <= length][-1]
+        return reply, place, self.missing(length) if reply == 1 else 0, *others
+
     # ---- what a program prints
 
     def reading(self):
         """What reading the whole dump gives."""
-        yield line(self.cuts[-1][1:])
+        yield line(self.answered(len(self.bytes)))
         yield "hashed {hashed} openj9 {openj9} vm {vm} place {place} len {len}".format(**self.facts)
         for row in self.rows:
             yield " ".join(["row", *map(str, row)])
@@ -210,6 +231,9 @@ class Dump:
     def report(self):
         """What reading it gives, and every cut of it."""
         yield from self.reading()
-        for length, *answer in self.cuts:
-            yield f"cut {length} {line(answer)}"
+        for length, *_ in self.cuts:
+            yield f"cut {length} {line(self.answered(length))}"
+        lacks = [self.answered(length)[2] for length in range(len(self.bytes) + 1)]
+        for i in range(0, len(lacks), 32):
+            yield " ".join(["missing", *map(str, lacks[i : i + 32])])
         yield "rest kept"

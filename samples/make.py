@@ -139,15 +139,17 @@ def wholes():
 
 
 def headers():
-    """Each by its bytes up to the end of the field at fault, and those after it."""
+    """Each by its fields up to the one at fault, and the bytes after it."""
+    length, words = OPENING
     rest = bytes.fromhex("00000006 00000004 01 02 02 03")
-    yield "03-length", Dump().bad_header(3, b"\x00\x13", OPENING[2:] + rest)
-    yield "03-length-high", Dump().bad_header(3, b"\x01\x12", OPENING[2:] + rest)
-    yield "03-byte", Dump().bad_header(3, b"\x00\x12portable heap dumP", rest)
-    yield "03-before-04", Dump().bad_header(3, b"\x00\x12Portable heap dump", b"\x00\x00\x00\x07" + rest[4:])
+    yield "03-length", Dump().bad_header(3, [b"\x00\x13"], words + rest)
+    yield "03-length-high", Dump().bad_header(3, [b"\x01\x12"], words + rest)
+    yield "03-byte", Dump().bad_header(3, [length, b"portable heap dumP"], rest)
+    yield "03-before-04", Dump().bad_header(3, [length, b"Portable heap dump"], b"\x00\x00\x00\x07" + rest[4:])
 
     def bad(name, judged, rest="02 02 03"):
-        return name, Dump().bad_header(int(name[:2]), OPENING + bytes.fromhex(judged), bytes.fromhex(rest))
+        fields = [*OPENING, *map(bytes.fromhex, judged.split())]
+        return name, Dump().bad_header(int(name[:2]), fields, bytes.fromhex(rest))
 
     yield bad("04-version", "00000005", "00000004 01 02 02 03")
     yield bad("04-version-high", "01000006", "00000004 01 02 02 03")
@@ -161,8 +163,8 @@ def headers():
     yield bad("06-after-vm", "00000006 00000004 01 04 0001 41 05")
     yield bad("06-no-body", "00000006 00000004 01 02 03")
     yield bad("06-no-body-after-vm", "00000006 00000007 01 04 0001 41 02 80")
-    yield bad("07-vm-low-byte", "00000006 00000004 01 04 0003 41 1F 42")
-    yield bad("07-vm-high-byte", "00000006 00000004 01 04 0003 7F 41 42")
+    yield bad("07-vm-low-byte", "00000006 00000004 01 04 0003 411F42")
+    yield bad("07-vm-high-byte", "00000006 00000004 01 04 0003 7F4142")
     yield bad("07-second-vm", "00000006 00000004 01 04 0001 41 04", "0001 41 02 02 03")
 
 
@@ -173,7 +175,7 @@ def begun(**header):
 
 
 def records():
-    """Each behind one good record (begun), by its bytes up to the end of the field at fault, and those after it."""
+    """Each behind one good record (begun), by its fields up to the one at fault, and the bytes after it."""
 
     def bad(name, judged, rest="03", **header):
         return name, begun(**header).fault(int(name[:2]), judged, rest)
@@ -181,9 +183,9 @@ def records():
     for tag in ("00", "02", "05", "1F"):
         yield bad("06-tag-" + tag, tag)
     yield bad("07-class-empty", "06 00 04 00000010 00000000 0000", "00000000 03")
-    yield bad("07-class-space", "06 00 04 00000010 00000000 0003 41 20 42", "00000000 03")
+    yield bad("07-class-space", "06 00 04 00000010 00000000 0003 412042", "00000000 03")
     yield bad("07-class-7F", "06 00 04 00000010 00000000 0001 7F", "00000000 03")
-    yield bad("07-class-C3", "06 00 04 00000010 00000000 0002 C3 A9", "00000000 03")
+    yield bad("07-class-C3", "06 00 04 00000010 00000000 0002 C3A9", "00000000 03")
     yield bad("07-before-12", "06 00 04 00000010 00000000 0000", "FFFFFFFF 03")
 
     yield "08-case-j", Dump().header().fault(8, "06 40 8000", "00000010 00000000 0001 41 00000000 03")
@@ -199,7 +201,7 @@ def records():
     yield bad("08-ref-above-64", "04 30 04 0000000000001000 00000001 3FFFFFFFFFFFFBF8", word=64)
     yield bad("08-ref-wraps-32", "08 20 04 00001000 00000001 40000000", "00000001 00000001 03")
     refs = "00000002 0000000000000001 4000000000000000"
-    yield bad("08-second-ref-wraps-64", "06 30 04 00000010 0000000000000000 0001 41" + refs, word=64)
+    yield bad("08-second-ref-wraps-64", "06 30 04 00000010 0000000000000000 0001 41 " + refs, word=64)
     yield bad("08-before-09", "91 04 FBF7", "FBF8 03")
     yield bad("08-before-12", "06 40 FBFB", "FFFFFFFF 00000000 0001 41 00000000 03")
 

@@ -9,7 +9,7 @@ a dump (text.py); of those that are refused this file says the reply and the row
 import sys
 
 from crate import fill
-from dump import ASKED, NONE, PAPER
+from dump import ASKED, NONE, OPENING, PAPER
 from text import REFS, ROWS, TYPES, Lent, blank, refused, texted
 
 # The text that the paper has whole, of the dump that it has.
@@ -322,7 +322,7 @@ def cuts():
         yield f"cut-{length}", texted(Lent(paper, length))
     wide = edges(64).end()
     yield "cut-edges", texted(Lent(wide, len(wide.bytes) - 40))
-    yield "cut-fault-header", refused(blank().bad_header(4, PAPER[:20] + b"\x00\x00\x00\x05", PAPER[24:]), 15)
+    yield "cut-fault-header", refused(blank().bad_header(4, [*OPENING, b"\x00\x00\x00\x05"], PAPER[24:]), 15)
     for reply, judged in (6, "00"), (7, "06 00 04 00000010 00000000 0000"), (8, "84 8000"), (10, "A0"), (12, "20 04 FF"):
         yield f"cut-fault-{reply}", texted(begun().medium(0x1010, 0x1000, [0x1020]).fault(reply, judged))
     yield "cut-rows", texted(counted(1, ROWS, 0, 0).end())

@@ -27,8 +27,7 @@ class Lent:
 
     def __init__(self, dump, length=None):
         self.held = dump.bytes[:length]
-        reached = [answer for at, *answer in dump.cuts if at <= len(self.held)]
-        self.reply, self.place, rows, refs, word = self.reading = reached[-1]
+        self.reply, self.place, _, rows, refs, word = self.reading = dump.answered(len(self.held))
         self.facts = dict(dump.facts) if word else dict.fromkeys(dump.facts, 0)
         self.numbers = [n for row in dump.rows[:rows] for n in row]
         self.refs = dump.refs[:refs]

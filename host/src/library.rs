@@ -4,7 +4,8 @@
 pub const ROW: usize = 12;
 
 /// What an operation answers: 0 reply, 1 place, 2 rows, 3 references, 4 W, 5 all hashed, 6 from OpenJ9, 7 VM string there,
-/// 8 its place, 9 its length. After a write or a text only the first two count.
+/// 8 its place, 9 its length, 10 the bytes that the field lacked where the dump is cut. After a write or a text only the first
+/// two count.
 pub type Facts = [u64; 16];
 
 /// A header to write: W, all hashed, from OpenJ9, VM string there, its place and its length in the name bytes.

@@ -1,5 +1,5 @@
 -- What holds of every layout when the dump is cut or goes on: what was settled stays (`keeps`); a cut says how many bytes
--- one field lacks (`lacks`, `waits`); a value whose end lies within a cut is read from the cut (`fits`); and one whose end
+-- one field lacks (`lacks`, `waits`, `needs`); a value whose end lies within a cut is read from the cut (`fits`); and one whose end
 -- lies beyond it is a cut there (`stops-short`). Each is proved once, by the four clauses of the language.
 -- Assumes nothing.
 use mathlib.Core.Path.{_≡_, refl, sym}
@@ -118,6 +118,31 @@ waits (yield a) s t at k h g = let z : _≡_ {A = ℕ} 0 1 = cc in absurd (omega
 waits (refuse r) s t at k h g = let z : _≡_ {A = ℕ} 0 1 = cc in absurd (omega arith)
 waits (here f) s t at k h g = waits (f at) s t at k h g
 waits (bytes n f) s t at k h g = waits-bytes n f s t at (λ b. waits (f b) s t (at + n)) k h g
+
+abbrev Needs : {A : Type 0} → Layout A → (s t : List ℕ) → ℕ → Type 0
+Needs {A} l s t at = (k : ℕ) (a : A) (e : ℕ) → run l s at ≡ stops (Cut k) → run l (s ++ t) at ≡ whole a e → length s + k ≤ e
+
+needs-bytes : {A : Type 0} (n : ℕ) (k : List ℕ → Layout A) (s t : List ℕ) (at : ℕ) → ((b : List ℕ) → Needs (k b) s t (at + n)) → Needs (bytes n k) s t at
+needs-bytes n k s t at ih j a e h g = elim (decLe (at + n) (length s)) [ yes l ↦ later l | no l ↦ now (omega arith) ]
+  where
+    now : length s < at + n → length s + j ≤ e
+    now l =
+        let z : stops (Cut (at + n - length s)) ≡ stops (Cut j) = rw (run-short n k s at l) at h in
+        let y : at + n - length s ≡ j = cc in
+        let m : at + n ≤ length (s ++ t) = had n k (s ++ t) at a e g in
+        let f : at + n ≤ e = forth (k (take n (drop at (s ++ t)))) (s ++ t) (at + n) a e (rw (run-enough n k (s ++ t) at m) at g) in
+        omega arith
+
+    later : at + n ≤ length s → length s + j ≤ e
+    later l = ih (take n (drop at s)) j a e (rw (run-enough n k s at l) at h) (rw (enough-append n k s t at l) at g)
+
+-- Whatever more bytes make a value of what was cut, it ends no sooner than the field that lacked some.
+pub needs : {A : Type 0} (l : Layout A) (s t : List ℕ) (at : ℕ) → Needs l s t at
+unfolding run
+needs (yield b) s t at k a e h g = let z : _≡_ {A = ℕ} 0 1 = cc in absurd (omega arith)
+needs (refuse r) s t at k a e h g = let z : _≡_ {A = ℕ} 0 1 = cc in absurd (omega arith)
+needs (here f) s t at k a e h g = needs (f at) s t at k a e h g
+needs (bytes n f) s t at k a e h g = needs-bytes n f s t at (λ b. needs (f b) s t (at + n)) k a e h g
 
 -- ---- a cut behind the end of a value, and one before it
 

@@ -4,7 +4,7 @@ ghost use mathlib.Core.Path.{_≡_};
 ghost use Prim.Native.Nat.{_+_, _-_, _^_, _≤_, _<_};
 ghost use lib.ListN.{length, take, drop};
 ghost use Rattle.layout.specs.Numbers.{pick, value, signed as signedOf, step, moved as movedBy, counted as countedOf, within};
-ghost use Rattle.layout.specs.Layout.{run, field as fieldOf};
+ghost use Rattle.layout.specs.Layout.{run, field as fieldOf, reply-of, missing-of};
 ghost use Rattle.layout.specs.Fields.{outcome, text-outcome, Small, exactly as exactlyOf, below as belowOf, address as addressOf, reference as referenceOf, count as countOf, string as stringOf};
 
 // The one number where a test holds, else the other.
@@ -21,6 +21,26 @@ pub fn choice(first: bool, x: u64, y: u64) -> u64
 pub enum Stop {
     Cut(usize),
     Refused(u64),
+}
+
+// The number of a reply, by why reading stops.
+pub fn reply_of(w: Stop) -> u64
+    ensures { λ r. ⌜ r ≡ reply-of w ⌝ }
+{
+    match w {
+        Stop::Cut(_) => 1,
+        Stop::Refused(r) => r,
+    }
+}
+
+// How many bytes a field lacked where reading stops; 0 where what was read is refused.
+pub fn missing_of(w: Stop) -> usize
+    ensures { λ r. ⌜ r ≡ missing-of w ⌝ }
+{
+    match w {
+        Stop::Cut(n) => n,
+        Stop::Refused(_) => 0,
+    }
 }
 
 // A number that was read, with the place after it.

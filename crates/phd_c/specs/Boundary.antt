@@ -26,12 +26,12 @@ header l =
       vm = record { there = set 3; place = getD l 4 0; len = getD l 5 0 };
     }
 
--- the numbers of a reading's answer: reply, place, rows, references, and the header facts
+-- the numbers of a reading's answer: reply, place, rows, references, the header facts, and the missing bytes
 unfoldable pub read-facts : Reading → List ℕ
 read-facts r =
     let f : Facts = r .facts in
     r .reply ∷ r .place ∷ r .rows ∷ r .refs ∷ f .word ∷ flag (f .hashed) ∷ flag (f .openj9) ∷ flag (f .vm .there) ∷ f .vm .place ∷ f .vm .len
-    ∷ 0 ∷ 0 ∷ 0 ∷ 0 ∷ 0 ∷ 0 ∷ []
+    ∷ r .missing ∷ 0 ∷ 0 ∷ 0 ∷ 0 ∷ 0 ∷ []
 
 -- the numbers of a writing's answer: reply and place
 unfoldable pub written-facts : Written → List ℕ

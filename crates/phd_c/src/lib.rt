@@ -57,7 +57,7 @@ fn of_reading(r: Reading) -> [u64; 16]
         flag(vm.there),
         vm.place as u64,
         vm.len as u64,
-        0,
+        r.missing as u64,
         0,
         0,
         0,

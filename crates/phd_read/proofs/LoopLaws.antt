@@ -56,17 +56,17 @@ module _ {h : Facts} {s : List ℕ} {at : ℕ} where
         }
 
     -- the whole reading, where a step ended it
-    module _ {reply place : ℕ} (g : Stayed h s k rows refs rows′ refs′ k′ reply place) where
+    module _ {reply place missing : ℕ} (g : Stayed h s k rows refs rows′ refs′ k′ reply place missing) where
       abbrev result : Result
       result = records (suc limit) h s (length rows₀) (length refs₀) (first at)
 
-      halts : step h s (length rows₀) (length refs₀) (state-of k rows refs) ≡ halt (ended h (state-of k rows refs) reply place (g .missing))
+      halts : step h s (length rows₀) (length refs₀) (state-of k rows refs) ≡ halt (ended h (state-of k rows refs) reply place missing)
       halts = rw (← w .rows-long, ← w .refs-long) (g .steps)
 
-      is : result ≡ ended h (state-of k rows refs) reply place (g .missing)
+      is : result ≡ ended h (state-of k rows refs) reply place missing
       is = sym (w .left) ∙ records-halt limit h s (length rows₀) (length refs₀) (state-of k rows refs) _ halts
 
-      pub answers : record { reply = reply; place = place; rows = k′ .rows; refs = k′ .refs; facts = h } ≡ answer result
+      pub answers : record { reply = reply; place = place; missing = missing; rows = k′ .rows; refs = k′ .refs; facts = h } ≡ answer result
       unfolding answer ended
       answers =
           let l : length (take (k .rows * row-width) rows) ≡ k .rows * row-width = length-take-le (k .rows * row-width) rows (w .fits .rows-in) in

@@ -33,18 +33,16 @@ module _ (h : Facts) {s rows refs : List ℕ} {k : Cursor} (fits : Fits s rows r
   seen : found h s (state-of k rows refs) ≡ there
   seen = rw counted
 
-  pub stays-end : (n : ℕ) → there ≡ whole over n → Stayed h s k rows refs rows refs k 0 n
+  pub stays-end : (n : ℕ) → there ≡ whole over n → Stayed h s k rows refs rows refs k 0 n 0
   stays-end n e = record {
-    missing = 0;
     steps = step-end h s (length rows) (length refs) (state-of k rows refs) n (seen ∙ e);
     cursor-same = refl;
     rows-same = refl;
     refs-same = refl;
   }
 
-  pub stays-stop : (w : Stop) → there ≡ stops w → Stayed h s k rows refs rows refs k (reply-of w) (k .at)
+  pub stays-stop : (w : Stop) → there ≡ stops w → Stayed h s k rows refs rows refs k (reply-of w) (k .at) (missing-of w)
   stays-stop w e = record {
-    missing = missing-of w;
     steps = step-stop h s (length rows) (length refs) (state-of k rows refs) w (seen ∙ e);
     cursor-same = refl;
     rows-same = refl;
@@ -82,9 +80,8 @@ module _ (h : Facts) {s rows refs : List ℕ} {k : Cursor} (fits : Fits s rows r
     many = subst (λ x. length (its .0 .list) ≡ x .count) (its .2) (stands .links .proper .many)
 
     -- no row left, or too few references left
-    pub stays-rows : length rows < k .rows * row-width + row-width → Stayed h s k rows refs rows refs k 13 (k .at)
+    pub stays-rows : length rows < k .rows * row-width + row-width → Stayed h s k rows refs rows refs k 13 (k .at) 0
     stays-rows r = record {
-      missing = 0;
       steps = step-no-row h s (length rows) (length refs) (state-of k rows refs) (f .row) (its .0) (f .address) (f .cache) n (seen ∙ its .1) (rw rowed r);
       cursor-same = refl;
       rows-same = refl;
@@ -92,9 +89,8 @@ module _ (h : Facts) {s rows refs : List ℕ} {k : Cursor} (fits : Fits s rows r
     }
 
     pub stays-refs : k .rows * row-width + row-width ≤ length rows → length refs < k .refs + f .span .count
-        → Stayed h s k rows refs rows refs k 14 (k .at)
+        → Stayed h s k rows refs rows refs k 14 (k .at) 0
     stays-refs r q = record {
-      missing = 0;
       steps = step-no-refs h s (length rows) (length refs) (state-of k rows refs) (f .row) (its .0) (f .address) (f .cache) n (seen ∙ its .1) (rw rowed r) (rw (counted, many) q);
       cursor-same = refl;
       rows-same = refl;

@@ -5,6 +5,6 @@ use lib.ListN.{length}
 use Rattle.phd.specs.Phd.{Result, row-width}
 use Rattle.phd_read.specs.declared.Reading.{Reading}
 
--- the answer: reply, place, how many rows and references were stored, header facts
+-- the answer: reply, place, missing bytes, how many rows and references were stored, header facts
 unfoldable pub answer : Result → Reading
-answer r = record { reply = r .reply; place = r .place; rows = length (r .rows) / row-width; refs = length (r .refs); facts = r .facts }
+answer r = record { reply = r .reply; place = r .place; missing = r .missing; rows = length (r .rows) / row-width; refs = length (r .refs); facts = r .facts }

@@ -49,7 +49,7 @@ grows h s R F f st =
 -- ---- one record, read from the shorter and from the longer
 
 -- what a step from the longer must be, given the step from the shorter, at the state st
-abbrev Follows : State → Next → Next → Type 0
+abbrev pub Follows : State → Next → Next → Type 0
 Follows st (go st′) longer = longer ≡ go st′
 Follows st (halt r) longer = (r .rows ≡ st .rows) × (r .refs ≡ st .refs) × (Final (r .reply) → longer ≡ halt r)
 
@@ -76,7 +76,7 @@ settle-follows h R R′ F F′ st (whole (item row ls a c) n) p q =
 settle-follows h R R′ F F′ st (stops w) p q = (refl, refl, λ _. refl)
 
 module _ (h : Facts) (s t : List ℕ) (R R′ F F′ : ℕ) (p : R ≤ R′) (q : F ≤ F′) where
-  step-follows : (st : State) → Follows st (step h s R F st) (step h (s ++ t) R′ F′ st)
+  pub step-follows : (st : State) → Follows st (step h s R F st) (step h (s ++ t) R′ F′ st)
   unfolding step settle ended reply-of
   step-follows st = by (found h s st) refl
     where

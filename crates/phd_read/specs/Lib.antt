@@ -2,7 +2,7 @@
 -- The rest are the proofs on the way: Steps (record after record, and laws for the functions), Stored (a record's references as
 -- they are stored) and Stepping (what a step does to the lent tables), for the functions' contracts, Links (a record that was
 -- read, and where its references stand), Rooms (the tables' rooms and counts), Ranges (addresses and references), Lengths (a row's
--- length), Replies (0 to 14) and Cut (two cuts of any bytes).
+-- length), Replies (0 to 14), Cut (two cuts of any bytes) and Missing (how much is missing of a cut one).
 pub mod Answer
 pub mod Stored
 pub mod Stepping
@@ -14,3 +14,4 @@ pub mod Ranges
 pub mod Lengths
 pub mod Replies
 pub mod Cut
+pub mod Missing

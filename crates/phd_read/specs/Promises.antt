@@ -1,12 +1,13 @@
 -- The promises about reading, of `reading` and of what a caller sees of it, in reading order.
 -- A reader must believe the statements and their records. Assumes nothing.
-use mathlib.Core.Path.{_≡_, ap}
-use Prim.Native.Nat.{ℕ, _*_, _≤_}
+use mathlib.Core.Path.{_≡_, ap, _∙_}
+use Prim.Native.Nat.{ℕ, _+_, _*_, _≤_, _<_}
 use mathlib.Core.Bool.{true}
 use mathlib.Core.List.{List, _∷_, _++_, map, append-assoc}
 use lib.ListN.{length, take, drop, length-append, length-drop}
 use lib.Seq.{take-append-seam}
 use native.Mathlib.Omega.{arith}
+use native.Mathlib.Decide.{decLe}
 use Rattle.layout.specs.Numbers.{within}
 use Rattle.phd.specs.Phd.{limit, row-width, highest, Result, reading}
 use Rattle.phd.specs.Cases.{computing, dump, its, table, case-f, cases, tried, as-said}
@@ -15,6 +16,7 @@ use Rattle.phd_read.specs.Answer.{answer}
 use Rattle.phd_read.specs.Cut.{Begins, Final, Agree, more-agree, cuts-agree}
 use Rattle.phd_read.specs.Ranges.{addresses, reading-ranged}
 use Rattle.phd_read.specs.Lengths.{AllMeasured, reading-measured}
+use Rattle.phd_read.specs.Missing.{Missing, less-missing, reading-missing, reading-waits, reading-needs}
 use Rattle.phd_read.specs.Replies.{reading-answers}
 use Rattle.phd_read.specs.Rooms.{reading-keeps, counts}
 
@@ -106,6 +108,31 @@ pub cuts-seen : (b : List ℕ) (m n : ℕ) (rows rows′ refs refs′ : List ℕ
     → Seen (reading (take m b) (length rows) (length refs)) (reading (take n b) (length rows′) (length refs′)) rows rows′ refs refs′
 cuts-seen b m n rows rows′ refs refs′ h l p q =
     seen _ _ rows rows′ refs refs′ (counts (take m b) (length rows) (length refs) .0) (cuts b m n (length rows) (length rows′) (length refs) (length refs′) h l p q)
+
+-- ---- how much is missing
+
+-- Reply 1 carries what one field lacks where the dump ends, and every other reply 0.
+pub missing : (s : List ℕ) (R F : ℕ) → Missing s (reading s R F)
+missing = reading-missing
+
+-- Fewer bytes more than are missing, within the size limit and read into tables at least as roomy, leave all that the reading
+-- gives as it was, but that as many fewer are missing.
+pub awaited : (s t : List ℕ) (R R′ F F′ : ℕ) → length (s ++ t) ≤ limit → R ≤ R′ → F ≤ F′ → length t < reading s R F .missing
+    → reading (s ++ t) R′ F′ ≡ less-missing (length t) (reading s R F)
+awaited = reading-waits
+
+-- So what makes a cut dump anything but cut has at least as many bytes.
+pub settles : (s t : List ℕ) (R R′ F F′ : ℕ) → length (s ++ t) ≤ limit → R ≤ R′ → F ≤ F′ → reading s R F .reply ≡ 1
+    → (reading (s ++ t) R′ F′ .reply ≡ 1 → ⊥) → reading s R F .missing ≤ length t
+settles s t R R′ F F′ l p q e n = elim (decLe (reading s R F .missing) (length t)) [ yes k ↦ k | no k ↦ absurd (still (omega arith)) ]
+  where
+    still : length t < reading s R F .missing → ⊥
+    still k = n (ap (λ x. x .reply) (awaited s t R R′ F F′ l p q k) ∙ e)
+
+-- And what makes it whole goes at least as far: its end tag stands behind them, whatever follows that.
+pub completes : (s t : List ℕ) (R R′ F F′ : ℕ) → length (s ++ t) ≤ limit → R ≤ R′ → F ≤ F′ → reading s R F .reply ≡ 1
+    → reading (s ++ t) R′ F′ .reply ≡ 0 → length s + reading s R F .missing ≤ reading (s ++ t) R′ F′ .place
+completes s t R R′ F F′ l p q e z = reading-needs s t R R′ F F′ l p q (missing s R F .cut e .some) z
 
 -- ---- 01's cases
 

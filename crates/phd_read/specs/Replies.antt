@@ -1,10 +1,14 @@
--- A reading gives one of 01's replies, 0 to 14.
+-- What a layout refuses has one of 01's replies 3 to 12; so a reading gives one of the replies 0 to 14, and 1 for a cut alone.
 -- Assumes nothing.
-use mathlib.Core.Path.{_≡_}
+use mathlib.Core.Path.{_≡_, refl}
 use Prim.Native.Nat.{ℕ, zero, suc, _≤_}
+use mathlib.Core.Bool.{Bool, true, false}
 use mathlib.Core.List.{List, []}
 use lib.ListN.{length}
-use lib.Dec.{eqb, lit≤}
+use lib.Dec.{leb, eqb, lit≤}
+use native.Mathlib.Omega.{arith}
+use borrow.Author.Tests.{leb-true}
+use Rattle.layout.specs.Numbers.{pick}
 use Rattle.layout.specs.Layout.{Layout, stops, run, reply-of}
 use Rattle.layout.specs.Fields.{no-text}
 use Rattle.layout.specs.Values.{Refuses, refuses-yield, refuses-refuse, refuses-then, refuses-pick, refuses-field, refuses-raw, refuses-position, refuses-check, refuses-need, refuses-exactly, refuses-below, refuses-address, refuses-reference, refuses-count, refuses-string}
@@ -18,79 +22,88 @@ use Rattle.phd.specs.declared.Tagged.{Tagged}
 use Rattle.phd.specs.declared.Tagged.the-variants.{Begins, Other}
 use Rattle.phd_read.specs.Steps.{Either, step-by, reading-holds}
 
+-- a reply to what was read and is refused
 abbrev Known : ℕ → Type 0
-Known r = r ≤ 14
+Known r = pick (leb 3 r) (leb r 12) false ≡ true
+
+known-range : (r : ℕ) → Known r → (3 ≤ r) × (r ≤ 12)
+known-range r h = by (leb 3 r) (leb r 12) refl refl h
+  where
+    by : (x y : Bool) → leb 3 r ≡ x → leb r 12 ≡ y → pick x y false ≡ true → (3 ≤ r) × (r ≤ 12)
+    by true true e f g = (leb-true _ _ e, leb-true _ _ f)
+    by true false e f g = let z : _≡_ {A = ℕ} 0 1 = cc in absurd (omega arith)
+    by false y e f g = let z : _≡_ {A = ℕ} 0 1 = cc in absurd (omega arith)
 
 -- a layout that refuses with such a reply only
-abbrev Fine : {A : Type 0} → Layout A → Type 0
+abbrev pub Fine : {A : Type 0} → Layout A → Type 0
 Fine l = Refuses Known l
 
 -- ---- the header
 
 opening-fine : Fine opening-bytes
 unfolding opening-bytes
-opening-fine = refuses-then _ _ (refuses-raw 18) (λ text. refuses-check 3 _ (lit≤ tt))
+opening-fine = refuses-then _ _ (refuses-raw 18) (λ text. refuses-check 3 _ refl)
 
 preamble-fine : Fine preamble
 unfolding preamble
 preamble-fine =
-    refuses-then _ _ (refuses-exactly 2 18 3 (lit≤ tt)) (λ _. refuses-then _ _ opening-fine (λ _.
-    refuses-then _ _ (refuses-exactly 4 6 4 (lit≤ tt)) (λ _. refuses-then _ _ (refuses-below 4 8 5 (lit≤ tt)) (λ flags.
-    refuses-then _ _ (refuses-exactly 1 1 6 (lit≤ tt)) (λ _. refuses-yield flags)))))
+    refuses-then _ _ (refuses-exactly 2 18 3 refl) (λ _. refuses-then _ _ opening-fine (λ _.
+    refuses-then _ _ (refuses-exactly 4 6 4 refl) (λ _. refuses-then _ _ (refuses-below 4 8 5 refl) (λ flags.
+    refuses-then _ _ (refuses-exactly 1 1 6 refl) (λ _. refuses-yield flags)))))
 
 after-vm-fine : Fine after-vm
 unfolding after-vm
-after-vm-fine = refuses-then _ _ (refuses-field 1) (λ tag. refuses-then _ _ (refuses-check 7 _ (lit≤ tt)) (λ _. refuses-check 6 _ (lit≤ tt)))
+after-vm-fine = refuses-then _ _ (refuses-field 1) (λ tag. refuses-then _ _ (refuses-check 7 _ refl) (λ _. refuses-check 6 _ refl))
 
 header-records-fine : Fine header-records
 unfolding header-records
 header-records-fine =
     refuses-then _ _ (refuses-field 1) (λ tag. refuses-pick (eqb tag 2) _ _ (refuses-yield no-text) (refuses-pick (eqb tag 4) _ _
-    (refuses-then _ _ (refuses-string 0x20 0 (lit≤ tt)) (λ vm. refuses-then _ _ after-vm-fine (λ _. refuses-yield vm)))
-    (refuses-refuse 6 (lit≤ tt))))
+    (refuses-then _ _ (refuses-string 0x20 0 refl) (λ vm. refuses-then _ _ after-vm-fine (λ _. refuses-yield vm)))
+    (refuses-refuse 6 refl)))
 
-header-fine : Fine header
+pub header-fine : Fine header
 unfolding header
 header-fine =
     refuses-then _ _ preamble-fine (λ flags. refuses-then _ _ header-records-fine (λ vm.
-    refuses-then _ _ (refuses-exactly 1 2 6 (lit≤ tt)) (λ _. refuses-yield _)))
+    refuses-then _ _ (refuses-exactly 1 2 6 refl) (λ _. refuses-yield _)))
 
 -- ---- a record
 
 formed-fine : (t : Tagged) → Fine (formed t)
 unfolding formed
 formed-fine (Begins fm) = refuses-yield fm
-formed-fine Other = refuses-refuse 6 (lit≤ tt)
+formed-fine Other = refuses-refuse 6 refl
 
 flag-byte-fine : (h : Facts) (t : ℕ) → Fine (flag-byte h t)
 unfolding flag-byte
-flag-byte-fine h t = refuses-then _ _ (refuses-field _) (λ f. refuses-then _ _ (refuses-check 11 _ (lit≤ tt)) (λ _. refuses-yield f))
+flag-byte-fine h t = refuses-then _ _ (refuses-field _) (λ f. refuses-then _ _ (refuses-check 11 _ refl) (λ _. refuses-yield f))
 
 front-fine : (top before : ℕ) (sh : Shape) → Fine (front top before sh)
 unfolding front
 front-fine top before sh =
-    refuses-then _ _ (refuses-address (sh .gap) before top (lit≤ tt)) (λ a. refuses-then _ _ (refuses-field (sh .word)) (λ word.
-    refuses-then _ _ (refuses-count (sh .len) (lit≤ tt)) (λ len. refuses-yield _)))
+    refuses-then _ _ (refuses-address (sh .gap) before top refl) (λ a. refuses-then _ _ (refuses-field (sh .word)) (λ word.
+    refuses-then _ _ (refuses-count (sh .len) refl) (λ len. refuses-yield _)))
 
 middle-fine : (sh : Shape) (hb : ℕ) → Fine (middle sh hb)
 unfolding middle
 middle-fine sh hb =
-    refuses-then _ _ (refuses-count (sh .inst) (lit≤ tt)) (λ inst. refuses-then _ _ (refuses-field hb) (λ hash.
+    refuses-then _ _ (refuses-count (sh .inst) refl) (λ inst. refuses-then _ _ (refuses-field hb) (λ hash.
     refuses-then _ _ (refuses-field (sh .superclass)) (λ superclass. refuses-yield _)))
 
 class-name-fine : (n : ℕ) → Fine (class-name n)
 unfolding class-name
-class-name-fine n = refuses-pick (eqb n 0) _ _ (refuses-yield no-text) (refuses-string 0x21 1 (lit≤ tt))
+class-name-fine n = refuses-pick (eqb n 0) _ _ (refuses-yield no-text) (refuses-string 0x21 1 refl)
 
 link-count-fine : (n known : ℕ) → Fine (link-count n known)
 unfolding link-count
-link-count-fine n known = refuses-pick (eqb n 0) _ _ (refuses-yield known) (refuses-count n (lit≤ tt))
+link-count-fine n known = refuses-pick (eqb n 0) _ _ (refuses-yield known) (refuses-count n refl)
 
 references-fine : (w a top n : ℕ) → Fine (references w a top n)
 unfolding references
 references-fine w a top zero = refuses-yield []
 references-fine w a top (suc n) =
-    refuses-then _ _ (refuses-reference w a top (lit≤ tt) (lit≤ tt)) (λ r. refuses-then _ _ (references-fine w a top n) (λ rs. refuses-yield _))
+    refuses-then _ _ (refuses-reference w a top refl refl) (λ r. refuses-then _ _ (references-fine w a top n) (λ rs. refuses-yield _))
 
 links-fine : (w a top n : ℕ) → Fine (links w a top n)
 unfolding links
@@ -100,7 +113,7 @@ true-length-fine : (w n : ℕ) → Fine (true-length w n)
 unfolding true-length
 true-length-fine w n =
     refuses-pick (eqb w 0) _ _ (refuses-yield 0)
-    (refuses-then _ _ (refuses-count w (lit≤ tt)) (λ t. refuses-then _ _ (refuses-check 12 _ (lit≤ tt)) (λ _. refuses-yield t)))
+    (refuses-then _ _ (refuses-count w refl) (λ t. refuses-then _ _ (refuses-check 12 _ refl) (λ _. refuses-yield t)))
 
 tail-fine : (size truelen n : ℕ) → Fine (tail size truelen n)
 unfolding tail
@@ -113,26 +126,33 @@ fields-fine top before c index known hk sh =
     refuses-then _ _ (link-count-fine (sh .counted) (sh .count)) (λ n. refuses-then _ _ (links-fine (sh .link) (v .address) top n) (λ ls.
     refuses-then _ _ (tail-fine (sh .size) (sh .truelen) n) (λ t. refuses-yield _))))))
 
-entry-fine : (h : Facts) (before : ℕ) (c : Cache) (index : ℕ) → Fine (entry h before c index)
+pub entry-fine : (h : Facts) (before : ℕ) (c : Cache) (index : ℕ) → Fine (entry h before c index)
 unfolding entry record-of
 entry-fine h before c index =
     refuses-then _ _ (refuses-field 1) (λ t. refuses-pick (eqb t 3) _ _ (refuses-yield over)
-    (refuses-then _ _ (formed-fine _) (λ fm. refuses-then _ _ (refuses-need 10 _ (lit≤ tt)) (λ known.
+    (refuses-then _ _ (formed-fine _) (λ fm. refuses-then _ _ (refuses-need 10 _ refl) (λ known.
     refuses-then _ _ (flag-byte-fine h t) (λ f. fields-fine _ before c index known _ _)))))
 
 -- ---- the reading
 
+-- where such a layout refuses, the reply is neither 0 nor 1
+pub refused-known : {A : Type 0} (l : Layout A) → Fine l → (s : List ℕ) (at r : ℕ) → run l s at ≡ stops (Refused r) → (3 ≤ r) × (r ≤ 12)
+refused-known l g s at r e = known-range r (g .each s at r e)
+
+abbrev Answers : ℕ → Type 0
+Answers r = r ≤ 14
+
 -- a cut is reply 1
-stop-known : {A : Type 0} (l : Layout A) → Fine l → (s : List ℕ) (at : ℕ) (w : Stop) → run l s at ≡ stops w → Known (reply-of w)
+stop-known : {A : Type 0} (l : Layout A) → Fine l → (s : List ℕ) (at : ℕ) (w : Stop) → run l s at ≡ stops w → Answers (reply-of w)
 unfolding reply-of
 stop-known l g s at (Cut n) e = lit≤ tt
-stop-known l g s at (Refused r) e = g .each s at r e
+stop-known l g s at (Refused r) e = omega (arith, refused-known l g s at r e .1)
 
 -- Any bytes and any room give one of the replies 0 to 14.
 pub reading-answers : (s : List ℕ) (R F : ℕ) → reading s R F .reply ≤ 14
 unfolding ended nothing
 reading-answers s R F =
-    reading-holds s R F (λ h st. Unit {0}) (λ r. Known (r .reply)) (lit≤ tt) (λ w e. stop-known header header-fine s 0 w e) (λ h n e. tt)
-    (λ h st _. step-by (Either (λ x. Unit {0}) (λ r. Known (r .reply))) h s R F st (λ n e. lit≤ tt) (λ r ls a c n e p q. tt) (lit≤ tt) (lit≤ tt)
+    reading-holds s R F (λ h st. Unit {0}) (λ r. Answers (r .reply)) (lit≤ tt) (λ w e. stop-known header header-fine s 0 w e) (λ h n e. tt)
+    (λ h st _. step-by (Either (λ x. Unit {0}) (λ r. Answers (r .reply))) h s R F st (λ n e. lit≤ tt) (λ r ls a c n e p q. tt) (lit≤ tt) (lit≤ tt)
     (λ w e. stop-known (entry h (st .address) (st .cache) (length (st .refs))) (entry-fine h _ _ _) s (st .at) w e))
     (λ h st _. lit≤ tt)

@@ -39,8 +39,7 @@ pub record Went (h : Facts) (s : List ℕ) (k : Cursor) (rows refs rows′ refs�
   pub fits : Fits s rows′ refs′ k′
 
 -- A step ended the reading, and the cursor and the tables are as they were.
-pub record Stayed (h : Facts) (s : List ℕ) (k : Cursor) (rows refs rows′ refs′ : List ℕ) (k′ : Cursor) (reply place : ℕ) : Type 0 where
-  pub missing : ℕ
+pub record Stayed (h : Facts) (s : List ℕ) (k : Cursor) (rows refs rows′ refs′ : List ℕ) (k′ : Cursor) (reply place missing : ℕ) : Type 0 where
   pub steps : step h s (length rows) (length refs) (state-of k rows refs) ≡ halt (ended h (state-of k rows refs) reply place missing)
   pub cursor-same : k′ ≡ k
   pub rows-same : rows′ ≡ rows
@@ -49,7 +48,7 @@ pub record Stayed (h : Facts) (s : List ℕ) (k : Cursor) (rows refs rows′ ref
 -- What a step does, by how it says that it went.
 abbrev pub Does : Facts → List ℕ → Cursor → List ℕ → List ℕ → List ℕ → List ℕ → Cursor → How → Type 0
 Does h s k rows refs rows′ refs′ k′ Goes = Went h s k rows refs rows′ refs′ k′
-Does h s k rows refs rows′ refs′ k′ (Ends reply place) = Stayed h s k rows refs rows′ refs′ k′ reply place
+Does h s k rows refs rows′ refs′ k′ (Ends reply place missing) = Stayed h s k rows refs rows′ refs′ k′ reply place missing
 
 -- Between two steps of a reading that began at the place `at` with the tables rows₀ and refs₀: what is left, from here, is
 -- read as the whole.

@@ -12,22 +12,25 @@ use phd_header::HeaderRead;
 mod records;
 mod tables;
 
-// What a reading answers: the reply and its place, how many rows and references were stored, and the header facts.
+// What a reading answers: the reply and its place, how many bytes the field lacked where the dump is cut, how many rows and
+// references were stored, and the header facts.
 pub struct Reading {
     pub reply: u64,
     pub place: usize,
+    pub missing: usize,
     pub rows: usize,
     pub refs: usize,
     pub facts: Facts,
 }
 
 // The answer of a reading that stops before the records.
-fn nothing(reply: u64) -> Reading
-    ensures { λ r. ⌜ r ≡ answer (nothingOf reply 0) ⌝ }
+fn nothing(reply: u64, missing: usize) -> Reading
+    ensures { λ r. ⌜ r ≡ answer (nothingOf reply missing) ⌝ }
 {
     Reading {
         reply: reply,
         place: 0,
+        missing: missing,
         rows: 0,
         refs: 0,
         facts: Facts {
@@ -51,10 +54,10 @@ pub fn read(dump: &[u8], rows: &mut [u64], refs: &mut [u64]) -> Reading
     ensures refs { λ _. ⌜ now (refs .exit) ≡ stored (now (refs .entry)) (reading (now (dump .entry)) (length (now (rows .entry))) (length (now (refs .entry))) .refs) ⌝ }
 {
     if phd::LIMIT < dump.len() {
-        return nothing(2);
+        return nothing(2, 0);
     }
     match phd_header::read_header(dump) {
         HeaderRead::Is(facts, at) => records::read_records(dump, facts, at, rows, refs),
-        HeaderRead::Stops(w) => nothing(records::reply_of(w)),
+        HeaderRead::Stops(w) => nothing(layout::reply_of(w), layout::missing_of(w)),
     }
 }

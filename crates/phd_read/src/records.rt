@@ -2,7 +2,7 @@
 ghost use mathlib.Core.Path.{_≡_};
 ghost use Prim.Native.Nat.{suc, _+_, _*_, _^_, _<_, _≤_};
 ghost use lib.ListN.{length};
-ghost use Rattle.layout.specs.Layout.{run, reply-of};
+ghost use Rattle.layout.specs.Layout.{run};
 ghost use Rattle.phd.specs.Phd.{limit, row-width, entry, records, first};
 ghost use Rattle.phd.specs.Shapes.{Word};
 ghost use Rattle.phd_record.specs.Found.{found-of};
@@ -12,7 +12,6 @@ ghost use Rattle.phd_read.specs.Answer.{answer};
 ghost use Rattle.phd_read.specs.Stepping.{Fits, Went, Does, advanced};
 use super::Reading;
 use super::tables;
-use layout::Stop;
 use phd::Cache;
 use phd::Facts;
 use phd_record::Found;
@@ -28,25 +27,15 @@ pub struct Cursor {
     pub refs: usize,
 }
 
-// A step goes on, or ends the reading with a reply and its place.
+// A step goes on, or ends the reading with a reply, its place, and how many bytes the field lacked.
 pub enum How {
     Goes,
-    Ends(u64, usize),
+    Ends(u64, usize, usize),
 }
 
 pub struct Stepped {
     pub how: How,
     pub cursor: Cursor,
-}
-
-// The number of a reply, by why reading stops.
-pub fn reply_of(w: Stop) -> u64
-    ensures { λ r. ⌜ r ≡ reply-of w ⌝ }
-{
-    match w {
-        Stop::Cut(_) => 1,
-        Stop::Refused(r) => r,
-    }
 }
 
 // The cursor after a record that was found.
@@ -113,7 +102,7 @@ fn admit(
 {
     if rows.len() - k.rows * phd::ROW < phd::ROW {
         return Stepped {
-            how: How::Ends(13, k.at),
+            how: How::Ends(13, k.at, 0),
             cursor: k,
         };
     }
@@ -121,7 +110,7 @@ fn admit(
     let left = (refs.len() - k.refs) as u64;
     if left < span.count {
         return Stepped {
-            how: How::Ends(14, k.at),
+            how: How::Ends(14, k.at, 0),
             cursor: k,
         };
     }
@@ -141,12 +130,12 @@ pub fn step(s: &[u8], facts: Facts, rows: &mut [u64], refs: &mut [u64], k: Curso
     let what = found.what;
     match what {
         What::Over(n) => Stepped {
-            how: How::Ends(0, n),
+            how: How::Ends(0, n, 0),
             cursor: k,
         },
         What::Record(next) => admit(s, facts, rows, refs, k, next, found),
         What::Stops(w) => Stepped {
-            how: How::Ends(reply_of(w), k.at),
+            how: How::Ends(layout::reply_of(w), k.at, layout::missing_of(w)),
             cursor: k,
         },
     }
@@ -180,10 +169,11 @@ pub fn read_records(
             How::Goes => {
                 cursor = next;
             }
-            How::Ends(reply, place) => {
+            How::Ends(reply, place, missing) => {
                 return Reading {
                     reply: reply,
                     place: place,
+                    missing: missing,
                     rows: next.rows,
                     refs: next.refs,
                     facts: facts,

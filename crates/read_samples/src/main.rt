@@ -2,11 +2,13 @@
 // samples/make.py makes the dumps and works out what is to be printed, from what it put in. For each file:
 //
 //     NAME
-//     reply R place P rows N refs N word W            the reading of the whole file
+//     reply R place P missing M rows N refs N word W  the reading of the whole file
 //     hashed 0|1 openj9 0|1 vm 0|1 place P len N      the header's flags and VM string
 //     row N N N ..                                    each stored row's numbers, in their order
 //     refs N N ..                                     the references, up to eight in a line
-//     cut N reply R place P rows N refs N word W      the first N bytes, where they give another line than N - 1
+//     cut N reply R place P missing M rows N ..       the first N bytes, where they give something else than N - 1,
+//                                                     the missing bytes aside
+//     missing M M ..                                  the missing bytes of every cut, from none on, 32 in a line
 //     rest kept|changed                               the tables behind what each of these readings stored
 //
 // A file that fills the buffer of 4,096 bytes has `too large` in the place of all that.
@@ -64,6 +66,7 @@ fn tried_cut(dump: &[u8], n: usize) -> Trial
     tried(&dump[0..n], &mut rows, &mut refs)
 }
 
+// Whether two readings say the same, but for the missing bytes.
 fn same(a: Reading, b: Reading) -> bool {
     let f = a.facts;
     let g = b.facts;
@@ -107,13 +110,40 @@ fn tell_cuts(dump: &[u8]) -> bool {
     last.kept
 }
 
+// How many bytes are missing of the first n, in lines of 32 such numbers.
+fn tell_lack(dump: &[u8], n: usize)
+    requires { ⌜ n ≤ length (now dump) ⌝ }
+{
+    let t = tried_cut(dump, n);
+    let r = t.reading;
+    if n % 32 == 0 {
+        say(b"missing");
+    }
+    tell(b" ", r.missing as u64);
+    if n % 32 == 31 || n == dump.len() {
+        say(b"\n");
+    }
+}
+
+// How many bytes are missing of every cut of a dump.
+fn tell_missing(dump: &[u8]) {
+    let mut n: usize = 0;
+    while n < dump.len() {
+        tell_lack(dump, n);
+        n += 1;
+    }
+    tell_lack(dump, dump.len());
+}
+
 fn show(dump: &[u8]) {
     let mut rows = [UNTOUCHED; ROWS];
     let mut refs = [UNTOUCHED; REFS];
     let t = tried(dump, &mut rows, &mut refs);
     let r = t.reading;
     tell_whole(r, &rows, &refs);
-    if tell_cuts(dump) && t.kept {
+    let rest = tell_cuts(dump) && t.kept;
+    tell_missing(dump);
+    if rest {
         say(b"rest kept\n");
     } else {
         say(b"rest changed\n");

@@ -25,10 +25,11 @@ fn tell_bit(label: &[u8], b: bool) {
     }
 }
 
-// `reply R place P rows N refs N word W`
+// `reply R place P missing M rows N refs N word W`
 pub fn tell_reading(r: Reading) {
     tell(b"reply ", r.reply);
     tell(b" place ", r.place as u64);
+    tell(b" missing ", r.missing as u64);
     tell(b" rows ", r.rows as u64);
     tell(b" refs ", r.refs as u64);
     let f = r.facts;
@@ -96,7 +97,7 @@ pub fn used(table: &[u64], n: usize, width: usize) -> usize
 
 // What a reading gives, all of it:
 //
-//     reply R place P rows N refs N word W
+//     reply R place P missing M rows N refs N word W
 //     hashed 0|1 openj9 0|1 vm 0|1 place P len N      the header's flags and VM string
 //     row N N N ..                                    each stored row's numbers, in their order
 //     refs N N ..                                     the references, up to eight in a line

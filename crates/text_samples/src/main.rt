@@ -2,12 +2,12 @@
 // samples/make_text.py makes the dumps and works out what is to be printed, from what it put in. For each file:
 //
 //     NAME
-//     reply R place P rows N refs N word W       the reading of the dump
-//     text reply R place P                       what writing its records as text answers
-//     ..                                         the text, if it was not refused
-//     rest kept|changed                          the output behind the text; all of it, if refused
-//     room N reply R place P same|other          the text again, with room for it and no more
-//     room N reply R place P kept|changed        with a byte less; with no room, if it was refused before: all of the output
+//     reply R place P missing M rows N refs N word W  the reading of the dump
+//     text reply R place P                            what writing its records as text answers
+//     ..                                              the text, if it was not refused
+//     rest kept|changed                               the output behind the text; all of it, if refused
+//     room N reply R place P same|other               the text again, with room for it and no more
+//     room N reply R place P kept|changed             with a byte less; with no room, if it was refused: all of the output
 //
 // What a file holds behind its dump may change the tables before the text is written: changes.rt.
 mod changes;

@@ -2,14 +2,14 @@
 // samples/make_write.py makes the tables and works out what is to be printed, from what it put in. For each file:
 //
 //     NAME
-//     reply R place P                                 what the writing answers
-//     bytes HH HH ..                                  the bytes written, up to 32 in a line
-//     again N                                         so many lines more like the one before
-//     rest kept|changed                               the output behind what was written; all of it, if refused
-//     read reply R place P rows N refs N word W       the reading of what was written, if it was not refused
-//     hashed 0|1 openj9 0|1 vm 0|1 place P len N      the header's flags and VM string
-//     row N N N ..                                    each stored row's numbers, in their order
-//     refs N N ..                                     the references, up to eight in a line
+//     reply R place P                                      what the writing answers
+//     bytes HH HH ..                                       the bytes written, up to 32 in a line
+//     again N                                              so many lines more like the one before
+//     rest kept|changed                                    the output behind what was written; all of it, if refused
+//     read reply R place P missing M rows N refs N word W  the reading of what was written, if it was not refused
+//     hashed 0|1 openj9 0|1 vm 0|1 place P len N           the header's flags and VM string
+//     row N N N ..                                         each stored row's numbers, in their order
+//     refs N N ..                                          the references, up to eight in a line
 //
 // How a file holds its tables is said in tables.rt.
 mod tables;

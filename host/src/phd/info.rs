@@ -40,6 +40,9 @@ pub fn status(reading: &Reading) -> Status {
 fn report(reading: &Reading) -> String {
     let mut text = format!("{}: {}\n", reading.name, words::verdict(reading));
     text += &format!("  {}\n", words::stop(reading));
+    if reading.reply() == 1 {
+        text += &format!("  {}\n", words::missing(reading));
+    }
     text += &format!("  {}\n\n", words::around(reading));
     if reading.width() != 0 {
         text += &counts(reading);

@@ -56,6 +56,11 @@ impl Reading {
         self.facts[1]
     }
 
+    /// How many bytes the field lacked in which a cut dump ends.
+    pub fn missing(&self) -> u64 {
+        self.facts[10]
+    }
+
     pub fn size(&self) -> u64 {
         self.dump.len() as u64
     }

@@ -112,6 +112,13 @@ fn cut(reading: &Reading) -> String {
     }
 }
 
+/// Of a cut dump, what is missing at least.
+pub fn missing(reading: &Reading) -> String {
+    let bytes = count(reading.missing(), "byte");
+    let are = if reading.missing() == 1 { "is" } else { "are" };
+    format!("At least {bytes} of the dump {are} missing: what the field at its end still lacked.")
+}
+
 fn refused_header(reply: u64) -> &'static str {
     match reply {
         2 => "The file has more than 1,073,741,824 bytes, the most that a dump may have.",

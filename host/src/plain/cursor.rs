@@ -6,12 +6,18 @@ use super::{Reply, AMOUNT_LIMIT};
 pub(super) struct Cursor<'a> {
     dump: &'a [u8],
     pub at: usize,
+    /// What the field lacked where the bytes ran out; 0 as long as they did not.
+    pub missing: usize,
 }
 
 impl<'a> Cursor<'a> {
     /// Begins at the first byte.
     pub fn new(dump: &'a [u8]) -> Cursor<'a> {
-        Cursor { dump, at: 0 }
+        Cursor {
+            dump,
+            at: 0,
+            missing: 0,
+        }
     }
 
     /// The bytes not yet read.
@@ -19,18 +25,34 @@ impl<'a> Cursor<'a> {
         &self.dump[self.at..]
     }
 
-    /// Takes some bytes.
+    /// The reply where a field of so many bytes is not all there.
+    fn cut(&mut self, size: usize) -> Reply {
+        self.missing = size - self.rest().len();
+        Reply::Cut
+    }
+
+    /// Takes some bytes, all of one field.
     pub fn take(&mut self, count: usize) -> Result<&'a [u8], Reply> {
-        let bytes = self.rest().get(..count).ok_or(Reply::Cut)?;
+        let bytes = self.rest().get(..count).ok_or_else(|| self.cut(count))?;
         self.at += count;
         Ok(bytes)
     }
 
     /// Takes as many bytes as its type says.
     pub fn array<const N: usize>(&mut self) -> Result<[u8; N], Reply> {
-        let bytes = *self.rest().first_chunk().ok_or(Reply::Cut)?;
+        let bytes = *self.rest().first_chunk().ok_or_else(|| self.cut(N))?;
         self.at += N;
         Ok(bytes)
+    }
+
+    /// Takes the bytes of so many values of the code's width, each a field of its own.
+    pub fn values(&mut self, count: usize, code: u8) -> Result<&'a [u8], Reply> {
+        let whole = self.rest().len() >> code;
+        if whole < count {
+            self.at += whole << code;
+            return Err(self.cut(1 << code));
+        }
+        self.take(count << code)
     }
 
     /// Takes a byte.

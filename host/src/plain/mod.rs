@@ -71,6 +71,7 @@ pub fn read(dump: &[u8], rows: &mut [u64], refs: &mut [u64], facts: &mut [u64; 1
     facts[1] = outcome.place as u64;
     facts[2] = outcome.rows as u64;
     facts[3] = outcome.refs as u64;
+    facts[10] = outcome.missing as u64;
     if let Some(header) = outcome.header {
         facts[4] = header.width;
         facts[5] = header.all_hashed.into();

@@ -10,6 +10,8 @@ use super::{
 pub(super) struct Outcome {
     pub reply: Reply,
     pub place: usize,
+    /// What the field lacked where the dump is cut, else 0.
+    pub missing: usize,
     pub rows: usize,
     pub refs: usize,
     /// There once the whole header is read.
@@ -18,10 +20,11 @@ pub(super) struct Outcome {
 
 impl Outcome {
     /// A stop before the body.
-    fn early(reply: Reply) -> Outcome {
+    fn early(reply: Reply, missing: usize) -> Outcome {
         Outcome {
             reply,
             place: 0,
+            missing,
             rows: 0,
             refs: 0,
             header: None,
@@ -32,12 +35,12 @@ impl Outcome {
 /// Reads a dump into the tables.
 pub(super) fn read(dump: &[u8], rows: &mut [u64], refs: &mut [u64]) -> Outcome {
     if dump.len() > DUMP_LIMIT {
-        return Outcome::early(Reply::DumpTooLong);
+        return Outcome::early(Reply::DumpTooLong, 0);
     }
     let mut cursor = Cursor::new(dump);
     let header = match read_header(&mut cursor) {
         Ok(header) => header,
-        Err(reply) => return Outcome::early(reply),
+        Err(reply) => return Outcome::early(reply, cursor.missing),
     };
     let mut body = Body::new(cursor, header);
     let mut tables = Tables::new(rows, refs);
@@ -45,6 +48,7 @@ pub(super) fn read(dump: &[u8], rows: &mut [u64], refs: &mut [u64]) -> Outcome {
     Outcome {
         reply,
         place,
+        missing: body.cursor.missing,
         rows: tables.row_count,
         refs: tables.ref_count,
         header: Some(body.header),
@@ -319,7 +323,7 @@ impl<'a> Body<'a> {
         })?;
         record.ref_count = count;
         record.ref_code = code;
-        record.ref_bytes = self.cursor.take(size)?;
+        record.ref_bytes = self.cursor.values(count, code)?;
         Ok(())
     }
 }

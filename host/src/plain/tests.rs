@@ -2,6 +2,26 @@
 
 use super::{read, text, write, ROW};
 
+/// The widths of the paper's fields, in file order: the header, the four records and the end tag.
+const FIELDS: [usize; 29] = [
+    2, 18, 4, 4, 1, 1, 2, 4, 1, 1, // header
+    1, 1, 2, 4, 4, 2, 1, 4, // class
+    1, 1, 4, 1, // medium object
+    1, 1, // short object
+    1, 1, 1, 4, // primitive array
+    1, // end tag
+];
+
+/// What the field lacks in which the first bytes of the paper's dump end.
+fn missing(cut: usize) -> u64 {
+    let mut end = 0;
+    let mut ends = FIELDS.iter().map(|width| {
+        end += width;
+        end
+    });
+    (ends.find(|end| cut < *end).unwrap() - cut) as u64
+}
+
 /// What stands in the tables before a reading, to see what it changes.
 const UNTOUCHED: u64 = 0xEEEE;
 
@@ -37,7 +57,7 @@ fn dump() -> Vec<u8> {
     dump
 }
 
-/// Reads with room for so many rows; asks for reply, place and count, and that no more changed.
+/// Reads with room for so many rows; asks for reply, place, missing bytes and count, and that no more changed.
 fn expect(dump: &[u8], room: usize, reply: u64, place: u64, count: usize) -> Vec<u64> {
     let mut rows = vec![UNTOUCHED; room * ROW + ROW - 1];
     let mut refs = vec![UNTOUCHED; 3];
@@ -51,7 +71,8 @@ fn expect(dump: &[u8], room: usize, reply: u64, place: u64, count: usize) -> Vec
         [32, 0, 1, 1, 32, 4]
     };
     assert_eq!(facts[..10], [&head[..], &known[..]].concat());
-    assert_eq!(facts[10..], [0; 6]);
+    let missing = if reply == 1 { missing(dump.len()) } else { 0 };
+    assert_eq!(facts[10..], [missing, 0, 0, 0, 0, 0]);
     assert!(rows[count * ROW..]
         .iter()
         .chain(&refs[ref_count..])

@@ -1,6 +1,6 @@
 //! `phd info`.
 
-use crate::trial::{edited, example, Folder, BEGINNINGS};
+use crate::trial::{edited, example, Folder, BEGINNINGS, FIELDS};
 
 #[test]
 fn a_whole_dump() {
@@ -36,6 +36,7 @@ fn the_same_dump_cut_off() {
     let report = "\
 a.phd: cut off (reply 1)
   The file ends inside the record that begins at byte 64 (0x40), after 1 byte of it.
+  At least 1 byte of the dump is missing: what the field at its end still lacked.
   The 2 records before that place were read whole and are right.
 
                            records      references           nulls
@@ -75,13 +76,30 @@ fn ending(size: usize) -> String {
     }
 }
 
+/// What is missing at least of the example's first bytes, in words.
+fn missing(size: usize) -> String {
+    let mut end = 0;
+    for width in FIELDS.concat() {
+        end += width;
+        if size < end {
+            break;
+        }
+    }
+    let bytes = match end - size {
+        1 => "1 byte of the dump is".into(),
+        lacks => format!("{lacks} bytes of the dump are"),
+    };
+    format!("At least {bytes} missing: what the field at its end still lacked.")
+}
+
 #[test]
 fn every_cut() {
     let folder = Folder::new("info-every-cut");
     for size in 0..74 {
         folder.put("a.phd", &example()[..size]);
         let ran = folder.phd(&["info", "a.phd"]).ended(1).quiet();
-        let first = format!("a.phd: cut off (reply 1)\n  {}\n", ending(size));
+        let (ending, missing) = (ending(size), missing(size));
+        let first = format!("a.phd: cut off (reply 1)\n  {ending}\n  {missing}\n");
         assert!(ran.out().starts_with(&first), "{first}{}", ran.out());
         let begun = BEGINNINGS.iter().filter(|place| **place <= size).count();
         let before = match begun {

@@ -15,6 +15,15 @@ pub const RECORDS: [&[u8]; 4] = [
     b"\x80\x04",
     b"\x24\x04\x03\0\0\0\x06",
 ];
+/// The widths of the example's fields, in file order: the header's, those of each record, and the end tag.
+pub const FIELDS: [&[usize]; 6] = [
+    &[2, 18, 4, 4, 1, 1, 2, 4, 1, 1],
+    &[1, 1, 2, 4, 4, 2, 1, 4],
+    &[1, 1, 4, 1],
+    &[1, 1],
+    &[1, 1, 1, 4],
+    &[1],
+];
 /// Where the records and the end tag of the example begin.
 pub const BEGINNINGS: [usize; 5] = [38, 57, 64, 66, 73];
 pub const TEXT: &str = "\

@@ -39,6 +39,11 @@ impl Outcome {
     pub fn place(&self) -> usize {
         self.facts[1] as usize
     }
+
+    /// What the field lacked where a reading was cut.
+    pub fn missing(&self) -> usize {
+        self.facts[10] as usize
+    }
 }
 
 /// What lies in lent memory beforehand.
@@ -177,7 +182,10 @@ fn first_difference<T: PartialEq>(left: &[T], right: &[T]) -> Option<usize> {
 
 /// What holds of every reading: its facts, and that nothing behind what it stored has changed.
 pub fn read_rules(read: &Outcome, salt: u64) -> Result<(), String> {
-    facts_rules(read, 10)?;
+    facts_rules(read, 11)?;
+    if (read.missing() != 0) != (read.reply == 1) {
+        return Err(format!("reply {} lacks {}", read.reply, read.missing()));
+    }
     let (rows, refs) = (&read.tables[0], &read.tables[1]);
     let (row_end, ref_end) = (read.facts[2] as usize * ROW, read.facts[3] as usize);
     if row_end > rows.len() || ref_end > refs.len() {

@@ -1,9 +1,10 @@
 //! What the library promises of cuts, tried on the library itself: a shorter cut's records are the first of a longer one's, what
-//! it settles stays, and a cut of a written dump hands out exactly the records that lie whole within it.
+//! it settles stays, and a cut of a written dump hands out exactly the records that lie whole within it. What it says is missing
+//! is awaited: fewer bytes more change nothing else, and no end tag comes before.
 
 use crate::compare::{make_by, of_dump, read_by, read_rules, Outcome};
 use crate::damage;
-use crate::encode;
+use crate::encode::{self, Encoded};
 use crate::good;
 use crate::run::{run, Case, Kind};
 use crate::same::same_records;
@@ -14,6 +15,10 @@ const CASES: u64 = 120_000;
 
 /// The replies that settle nothing: cut, and no room.
 const OPEN: [u64; 3] = [1, 13, 14];
+
+/// Two cuts of which the longer still lacks some of what is missing, and of which it reaches the end tag.
+const LEFT: i64 = 0;
+const REACHED: i64 = 1;
 
 /// Dumps up to this length are now and then cut at every place.
 const SWEPT: usize = 600;
@@ -40,6 +45,11 @@ fn cuts() {
             tally.rare("read", &replies, 10),
             [0; 0],
             "replies that came too seldom"
+        );
+        assert_eq!(
+            tally.rare("missing", &[LEFT, REACHED], 10_000),
+            [0; 0],
+            "missing bytes that were given too seldom"
         );
     }
 }
@@ -78,6 +88,8 @@ impl Case<'_> {
         let (short, mut long) = (one.min(two), one.max(two));
         if self.dice.one_in(4) {
             long = dump.len();
+        } else if self.dice.one_in(4) {
+            long = dump.len().min(short + self.dice.index(9));
         }
         let rooms = if self.dice.one_in(3) {
             (self.dice.index(full.0 + 1), self.dice.index(full.1 + 1))
@@ -93,7 +105,41 @@ impl Case<'_> {
         let more_read = self.cut(dump, long, more)?;
         let what = format!("cuts {short} and {long}, rooms {rooms:?} and {more:?}");
         kept(&less, &more_read, rooms == more)
+            .and_then(|()| self.awaited(&less, &more_read, short, long))
             .map_err(|told| of_dump(&format!("{what}: {told}"), dump))
+    }
+
+    /// Whether the longer cut says the same with as many fewer missing, where it has fewer bytes more than are missing; and
+    /// where it reaches the end tag, whether what was missing stands before.
+    fn awaited(
+        &mut self,
+        less: &Outcome,
+        more: &Outcome,
+        short: usize,
+        long: usize,
+    ) -> Result<(), String> {
+        if less.reply != 1 || short == long {
+            return Ok(());
+        }
+        let (missing, given) = (less.missing(), long - short);
+        if given < missing {
+            self.tally.count("missing", LEFT);
+            let mut facts = less.facts;
+            facts[10] -= given as u64;
+            if more.facts != facts {
+                return Err(format!(
+                    "{given} of {missing} missing bytes: {:X?}, then {:X?}",
+                    less.facts, more.facts
+                ));
+            }
+        }
+        if more.reply == 0 {
+            self.tally.count("missing", REACHED);
+            if more.place() < short + missing {
+                return Err(format!("{missing} missing, the end at {}", more.place()));
+            }
+        }
+        Ok(())
     }
 
     /// Every cut of a dump, each against the one before.
@@ -102,6 +148,7 @@ impl Case<'_> {
         for cut in 1..=dump.len() {
             let read = self.cut(dump, cut, rooms)?;
             kept(&before, &read, true)
+                .and_then(|()| self.awaited(&before, &read, cut - 1, cut))
                 .map_err(|told| of_dump(&format!("cuts up to {cut}, {rooms:?}: {told}"), dump))?;
             before = read;
         }
@@ -168,11 +215,11 @@ fn written_dumps(case: &mut Case) -> Result<(), String> {
     }
     for _ in 0..4 {
         let cut = case.place(dump, &encoded.starts);
-        handed(case, &lent, dump, &encoded.starts, cut)?;
+        handed(case, &lent, &encoded, cut)?;
     }
     if dump.len() <= SWEPT && case.dice.one_in(20) {
         for cut in 0..=dump.len() {
-            handed(case, &lent, dump, &encoded.starts, cut)?;
+            handed(case, &lent, &encoded, cut)?;
         }
     }
     let rooms = (lent.count() * ROW, lent.refs.len());
@@ -180,13 +227,8 @@ fn written_dumps(case: &mut Case) -> Result<(), String> {
 }
 
 /// One cut of a written dump, with room for all of it.
-fn handed(
-    case: &mut Case,
-    lent: &Tables,
-    dump: &[u8],
-    starts: &[usize],
-    cut: usize,
-) -> Result<(), String> {
+fn handed(case: &mut Case, lent: &Tables, made: &Encoded, cut: usize) -> Result<(), String> {
+    let (dump, starts) = (&made.bytes[..], &made.starts);
     let more = (case.dice.index(20), case.dice.index(3));
     let rooms = (lent.count() * ROW + more.0, lent.refs.len() + more.1);
     let read = case.cut(dump, cut, rooms)?;
@@ -198,12 +240,15 @@ fn handed(
         (true, true) => dump.len(),
     };
     let reply = u64::from(cut < dump.len());
-    let judged = if (read.reply, read.place()) != (reply, place) {
-        let (other, there) = (read.reply, read.place());
-        Err(format!("reply {other} at {there}, not {reply} at {place}"))
+    let missing = if reply == 1 { made.missing(cut) } else { 0 };
+    let judged = if (read.reply, read.place(), read.missing()) != (reply, place, missing) {
+        let (other, there, lacks) = (read.reply, read.place(), read.missing());
+        Err(format!(
+            "reply {other} at {there} lacks {lacks}, not {reply} at {place} and {missing}"
+        ))
     } else if opened {
         same_records(&lent.first_rows(whole), dump, &read)
-    } else if read.facts[2..] == [0; 14] {
+    } else if read.facts[2..10] == [0; 8] {
         Ok(())
     } else {
         Err(format!("facts of a cut header: {:X?}", read.facts))

@@ -6,6 +6,9 @@ use crate::tables::*;
 
 pub const OPENING: &[u8] = b"\x00\x12portable heap dump\x00\x00\x00\x06";
 
+/// Where the fields of the opening end, the flags and the start tag behind it included.
+const OPENING_ENDS: [usize; 5] = [2, 20, 24, 28, 29];
+
 /// A field of a record. A reference of the value `zero` leads to address 0.
 pub struct Mark {
     pub place: usize,
@@ -20,6 +23,8 @@ pub struct Encoded {
     /// Where the records begin, and behind them where the end tag stands.
     pub starts: Vec<usize>,
     pub marks: Vec<Mark>,
+    /// Where the fields end, each of them, in order.
+    ends: Vec<usize>,
     /// The place of each row's name, 0 for a row without.
     pub names: Vec<u64>,
     /// The place of the VM string, 0 without one.
@@ -30,6 +35,12 @@ impl Encoded {
     /// The place after the end tag.
     pub fn end(&self) -> usize {
         self.starts.last().map_or(0, |tag| tag + 1)
+    }
+
+    /// What the field lacks in which the first bytes end, fewer than all up to the end tag.
+    pub fn missing(&self, cut: usize) -> usize {
+        let field = self.ends.partition_point(|end| *end <= cut);
+        self.ends[field] - cut
     }
 }
 
@@ -70,7 +81,7 @@ fn encode(tables: &Tables, dice: Option<&mut Dice>) -> Encoded {
         encoder.before = tables.row(index)[ADDRESS];
     }
     encoder.made.starts.push(encoder.made.bytes.len());
-    encoder.made.bytes.push(3);
+    encoder.byte(3);
     encoder.made
 }
 
@@ -102,11 +113,24 @@ impl Encoder<'_> {
         let flags = wide | flags(1, 2) | flags(2, 4);
         self.made.bytes.extend(OPENING);
         self.made.bytes.extend([0, 0, 0, flags, 1]);
+        self.made.ends.extend(OPENING_ENDS);
         if let Some(vm) = self.tables.vm() {
-            self.made.bytes.push(4);
+            self.byte(4);
             self.made.vm = self.string(vm);
         }
-        self.made.bytes.extend([2, 2]);
+        self.byte(2);
+        self.byte(2);
+    }
+
+    /// A tag or a flag byte.
+    fn byte(&mut self, byte: u8) {
+        self.made.bytes.push(byte);
+        self.end();
+    }
+
+    /// A field ends here.
+    fn end(&mut self) {
+        self.made.ends.push(self.made.bytes.len());
     }
 
     /// True once in so many times where the form is loose.
@@ -162,6 +186,7 @@ impl Encoder<'_> {
         let (place, width) = (self.made.bytes.len(), 1 << code);
         self.made.marks.push(Mark { place, width, zero });
         self.made.bytes.extend(&value.to_be_bytes()[8 - width..]);
+        self.end();
     }
 
     /// The code of a word's width.
@@ -178,6 +203,7 @@ impl Encoder<'_> {
         let place = self.made.bytes.len();
         let middle = place + bytes.len() / 2;
         self.made.bytes.extend(bytes);
+        self.end();
         if !bytes.is_empty() {
             let (width, zero) = (1, 0);
             self.made.marks.push(Mark {
@@ -240,7 +266,7 @@ impl Encoder<'_> {
         let gap = self.gap(index);
         let wide = self.width(least(gap), 1);
         let refs = self.ref_width(index);
-        self.made.bytes.push((tag | wide << 2 | refs) as u8);
+        self.byte((tag | wide << 2 | refs) as u8);
         self.number(wide, gap);
         if with_class {
             self.number(self.word(), row[CLASS] as i64);
@@ -256,7 +282,8 @@ impl Encoder<'_> {
         let (wide, refs) = (self.width(least(gap), 3), self.ref_width(index));
         let flags = (wide << 6 | refs << 4) as u8;
         let flags = flags | self.hash_bits(index) | self.ignored(0x0C);
-        self.made.bytes.extend([tag, flags]);
+        self.byte(tag);
+        self.byte(flags);
         self.number(wide, gap);
         self.number(self.word(), row[CLASS] as i64);
         self.hash(index);
@@ -279,7 +306,8 @@ impl Encoder<'_> {
             let wide = fits > 0 || self.strays(3);
             let flags = (row[TYPE] as u8) << 5 | u8::from(wide) << 4;
             let flags = flags | self.hash_bits(index) | self.ignored(0x0C);
-            self.made.bytes.extend([7, flags]);
+            self.byte(7);
+            self.byte(flags);
             if wide {
                 self.word()
             } else {
@@ -287,9 +315,7 @@ impl Encoder<'_> {
             }
         } else {
             let code = self.width(fits, 3);
-            self.made
-                .bytes
-                .push(0x20 | (row[TYPE] as u8) << 2 | code as u8);
+            self.byte(0x20 | (row[TYPE] as u8) << 2 | code as u8);
             code
         };
         self.number(code, gap);
@@ -304,7 +330,8 @@ impl Encoder<'_> {
         let (wide, refs) = (self.width(least(gap), 3), self.ref_width(index));
         let moved = if row[HASH_KIND] == 2 { 0x08 } else { 0 };
         let flags = (wide << 6 | refs << 4) as u8 | moved | self.ignored(0x07);
-        self.made.bytes.extend([6, flags]);
+        self.byte(6);
+        self.byte(flags);
         self.number(wide, gap);
         self.number(2, row[SIZE] as i64);
         self.hash(index);

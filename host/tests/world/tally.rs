@@ -44,6 +44,7 @@ impl Tally {
             "reference",
             "length",
             "nulls",
+            "missing",
         ] {
             let of_it = self.counts.iter().filter(|((name, _), _)| *name == what);
             let told: Vec<_> = of_it

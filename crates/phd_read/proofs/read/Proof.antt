@@ -52,6 +52,9 @@ enum-known-w c = search needs
 reply-of-requires : tie.Need-reply-of-requires
 reply-of-requires c κs = search needs
 
+missing-of-requires : tie.Need-missing-of-requires
+missing-of-requires c κs = search needs
+
 nothing-requires-2 : tie.Need-nothing-requires-2
 nothing-requires-2 c κs = search needs
 
@@ -71,9 +74,9 @@ returns-2 c =
 returns-3 : tie.Need-returns-3
 unfolding answer nothing stored
 returns-3 c =
-    let d = c .before .before .before in
+    let d = c .before .before .before .before in
     let a = d .before .before .before .before .before .before .before .args in
-    rw (reading-stops (a .dump .now) (length (a .rows .now)) (length (a .refs .now)) _ (within (d .before .before .before)) (refused d), c .nothing2 .ensures, c .before .reply-of .ensures) (refl, (refl, refl))
+    rw (reading-stops (a .dump .now) (length (a .rows .now)) (length (a .refs .now)) _ (within (d .before .before .before)) (refused d), c .nothing2 .ensures, c .before .before .reply-of .ensures, c .before .missing-of .ensures) (refl, (refl, refl))
 
 pub read-spec : {M : Type 1} → statement M
 read-spec =
@@ -86,6 +89,7 @@ read-spec =
     read-records-requires
     enum-known-w
     reply-of-requires
+    missing-of-requires
     nothing-requires-2
     same-length
     same-length-2

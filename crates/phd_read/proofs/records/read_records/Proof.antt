@@ -32,9 +32,9 @@ module _ (c : tie.After-step Inv-loop μ-loop) where
       let a = begin c .args in
       subst (Does (a .facts) (a .s .now) (l .loop .cursor) (l .loop .rows) (l .loop .refs) (c .step .last .1 .1 .0) (c .step .last .1 .1 .1 .0) (c .step .result .cursor)) e (c .step .ensures)
 
-  stayed : (reply place : ℕ) → c .step .result .how ≡ Ends reply place → let l = turn c in let a = begin c .args in
-      Stayed (a .facts) (a .s .now) (l .loop .cursor) (l .loop .rows) (l .loop .refs) (c .step .last .1 .1 .0) (c .step .last .1 .1 .1 .0) (c .step .result .cursor) reply place
-  stayed reply place e =
+  stayed : (reply place missing : ℕ) → c .step .result .how ≡ Ends reply place missing → let l = turn c in let a = begin c .args in
+      Stayed (a .facts) (a .s .now) (l .loop .cursor) (l .loop .rows) (l .loop .refs) (c .step .last .1 .1 .0) (c .step .last .1 .1 .1 .0) (c .step .result .cursor) reply place missing
+  stayed reply place missing e =
       let l = turn c in
       let a = begin c .args in
       subst (Does (a .facts) (a .s .now) (l .loop .cursor) (l .loop .rows) (l .loop .refs) (c .step .last .1 .1 .0) (c .step .last .1 .1 .1 .0) (c .step .result .cursor)) e (c .step .ensures)
@@ -73,18 +73,18 @@ same-length : tie.Need-same-length Inv-loop μ-loop
 same-length c =
     let d = c .before .before .before .before .before .before .before .before in
     let l = turn d in
-    ap length (stayed d _ _ (c .before .how .given .1) .rows-same) ∙ l .loop .inv .rows-long
+    ap length (stayed d _ _ _ (c .before .how .given .1) .rows-same) ∙ l .loop .inv .rows-long
 
 same-length-2 : tie.Need-same-length-2 Inv-loop μ-loop
 same-length-2 c =
     let d = c .before .before .before .before .before .before .before .before in
     let l = turn d in
-    ap length (stayed d _ _ (c .before .how .given .1) .refs-same) ∙ l .loop .inv .refs-long
+    ap length (stayed d _ _ _ (c .before .how .given .1) .refs-same) ∙ l .loop .inv .refs-long
 
 returns : tie.Need-returns Inv-loop μ-loop
 returns c =
     let d = c .before .before .before .before .before .before .before .before in
-    let g = stayed d _ _ (c .before .how .given .1) in
+    let g = stayed d _ _ _ (c .before .how .given .1) in
     (answers (turn d .loop .inv) g, (rows-end (turn d .loop .inv) g, refs-end (turn d .loop .inv) g))
 
 pub read-records-spec : {M : Type 1} → statement M

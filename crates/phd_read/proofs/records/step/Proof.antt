@@ -23,6 +23,9 @@ enum-known-what-3 c = search needs
 reply-of-requires : tie.Need-reply-of-requires
 reply-of-requires c κs = search needs
 
+missing-of-requires : tie.Need-missing-of-requires
+missing-of-requires c κs = search needs
+
 returns : tie.Need-returns
 returns c =
     let d = c .before .before .before .before .before .before .before .before in
@@ -40,9 +43,10 @@ returns-2 c = search needs
 
 returns-3 : tie.Need-returns-3
 returns-3 c =
-    let d = c .before .before .before .before .before .before .before .before .before in
+    let d = c .before .before .before .before .before .before .before .before .before .before in
     let a = d .args in
-    rw (c .reply-of .ensures) (stays-stop (a .facts) (d .pre .0) _ (found-halts (a .k .cache) _ _ (c .before .before .before .before .read-record .ensures) _ (c .before .before .what3 .given .1)))
+    rw (c .before .reply-of .ensures, c .missing-of .ensures)
+    (stays-stop (a .facts) (d .pre .0) _ (found-halts (a .k .cache) _ _ (c .before .before .before .before .before .read-record .ensures) _ (c .before .before .before .what3 .given .1)))
 
 pub step-spec : {M : Type 1} → statement M
 step-spec =
@@ -54,6 +58,7 @@ step-spec =
     admit-requires
     enum-known-what-3
     reply-of-requires
+    missing-of-requires
     returns
     same-length
     same-length-2

@@ -1,8 +1,8 @@
 -- `reply_of` meets its contract.
 use borrow.Author.Needs.{needs}
 use Rattle.layout.specs.Layout.{reply-of}
-use Rattle.phd_read.proofs.records.reply_of.Statement.{statement}
-use Rattle.phd_read.proofs.records.reply_of.Tie as tie
+use Rattle.layout.proofs.reply_of.Statement.{statement}
+use Rattle.layout.proofs.reply_of.Tie as tie
 
 enum-told : tie.Need-enum-told
 enum-told c = search needs
