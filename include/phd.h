@@ -46,7 +46,7 @@ enum phd_fact {
     PHD_VM_THERE = 7,
     PHD_VM_PLACE = 8,
     PHD_VM_LENGTH = 9,
-    PHD_MISSING = 10     /* where the dump is cut: how many bytes the field lacked in which it ends. At least so many are missing */
+    PHD_MISSING = 10     /* of a cut dump: what the field lacked in which it ends. At least so many bytes are missing; else 0 */
 };
 
 /* A header to write, by its place in `header`: W (32 or 64), all objects hashed, from OpenJ9, whether a VM string is there,

@@ -1,7 +1,7 @@
--- 01's dump, and its cases (a) to (j), as one table under one statement, which holds by computing.
--- A reader must believe that the dump and the table are 01's.
+-- 01's dump, and its cases (a) to (j), as one table under one statement, which holds by computing; and what is missing of each
+-- of its cuts. A reader must believe that the dump, the table and the widths are 01's.
 use mathlib.Core.Path.{_≡_, refl}
-use Prim.Native.Nat.{ℕ, _*_}
+use Prim.Native.Nat.{ℕ, zero, suc, _*_}
 use mathlib.Core.Bool.{true, false}
 use mathlib.Core.List.{List, [], _∷_, _++_, map}
 use lib.ListN.{take, set}
@@ -84,3 +84,35 @@ tried c = reading (c .bytes) (c .room * row-width) 1
 pub as-said : map tried cases ≡ map (λ c. c .says) cases
 unfolding computing dump its table case-f cases
 as-said = refl
+
+-- ---- what is missing of every cut
+
+-- the widths of the dump's fields: the header's, the four records' and the end tag's
+unfoldable pub widths : List ℕ
+widths =
+    2 ∷ 18 ∷ 4 ∷ 4 ∷ 1 ∷ 1 ∷ 2 ∷ 4 ∷ 1 ∷ 1
+    ∷ 1 ∷ 1 ∷ 2 ∷ 4 ∷ 4 ∷ 2 ∷ 1 ∷ 4
+    ∷ 1 ∷ 1 ∷ 4 ∷ 1
+    ∷ 1 ∷ 1
+    ∷ 1 ∷ 1 ∷ 1 ∷ 4
+    ∷ 1 ∷ []
+
+-- what a field of so many bytes lacks with none of them, with one, and so on
+unfoldable pub lacking : ℕ → List ℕ
+lacking zero = []
+lacking (suc w) = suc w ∷ lacking w
+
+-- what the first n bytes lack, the first n + 1, and so on, k times
+unfoldable pub missing-from : ℕ → ℕ → List ℕ
+missing-from zero n = []
+missing-from (suc k) n = reading (take n dump) (4 * row-width) 1 .missing ∷ missing-from k (suc n)
+
+-- field after field, and none behind the last
+unfoldable pub each-lacking : List ℕ → List ℕ
+each-lacking [] = 0 ∷ []
+each-lacking (w ∷ ws) = lacking w ++ each-lacking ws
+
+-- At every cut the field at hand lacks the rest of its bytes, and all of the dump lacks none.
+pub every-cut : missing-from 75 0 ≡ each-lacking widths
+unfolding computing dump widths lacking missing-from each-lacking
+every-cut = refl

@@ -21,6 +21,8 @@ int main(void) {
     say("read", read);
     if (read != PHD_DONE && read != PHD_CUT)
         return 1;
+    if ((read == PHD_CUT) != (facts[PHD_MISSING] != 0))
+        return 2;
     uint64_t header[PHD_HEADER];
     for (int i = 0; i < PHD_HEADER; i++)
         header[i] = facts[PHD_W + i];
