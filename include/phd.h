@@ -40,7 +40,7 @@ enum phd_fact {
     PHD_PLACE = 1,
     PHD_ROWS = 2,        /* how many rows were stored */
     PHD_REFERENCES = 3,  /* how many references were stored */
-    PHD_W = 4,           /* 32 or 64; 0 where the header was not read whole, and then the facts below are 0 too */
+    PHD_W = 4,           /* 32 or 64; 0 where the header was not read whole, and then facts 5 to 9 are 0 too */
     PHD_ALL_HASHED = 5,
     PHD_OPENJ9 = 6,
     PHD_VM_THERE = 7,

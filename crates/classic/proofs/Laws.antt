@@ -10,11 +10,12 @@ use lib.Dec.{eqb}
 use lib.ListN.{length, getD}
 use borrow.Author.Tests.{eqb-true, eqb-false}
 use Rattle.layout.specs.Numbers.{both}
+use Rattle.layout.specs.Values.{both-left, both-right}
 use Rattle.layout.proofs.Laws.{part-cons}
 use Rattle.phd.specs.Phd.{same}
 use Rattle.phd_rows.specs.Rows.{name-of}
 use Rattle.phd_rows.specs.Good.{every}
-use Rattle.phd_rows.specs.Kept.{both-left, both-right, length-name-of}
+use Rattle.phd_rows.specs.Kept.{length-name-of}
 use Rattle.phd_rows.specs.declared.Row.{Row}
 use Rattle.phd_rows.specs.declared.Found.{Found}
 use Rattle.phd_rows.proofs.Laws.{joined, both-joined, either-joined}

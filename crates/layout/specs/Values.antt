@@ -10,18 +10,27 @@ use lib.IntN.{ℤ, pos, negsuc}
 use native.Mathlib.Omega.{arith}
 use native.Mathlib.Decide.{decLe}
 use borrow.Author.Tests.{leb-true, ltb-true, eqb-false, not-true}
-use Rattle.layout.specs.Numbers.{pick, value, signed, in-range, moved, counted}
+use Rattle.layout.specs.Numbers.{pick, both, value, signed, in-range, moved, counted}
 use Rattle.layout.specs.Layout.{Layout, yield, refuse, bytes, Outcome, whole, stops, run, run-enough, run-short, run-then, then-inv, onward, run-yield, run-refuse, run-position, inside, _>>=_, position, raw, field, check, need}
 use Rattle.layout.specs.Fields.{exactly, below, address, reference, count, string}
 use Rattle.layout.specs.declared.Stop.the-variants.{Cut, Refused}
 use Rattle.layout.specs.declared.Maybe.{Maybe}
 use Rattle.layout.specs.declared.Maybe.the-variants.{Just, Nothing}
 
--- ---- either way of a test
+-- ---- tests
 
 pub pick-either {ℓ} : {X : Type ℓ} (P : X → Type 0) (b : Bool) (x y : X) → P x → P y → P (pick b x y)
 pick-either P true x y p q = p
 pick-either P false x y p q = q
+
+-- two tests that hold together
+pub both-left : (a b : Bool) → both a b ≡ true → a ≡ true
+both-left true b e = refl
+both-left false b e = e
+
+pub both-right : (a b : Bool) → both a b ≡ true → b ≡ true
+both-right true b e = e
+both-right false b e = let z : _≡_ {A = ℕ} 0 1 = cc in absurd (omega arith)
 
 -- 1 or 0 is at most 1
 pub one-most : (b : Bool) → pick b 1 0 ≤ 1

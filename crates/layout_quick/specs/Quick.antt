@@ -1,7 +1,7 @@
 -- When the references of a record need no judging: its address lies so far from 0 and from the highest that every value of w
 -- bytes leads to a good address. What is proved here is that the layout says the same. Assumes nothing.
 use mathlib.Core.Path.{_≡_, refl}
-use mathlib.Core.Bool.{Bool, true, false}
+use mathlib.Core.Bool.{Bool, true}
 use mathlib.Core.List.{List}
 use Prim.Native.Nat.{ℕ, zero, suc, _+_, _-_, _*_, _^_, _≤_, _<_}
 use native.Mathlib.Nat.{pow-le-pow-right}
@@ -13,6 +13,7 @@ use borrow.Author.Tests.{lt-ltb, le-ltb, le-leb, ne-eqb, ltb-true, leb-true}
 use Rattle.layout.specs.Numbers.{pick, both, value-after, value, signed, moved}
 use Rattle.layout.specs.Layout.{whole, run, run-then, run-field, run-need, run-check, run-yield}
 use Rattle.layout.specs.Fields.{address, reference}
+use Rattle.layout.specs.Values.{both-left, both-right}
 use Rattle.layout.specs.declared.Maybe.the-variants.{Just}
 
 -- how far a value of w bytes reaches: four times half of the numbers that they hold
@@ -29,14 +30,13 @@ target w a v = pick (ltb (v + v) (256 ^ w)) (a + 4 * v) (a - 4 * suc (256 ^ w - 
 
 -- ---- what a clear address is
 
-three : (x y z : Bool) → both x (both y z) ≡ true → (x ≡ true) × (y ≡ true) × (z ≡ true)
-three true true z e = (refl, refl, e)
-three true false z e = let n : _≡_ {A = ℕ} 0 1 = cc in absurd (omega arith)
-three false y z e = let n : _≡_ {A = ℕ} 0 1 = cc in absurd (omega arith)
-
 clear-parts : (w a top : ℕ) → clear w a top ≡ true → (leb w 4 ≡ true) × (ltb (far w) a ≡ true) × (ltb (a + far w) top ≡ true)
 unfolding clear
-clear-parts w a top c = three (leb w 4) (ltb (far w) a) (ltb (a + far w) top) c
+clear-parts w a top c =
+    let x : Bool = leb w 4 in
+    let y : Bool = ltb (far w) a in
+    let z : Bool = ltb (a + far w) top in
+    (both-left x (both y z) c, both-left y z (both-right x (both y z) c), both-right y z (both-right x (both y z) c))
 
 pub clear-narrow : (w a top : ℕ) → clear w a top ≡ true → w ≤ 4
 clear-narrow w a top c = leb-true w 4 (clear-parts w a top c .0)

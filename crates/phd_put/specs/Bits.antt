@@ -8,10 +8,10 @@ use lib.Dec.{ltb, eqb, lit<}
 use native.Mathlib.Omega.{arith}
 use borrow.Author.Tests.{eqb-true, ne-eqb}
 use Rattle.layout.specs.Numbers.{pick, both, either}
+use Rattle.layout.specs.Values.{both-left, both-right}
 use Rattle.layout.specs.declared.Maybe.the-variants.{Just}
 use Rattle.phd.specs.Phd.{bit, slot, moved-bit, hashed-bit}
 use Rattle.phd.specs.declared.classes.Cache.{Cache}
-use Rattle.phd_rows.specs.Kept.{both-left, both-right}
 use Rattle.phd_form.specs.Form.{holds, slot-of, hash-flags, class-flags}
 
 -- ---- hash bits

@@ -18,45 +18,47 @@ use Rattle.phd_read.specs.Replies.{Fine, header-fine, entry-fine, refuse
 
 -- ---- what a reply carries
 
--- What holds of the missing bytes of a reading of the bytes s.
-pub record Missing (s : List ℕ) (r : Result) : Type 0 where
-  -- of a cut: what one field lacks, which begins behind the place or at it, and within the dump
-  pub cut : r .reply ≡ 1 → Lacking s (r .place) (r .missing)
+-- What holds of the missing bytes that a reply comes with, at a place of the bytes s.
+pub record Missing (s : List ℕ) (reply place missing : ℕ) : Type 0 where
+  -- of a cut: what one field lacks, which begins at the place or behind it, and within the dump
+  pub cut : reply ≡ 1 → Lacking s place missing
   -- of every other reply: none
-  pub other : (r .reply ≡ 1 → ⊥) → r .missing ≡ 0
+  pub other : (reply ≡ 1 → ⊥) → missing ≡ 0
 
--- nothing is missing under a reply that is not 1
-none : (s : List ℕ) (r : Result) → (r .reply ≡ 1 → ⊥) → r .missing ≡ 0 → Missing s r
-none s r n e = record { cut = λ h. absurd (n h); other = λ _. e }
+abbrev pub MissingOf : List ℕ → Result → Type 0
+MissingOf s r = Missing s (r .reply) (r .place) (r .missing)
+
+-- none are missing under a reply that is not 1
+none : {s : List ℕ} {reply place : ℕ} → (reply ≡ 1 → ⊥) → Missing s reply place 0
+none n = record { cut = λ h. absurd (n h); other = λ _. refl }
 
 -- a layout that stops is cut and lacks bytes, or has another reply and lacks none
 stop-missing : {A : Type 0} (l : Layout A) → Fine l → (s : List ℕ) (at : ℕ) (w : Stop) → at ≤ length s → run l s at ≡ stops w
-    → (reply-of w ≡ 1 → Lacking s at (missing-of w)) × ((reply-of w ≡ 1 → ⊥) → missing-of w ≡ 0)
+    → Missing s (reply-of w) at (missing-of w)
 unfolding reply-of missing-of
-stop-missing l g s at (Cut n) p e = (λ _. lacks l s at n p e, λ h. absurd (h refl))
-stop-missing l g s at (Refused r) p e = (λ h. let k = refused-known l g s at r e in absurd (omega arith), λ _. refl)
+stop-missing l g s at (Cut n) p e = record { cut = λ _. lacks l s at n p e; other = λ h. absurd (h refl) }
+stop-missing l g s at (Refused r) p e = none (λ h. let k = refused-known l g s at r e in omega arith)
 
 step-missing : (s : List ℕ) (R F : ℕ) (h : Facts) (st : State) → st .at ≤ length s
-    → Either (λ x. x .at ≤ length s) (Missing s) (step h s R F st)
+    → Either (λ x. x .at ≤ length s) (MissingOf s) (step h s R F st)
 unfolding ended
 step-missing s R F h st p =
-    step-by (Either (λ x. x .at ≤ length s) (Missing s)) h s R F st
-    (λ n e. none s _ (λ z. omega arith) refl)
+    step-by (Either (λ x. x .at ≤ length s) (MissingOf s)) h s R F st
+    (λ n e. none (λ z. omega arith))
     (λ r ls a c n e _ _. entry-forth h (st .address) (st .cache) (length (st .refs)) s (st .at) _ n e .1)
-    (none s _ (λ z. omega arith) refl)
-    (none s _ (λ z. omega arith) refl)
-    (λ w e. let m = stop-missing (entry h (st .address) (st .cache) (length (st .refs))) (entry-fine h _ _ _) s (st .at) w p e in
-    record { cut = m .0; other = m .1 })
+    (none (λ z. omega arith))
+    (none (λ z. omega arith))
+    (λ w e. stop-missing (entry h (st .address) (st .cache) (length (st .refs))) (entry-fine h _ _ _) s (st .at) w p e)
 
-pub reading-missing : (s : List ℕ) (R F : ℕ) → Missing s (reading s R F)
+pub reading-missing : (s : List ℕ) (R F : ℕ) → MissingOf s (reading s R F)
 unfolding ended nothing first
 reading-missing s R F =
-    reading-holds s R F (λ h st. st .at ≤ length s) (Missing s)
-    (none s _ (λ z. omega arith) refl)
-    (λ w e. let m = stop-missing header header-fine s 0 w (omega arith) e in record { cut = m .0; other = m .1 })
+    reading-holds s R F (λ h st. st .at ≤ length s) (MissingOf s)
+    (none (λ z. omega arith))
+    (λ w e. stop-missing header header-fine s 0 w (omega arith) e)
     (λ h n e. inside header s 0 h n (omega arith) e)
-    (λ h st p. step-missing s R F h st p)
-    (λ h st p. none s _ (λ z. omega arith) refl)
+    (step-missing s R F)
+    (λ h st p. none (λ z. omega arith))
 
 -- ---- fewer bytes more than are missing
 

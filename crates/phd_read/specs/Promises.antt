@@ -16,7 +16,7 @@ use Rattle.phd_read.specs.Answer.{answer}
 use Rattle.phd_read.specs.Cut.{Begins, Final, Agree, more-agree, cuts-agree}
 use Rattle.phd_read.specs.Ranges.{addresses, reading-ranged}
 use Rattle.phd_read.specs.Lengths.{AllMeasured, reading-measured}
-use Rattle.phd_read.specs.Missing.{Missing, less-missing, reading-missing, reading-waits, reading-needs}
+use Rattle.phd_read.specs.Missing.{MissingOf, less-missing, reading-missing, reading-waits, reading-needs}
 use Rattle.phd_read.specs.Replies.{reading-answers}
 use Rattle.phd_read.specs.Rooms.{reading-keeps, counts}
 
@@ -112,7 +112,7 @@ cuts-seen b m n rows rows′ refs refs′ h l p q =
 -- ---- how much is missing
 
 -- Reply 1 carries what one field lacks where the dump ends, and every other reply 0.
-pub missing : (s : List ℕ) (R F : ℕ) → Missing s (reading s R F)
+pub missing : (s : List ℕ) (R F : ℕ) → MissingOf s (reading s R F)
 missing = reading-missing
 
 -- Fewer bytes more than are missing, within the size limit and read into tables at least as roomy, leave all that the reading

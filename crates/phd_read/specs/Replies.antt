@@ -2,16 +2,16 @@
 -- Assumes nothing.
 use mathlib.Core.Path.{_≡_, refl}
 use Prim.Native.Nat.{ℕ, zero, suc, _≤_}
-use mathlib.Core.Bool.{Bool, true, false}
+use mathlib.Core.Bool.{true}
 use mathlib.Core.List.{List, []}
 use lib.ListN.{length}
 use lib.Dec.{leb, eqb, lit≤}
 use native.Mathlib.Omega.{arith}
 use borrow.Author.Tests.{leb-true}
-use Rattle.layout.specs.Numbers.{pick}
+use Rattle.layout.specs.Numbers.{both}
 use Rattle.layout.specs.Layout.{Layout, stops, run, reply-of}
 use Rattle.layout.specs.Fields.{no-text}
-use Rattle.layout.specs.Values.{Refuses, refuses-yield, refuses-refuse, refuses-then, refuses-pick, refuses-field, refuses-raw, refuses-position, refuses-check, refuses-need, refuses-exactly, refuses-below, refuses-address, refuses-reference, refuses-count, refuses-string}
+use Rattle.layout.specs.Values.{both-left, both-right, Refuses, refuses-yield, refuses-refuse, refuses-then, refuses-pick, refuses-field, refuses-raw, refuses-position, refuses-check, refuses-need, refuses-exactly, refuses-below, refuses-address, refuses-reference, refuses-count, refuses-string}
 use Rattle.layout.specs.declared.Stop.{Stop}
 use Rattle.layout.specs.declared.Stop.the-variants.{Cut, Refused}
 use Rattle.phd.specs.Phd.{opening-bytes, preamble, after-vm, header-records, header, formed, flag-byte, front, middle, class-name, link-count, references, links, true-length, tail, over, linked, fields, record-of, entry, ended, nothing, reading}
@@ -24,15 +24,7 @@ use Rattle.phd_read.specs.Steps.{Either, step-by, reading-holds}
 
 -- a reply to what was read and is refused
 abbrev Known : ℕ → Type 0
-Known r = pick (leb 3 r) (leb r 12) false ≡ true
-
-known-range : (r : ℕ) → Known r → (3 ≤ r) × (r ≤ 12)
-known-range r h = by (leb 3 r) (leb r 12) refl refl h
-  where
-    by : (x y : Bool) → leb 3 r ≡ x → leb r 12 ≡ y → pick x y false ≡ true → (3 ≤ r) × (r ≤ 12)
-    by true true e f g = (leb-true _ _ e, leb-true _ _ f)
-    by true false e f g = let z : _≡_ {A = ℕ} 0 1 = cc in absurd (omega arith)
-    by false y e f g = let z : _≡_ {A = ℕ} 0 1 = cc in absurd (omega arith)
+Known r = both (leb 3 r) (leb r 12) ≡ true
 
 -- a layout that refuses with such a reply only
 abbrev pub Fine : {A : Type 0} → Layout A → Type 0
@@ -135,9 +127,11 @@ entry-fine h before c index =
 
 -- ---- the reading
 
--- where such a layout refuses, the reply is neither 0 nor 1
+-- such a layout refuses with a reply that is neither 0 nor 1
 pub refused-known : {A : Type 0} (l : Layout A) → Fine l → (s : List ℕ) (at r : ℕ) → run l s at ≡ stops (Refused r) → (3 ≤ r) × (r ≤ 12)
-refused-known l g s at r e = known-range r (g .each s at r e)
+refused-known l g s at r e =
+    let k : Known r = g .each s at r e in
+    (leb-true _ _ (both-left (leb 3 r) (leb r 12) k), leb-true _ _ (both-right (leb 3 r) (leb r 12) k))
 
 abbrev Answers : ℕ → Type 0
 Answers r = r ≤ 14

@@ -10,8 +10,9 @@ use mathlib.Core.List.{List, [], _∷_}
 use lib.Dec.{ltb, eqb}
 use lib.ListN.{length, getD}
 use borrow.Author.Tests.{leb-true, ltb-true, eqb-true, eqb-false, not-true}
-use Rattle.layout.specs.Numbers.{pick, both, within}
+use Rattle.layout.specs.Numbers.{pick, within}
 use Rattle.layout.specs.Lent.{length-part}
+use Rattle.layout.specs.Values.{both-left, both-right}
 use Rattle.layout.specs.declared.Text.{Text}
 use Rattle.phd.specs.Phd.{highest, hash-bytes}
 use Rattle.phd.specs.Shapes.{Word}
@@ -63,14 +64,6 @@ pub record Lent (names refs : List ℕ) (r : Row) : Type 0 where
   pub short : r .namelen < 65536
 
 -- ---- tests that hold
-
-pub both-left : (a b : Bool) → both a b ≡ true → a ≡ true
-both-left true b e = refl
-both-left false b e = e
-
-pub both-right : (a b : Bool) → both a b ≡ true → b ≡ true
-both-right true b e = e
-both-right false b e = let z : _≡_ {A = ℕ} 0 1 = cc in absurd (omega arith)
 
 -- each test of a list of which every one holds
 pub every-at : (bs : List Bool) → every bs ≡ true → (i : ℕ) → getD bs i true ≡ true

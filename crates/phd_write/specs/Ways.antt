@@ -10,12 +10,13 @@ use lib.Dec.{leb}
 use native.Mathlib.Omega.{arith}
 use borrow.Author.Tests.{le-leb, lt-leb, leb-true, leb-false}
 use Rattle.layout.specs.Numbers.{both}
+use Rattle.layout.specs.Values.{both-left, both-right}
 use Rattle.phd.specs.Phd.{limit, row-width}
 use Rattle.phd.specs.declared.Facts.{Facts}
 use Rattle.phd_rows.specs.Rows.{bare, refs-of, rec-of, row-at, recs-from, row-count, recs}
 use Rattle.phd_rows.specs.Good.{good-header, first-bad, bad-of}
 use Rattle.phd_rows.specs.Judged.{Outcome, refused, done, judged, checked, checked-stops, AllRight, Exact, exact}
-use Rattle.phd_rows.specs.Kept.{both-left, both-right, good-of, lent-of, none-bad, word-of, vm-of}
+use Rattle.phd_rows.specs.Kept.{good-of, lent-of, none-bad, word-of, vm-of}
 use Rattle.phd_rows.specs.declared.Found.the-variants.{Nowhere}
 use Rattle.phd_rows.specs.declared.Written.{Written}
 use Rattle.phd_write.specs.Write.{has-room, writing}
