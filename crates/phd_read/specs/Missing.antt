@@ -1,7 +1,7 @@
 -- How much is missing. Reply 1 carries what one field lacks where the dump ends, and every other reply 0. Fewer bytes more than
 -- that change nothing but how many are missing; and a dump that goes on to its end has as many more at least.
 -- Assumes nothing.
-use mathlib.Core.Path.{_≡_, refl, sym, ap}
+use mathlib.Core.Path.{_≡_, refl, _∙_}
 use Prim.Native.Nat.{ℕ, zero, suc, _+_, _-_, _≤_, _<_}
 use mathlib.Core.List.{List, _++_}
 use lib.ListN.{length, length-append}
@@ -85,23 +85,45 @@ module _ (h : Facts) (s : List ℕ) (R F : ℕ) (st : State) where
       stop-cut
 
 module _ (h : Facts) (s t : List ℕ) (R R′ F F′ : ℕ) (p : R ≤ R′) (q : F ≤ F′) where
-  records-wait : (f : ℕ) (st : State) → length t < records f h s R F st .missing
-      → records f h (s ++ t) R′ F′ st ≡ less-missing (length t) (records f h s R F st)
-  unfolding records ended reply-of missing-of
-  records-wait zero st l = absurd (omega arith)
-  records-wait (suc f) st l = by-step (step h s R F st) refl (step-follows h s t R R′ F F′ p q st) (step-cut h s R F st) (records-wait f)
+  -- A reading that ends with bytes missing: it reached a state where a record is cut, and over the longer run it reaches the same.
+  record Reached (f : ℕ) (st : State) : Type 0 where
+    pub state : State
+    pub left : ℕ
+    pub lack : ℕ
+    pub cut : found h s state ≡ stops (Cut lack)
+    pub is : records f h s R F st ≡ ended h state 1 (state .at) lack
+    pub on : records f h (s ++ t) R′ F′ st ≡ records (suc left) h (s ++ t) R′ F′ state
+
+  reached : (f : ℕ) (st : State) → 0 < records f h s R F st .missing → Reached f st
+  unfolding records ended
+  reached zero st l = absurd (omega arith)
+  reached (suc f) st l = by-step (step h s R F st) refl (step-follows h s t R R′ F F′ p q st) (step-cut h s R F st) (reached f)
     where
       by-step : (n : Next) → step h s R F st ≡ n → Follows st n (step h (s ++ t) R′ F′ st) → Cut-here h s R F st n
-          → ((st′ : State) → length t < records f h s R F st′ .missing → records f h (s ++ t) R′ F′ st′ ≡ less-missing (length t) (records f h s R F st′))
-          → records (suc f) h (s ++ t) R′ F′ st ≡ less-missing (length t) (records (suc f) h s R F st)
+          → ((st′ : State) → 0 < records f h s R F st′ .missing → Reached f st′) → Reached (suc f) st
       by-step (go st′) e g c ih =
-          let m : length t < records f h s R F st′ .missing = rw (records-go f h s R F st st′ e) at l in
-          rw (records-go f h s R F st st′ e, records-go f h (s ++ t) R′ F′ st st′ g) (ih st′ m)
+          let x = ih st′ (rw (records-go f h s R F st st′ e) at l) in
+          record {
+            state = x .state;
+            left = x .left;
+            lack = x .lack;
+            cut = x .cut;
+            is = records-go f h s R F st st′ e ∙ x .is;
+            on = records-go f h (s ++ t) R′ F′ st st′ g ∙ x .on;
+          }
       by-step (halt r) e g c ih =
-          let m : length t < r .missing = rw (records-halt f h s R F st r e) at l in
-          let x = c (omega arith) in
-          let y = waits (entry h (st .address) (st .cache) (length (st .refs))) s t (st .at) (r .missing) (x .0) m in
-          rw (records-halt f h s R F st r e, records-halt f h (s ++ t) R′ F′ st _ (step-stop h (s ++ t) R′ F′ st _ y)) (sym (ap (less-missing (length t)) (x .1)))
+          let x = c (rw (records-halt f h s R F st r e) at l) in
+          record { state = st; left = f; lack = r .missing; cut = x .0; is = records-halt f h s R F st r e ∙ x .1; on = refl }
+
+  records-wait : (f : ℕ) (st : State) → length t < records f h s R F st .missing
+      → records f h (s ++ t) R′ F′ st ≡ less-missing (length t) (records f h s R F st)
+  unfolding ended reply-of missing-of
+  records-wait f st l =
+      let x = reached f st (omega arith) in
+      let y : State = x .state in
+      let m : length t < x .lack = rw (x .is) at l in
+      let w = waits (entry h (y .address) (y .cache) (length (y .refs))) s t (y .at) (x .lack) (x .cut) m in
+      rw (x .is, x .on, records-halt (x .left) h (s ++ t) R′ F′ y _ (step-stop h (s ++ t) R′ F′ y _ w))
 
 opened-waits : (s t : List ℕ) (R R′ F F′ : ℕ) → R ≤ R′ → F ≤ F′ → length t < opened s R F (run header s 0) .missing
     → opened (s ++ t) R′ F′ (run header (s ++ t) 0) ≡ less-missing (length t) (opened s R F (run header s 0))
@@ -166,42 +188,31 @@ unfolding reply-of
 stop-some l g s at (Cut n) e z = omega arith
 stop-some l g s at (Refused r) e z = let k = refused-known l g s at r e in omega arith
 
-module _ (h : Facts) (s t : List ℕ) (R R′ F F′ : ℕ) (p : R ≤ R′) (q : F ≤ F′) where
-  -- where a record is cut, a longer run that is read to its end goes on behind what is missing
-  cut-needs : (f n : ℕ) (st : State) → found h s st ≡ stops (Cut n) → records (suc f) h (s ++ t) R′ F′ st .reply ≡ 0
-      → length s + n ≤ records (suc f) h (s ++ t) R′ F′ st .place
-  unfolding ended
-  cut-needs f n st e z = by (found h (s ++ t) st) refl
-    where
-      l : Layout Item
-      l = entry h (st .address) (st .cache) (length (st .refs))
+-- where a record is cut, a longer run that is read to its end goes on behind what is missing
+cut-needs : (h : Facts) (s t : List ℕ) (R F f n : ℕ) (st : State) → found h s st ≡ stops (Cut n) → records (suc f) h (s ++ t) R F st .reply ≡ 0
+    → length s + n ≤ records (suc f) h (s ++ t) R F st .place
+unfolding ended
+cut-needs h s t R F f n st e z = by (found h (s ++ t) st) refl
+  where
+    l : Layout Item
+    l = entry h (st .address) (st .cache) (length (st .refs))
 
-      by : (o : Outcome Item) → found h (s ++ t) st ≡ o → length s + n ≤ records (suc f) h (s ++ t) R′ F′ st .place
-      by (whole i m) g =
-          let a : length s + n ≤ m = needs l s t (st .at) n i m e g in
-          let b : m ≤ records (suc f) h (s ++ t) R′ F′ st .place = reaches h (s ++ t) R′ F′ f st i m g z in
-          omega arith
-      by (stops w) g =
-          absurd (stop-some l (entry-fine h _ _ _) (s ++ t) (st .at) w g
-          (rw (records-halt f h (s ++ t) R′ F′ st _ (step-stop h (s ++ t) R′ F′ st w g)) at z))
+    by : (o : Outcome Item) → found h (s ++ t) st ≡ o → length s + n ≤ records (suc f) h (s ++ t) R F st .place
+    by (whole i m) g =
+        let a : length s + n ≤ m = needs l s t (st .at) n i m e g in
+        let b : m ≤ records (suc f) h (s ++ t) R F st .place = reaches h (s ++ t) R F f st i m g z in
+        omega arith
+    by (stops w) g =
+        absurd (stop-some l (entry-fine h _ _ _) (s ++ t) (st .at) w g
+        (rw (records-halt f h (s ++ t) R F st _ (step-stop h (s ++ t) R F st w g)) at z))
 
-  records-need : (f : ℕ) (st : State) → 0 < records f h s R F st .missing → records f h (s ++ t) R′ F′ st .reply ≡ 0
-      → length s + records f h s R F st .missing ≤ records f h (s ++ t) R′ F′ st .place
-  unfolding records ended
-  records-need zero st l z = absurd (omega arith)
-  records-need (suc f) st l z = by-step (step h s R F st) refl (step-follows h s t R R′ F F′ p q st) (step-cut h s R F st) (records-need f)
-    where
-      by-step : (n : Next) → step h s R F st ≡ n → Follows st n (step h (s ++ t) R′ F′ st) → Cut-here h s R F st n
-          → ((st′ : State) → 0 < records f h s R F st′ .missing → records f h (s ++ t) R′ F′ st′ .reply ≡ 0
-          → length s + records f h s R F st′ .missing ≤ records f h (s ++ t) R′ F′ st′ .place)
-          → length s + records (suc f) h s R F st .missing ≤ records (suc f) h (s ++ t) R′ F′ st .place
-      by-step (go st′) e g c ih =
-          let m : 0 < records f h s R F st′ .missing = rw (records-go f h s R F st st′ e) at l in
-          let y : records f h (s ++ t) R′ F′ st′ .reply ≡ 0 = rw (records-go f h (s ++ t) R′ F′ st st′ g) at z in
-          rw (records-go f h s R F st st′ e, records-go f h (s ++ t) R′ F′ st st′ g) (ih st′ m y)
-      by-step (halt r) e g c ih =
-          let m : 0 < r .missing = rw (records-halt f h s R F st r e) at l in
-          rw (records-halt f h s R F st r e) (cut-needs f (r .missing) st (c m .0) z)
+records-need : (h : Facts) (s t : List ℕ) (R R′ F F′ : ℕ) → R ≤ R′ → F ≤ F′ → (f : ℕ) (st : State)
+    → 0 < records f h s R F st .missing → records f h (s ++ t) R′ F′ st .reply ≡ 0
+    → length s + records f h s R F st .missing ≤ records f h (s ++ t) R′ F′ st .place
+unfolding ended
+records-need h s t R R′ F F′ p q f st l z =
+    let x = reached h s t R R′ F F′ p q f st l in
+    rw (x .is, x .on) (cut-needs h s t R′ F′ (x .left) (x .lack) (x .state) (x .cut) (rw (x .on) at z))
 
 opened-needs : (s t : List ℕ) (R R′ F F′ : ℕ) → R ≤ R′ → F ≤ F′ → 0 < opened s R F (run header s 0) .missing
     → opened (s ++ t) R′ F′ (run header (s ++ t) 0) .reply ≡ 0
