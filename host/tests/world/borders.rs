@@ -1,4 +1,4 @@
-//! The borders of the widths and the kinds of nulls, and how often tables meet them.
+//! The borders of the widths, the kinds of nulls and the missing bytes, and how often they are met.
 
 use crate::encode::gap;
 use crate::tables::*;
@@ -22,6 +22,15 @@ pub const GAPS: [i64; 12] = [
 
 /// The same of a length, which ends with an int.
 pub const LENGTHS: [i64; 5] = [127, 128, 32_767, 32_768, (1 << 31) - 1];
+
+/// What a cut lacks: each number of bytes that a number may lack, and more, which only a string does.
+pub const MISSING: [i64; 9] = [1, 2, 3, 4, 5, 6, 7, 8, MORE];
+const MORE: i64 = 9;
+
+/// Counts what a cut lacks.
+pub fn note_missing(missing: usize, tally: &mut Tally) {
+    tally.count("missing", MORE.min(missing as i64));
+}
 
 /// What is met of nulls: an array with none, with some, with nothing else; several arrays with nulls; more than an int holds.
 pub const NULLS: [i64; 5] = [NONE, SOME, ALL, SEVERAL, MANY];

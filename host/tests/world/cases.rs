@@ -1,7 +1,7 @@
 //! Random cases: valid and spoiled tables, loosely encoded, damaged and senseless dumps, and rooms too small by one, on the
 //! library and on the plain implementation, compared in full.
 
-use crate::borders::{self, GAPS, LENGTHS, NULLS};
+use crate::borders::{self, GAPS, LENGTHS, MISSING, NULLS};
 use crate::compare::{self, of_dump, of_tables, Job, Outcome, TEXT, WRITE};
 use crate::damage;
 use crate::dice::Dice;
@@ -49,6 +49,7 @@ fn cases() {
         tally.rare("reference", &GAPS, LEAST),
         tally.rare("length", &LENGTHS, LEAST),
         tally.rare("nulls", &NULLS, LEAST),
+        tally.rare("missing", &MISSING, LEAST),
     ];
     assert_eq!(
         rare.concat(),
@@ -61,6 +62,9 @@ impl Case<'_> {
     fn read(&mut self, dump: &[u8], rooms: (usize, usize)) -> Result<Outcome, String> {
         let read = compare::read(dump, rooms, self.dice.any())?;
         self.tally.count("read", read.reply as i64);
+        if read.reply == 1 {
+            borders::note_missing(read.missing(), self.tally);
+        }
         Ok(read)
     }
 

@@ -47,7 +47,7 @@ fn cuts() {
             "replies that came too seldom"
         );
         assert_eq!(
-            tally.rare("missing", &[LEFT, REACHED], 10_000),
+            tally.rare("awaited", &[LEFT, REACHED], 10_000),
             [0; 0],
             "missing bytes that were given too seldom"
         );
@@ -123,7 +123,7 @@ impl Case<'_> {
         }
         let (missing, given) = (less.missing(), long - short);
         if given < missing {
-            self.tally.count("missing", LEFT);
+            self.tally.count("awaited", LEFT);
             let mut facts = less.facts;
             facts[10] -= given as u64;
             if more.facts != facts {
@@ -134,7 +134,7 @@ impl Case<'_> {
             }
         }
         if more.reply == 0 {
-            self.tally.count("missing", REACHED);
+            self.tally.count("awaited", REACHED);
             if more.place() < short + missing {
                 return Err(format!("{missing} missing, the end at {}", more.place()));
             }

@@ -45,6 +45,7 @@ impl Tally {
             "length",
             "nulls",
             "missing",
+            "awaited",
         ] {
             let of_it = self.counts.iter().filter(|((name, _), _)| *name == what);
             let told: Vec<_> = of_it
