@@ -1,6 +1,6 @@
 -- What holds of every layout when the dump is cut or goes on: what was settled stays (`keeps`); a cut says how many bytes
--- one field lacks (`lacks`, `waits`, `needs`); a value whose end lies within a cut is read from the cut (`fits`); and one whose end
--- lies beyond it is a cut there (`stops-short`). Each is proved once, by the four clauses of the language.
+-- one field lacks (`lacks`, `waits`, `needs`); a value whose end lies within a cut is read from the cut (`fits`); and one whose
+-- end lies beyond it is a cut there (`stops-short`). Each is proved once, by the four clauses of the language.
 -- Assumes nothing.
 use mathlib.Core.Path.{_≡_, refl, sym}
 use Prim.Native.Nat.{ℕ, _+_, _-_, _≤_, _<_}
@@ -179,15 +179,13 @@ fits (refuse r) s at m a e h g = h
 fits (here k) s at m a e h g = fits (k at) s at m a e h g
 fits (bytes n k) s at m a e h g = fits-bytes n k s at (λ b. fits (k b) s (at + n)) m a e h g
 
--- a cut at m, in a field that ends by e
-pub record Cut-short {A : Type 0} (o : Outcome A) (m e : ℕ) : Type 0 where
+-- a cut, whatever it lacks
+pub record Cut-short {A : Type 0} (o : Outcome A) : Type 0 where
   pub lack : ℕ
   pub is : o ≡ stops (Cut lack)
-  pub some : 0 < lack
-  pub most : m + lack ≤ e
 
 abbrev Shortens : {A : Type 0} → Layout A → List ℕ → ℕ → Type 0
-Shortens {A} l s at = (m : ℕ) (a : A) (e : ℕ) → run l s at ≡ whole a e → at ≤ m → m < e → Cut-short (run l (take m s) at) m e
+Shortens {A} l s at = (m : ℕ) (a : A) (e : ℕ) → run l s at ≡ whole a e → at ≤ m → m < e → Cut-short (run l (take m s) at)
 
 short-bytes : {A : Type 0} (n : ℕ) (k : List ℕ → Layout A) (s : List ℕ) (at : ℕ) → ((b : List ℕ) → Shortens (k b) s (at + n))
     → Shortens (bytes n k) s at
@@ -199,18 +197,16 @@ short-bytes {A} n k s at ih m a e h p g = elim (decLe (at + n) m) [ yes y ↦ la
     rest : run (k (take n (drop at s))) s (at + n) ≡ whole a e
     rest = rw (run-enough n k s at l) at h
 
-    now : m < at + n → Cut-short (run (bytes n k) (take m s) at) m e
+    now : m < at + n → Cut-short (run (bytes n k) (take m s) at)
     now y =
         let u = l in
-        let z : at + n ≤ e = forth (k (take n (drop at s))) s (at + n) a e rest in
-        let x : length (take m s) ≡ m = simp length-take (omega arith) in
-        let q : length (take m s) < at + n = omega arith in
-        record { lack = at + n - length (take m s); is = run-short n k (take m s) at q; some = omega arith; most = omega arith }
+        let q : length (take m s) < at + n = simp length-take (omega arith) in
+        record { lack = at + n - length (take m s); is = run-short n k (take m s) at q }
 
-    later : at + n ≤ m → Cut-short (run (bytes n k) (take m s) at) m e
+    later : at + n ≤ m → Cut-short (run (bytes n k) (take m s) at)
     later y = rw (enough-take n k s at m y l) (ih (take n (drop at s)) m a e rest y g)
 
--- What was read whole, and ends beyond the cut, is a cut there, and lacks what is left of one of its fields.
+-- What was read whole, and ends beyond the cut, is a cut there.
 pub stops-short : {A : Type 0} (l : Layout A) (s : List ℕ) (at : ℕ) → Shortens l s at
 unfolding run
 stops-short (yield b) s at m a e h p g = let z : at ≡ e = cc in absurd (omega arith)

@@ -1,4 +1,4 @@
-//! The scope paper's whole dump, its cuts and its text; the nulls of arrays.
+//! The scope paper's whole dump, its cuts and what they lack, and its text; the nulls of arrays.
 
 use super::{read, text, write, ROW};
 
