@@ -14,12 +14,12 @@ use Rattle.phd_rows.specs.Good.{every, good-vm, good-header, good-hash, good-cl
 use Rattle.phd_rows.specs.Judged.{refused, done, judged}
 use Rattle.phd_counts.specs.Cases.{row-of}
 use Rattle.phd_counts.specs.Counts.{nulls-of, sum-from, nulls}
-use Rattle.classic.specs.Classic.{ascii, places-in, places, decimal, capital, numeral, address, first-from, is-class-at, is-class-named, is-lost, found-row, letters, signature, array-type, naming, type-of, bytes-of, word-of, first-line, listed, second-line, row-lines, version, breakdown, totals, ended, lines, text-of, texting}
+use Rattle.classic.specs.Classic.{ascii, places-in, places, decimal, capital, numeral, address, first-from, is-class-at, is-class-named, is-lost, found-row, letters, signature, array-type, naming, type-of, bytes-of, word-of, first-line, listed, second-line, row-lines, version, breakdown, totals, ended, lines, text-of, texting, text-sizing}
 use Prim.Native.String.{String}
 
 -- for a proof by computing: whoever unfolds this unfolds all that a text is made of
 unfoldable pub computing : Unit {0}
-unfolding within limit bit highest same hash-bytes row-at refs-of name-of row-count every good-vm good-header good-hash good-class no-name good-object good-array good-primitive good-kind good-place good-span good-numbers good-ref good-refs good-row first-bad refused done judged nulls-of sum-from nulls places-in places decimal capital numeral address first-from is-class-at is-class-named is-lost found-row letters signature array-type naming type-of bytes-of word-of first-line listed second-line row-lines version breakdown totals ended lines text-of texting
+unfolding within limit bit highest same hash-bytes row-at refs-of name-of row-count every good-vm good-header good-hash good-class no-name good-object good-array good-primitive good-kind good-place good-span good-numbers good-ref good-refs good-row first-bad refused done judged nulls-of sum-from nulls places-in places decimal capital numeral address first-from is-class-at is-class-named is-lost found-row letters signature array-type naming type-of bytes-of word-of first-line listed second-line row-lines version breakdown totals ended lines text-of texting text-sizing
 computing = tt
 
 -- 01's lines
@@ -51,6 +51,11 @@ as-said = refl
 pub too-small : texting (it .facts) dump (it .refs) (it .rows) 279 ≡ refused 17 0
 unfolding computing reads-computing dump
 too-small = refl
+
+-- asking for its size counts its bytes
+pub counted : text-sizing (it .facts) dump (it .refs) (it .rows) ≡ record { reply = 0; place = 280 }
+unfolding computing reads-computing dump
+counted = refl
 
 -- ---- an object array with nulls
 

@@ -20,6 +20,7 @@ use Rattle.phd_rows.specs.Judged.{Outcome, judged}
 use Rattle.phd_rows.specs.declared.Row.{Row}
 use Rattle.phd_rows.specs.declared.Found.{Found}
 use Rattle.phd_rows.specs.declared.Found.the-variants.{At, Nowhere}
+use Rattle.phd_rows.specs.declared.Written.{Written}
 use Rattle.phd_counts.specs.Counts.{one-of, count-of, sum, nulls}
 
 -- ---- characters and numbers
@@ -208,3 +209,9 @@ unfoldable pub texting : Facts → (names refs rows : List ℕ) → ℕ → Outc
 texting h names refs rows room =
     let text : List ℕ = text-of h names refs rows in
     judged (good-header h names rows refs) (bad-of h names refs rows) (first-row (is-lost rows) rows) (leb (length text) room) text
+
+-- What asking for the size of that text answers: the same tests in the same order, with no room asked for. With 0 the place is how
+-- many bytes the text has.
+unfoldable pub text-sizing : Facts → (names refs rows : List ℕ) → Written
+text-sizing h names refs rows =
+    judged (good-header h names rows refs) (bad-of h names refs rows) (first-row (is-lost rows) rows) true (text-of h names refs rows) .answer

@@ -1,6 +1,6 @@
--- The promises about the text, of `texting`, in reading order.
+-- The promises about the text, of `texting` and of asking for its size, in reading order.
 -- A reader must believe the statements and their records, and those of Firsts. Assumes nothing.
-use mathlib.Core.Path.{_≡_, refl}
+use mathlib.Core.Path.{_≡_, refl, ap, _∙_}
 use mathlib.Core.Logic.{_↔_, _⊎_}
 use Prim.Native.Nat.{ℕ, zero, suc, _+_, _*_, _≤_, _<_}
 use native.Mathlib.Omega.{arith}
@@ -9,20 +9,23 @@ use mathlib.Core.List.{List, [], _∷_}
 use lib.ListN.{length, length-append}
 use lib.Dec.{leb}
 use borrow.Author.Tests.{le-leb, lt-leb, leb-true, leb-false}
+use Rattle.layout.specs.Lent.{stored, stored-all}
 use Rattle.layout_put.specs.Put.{join}
 use Rattle.phd.specs.declared.Facts.{Facts}
 use Rattle.phd_rows.specs.Rows.{row-count}
 use Rattle.phd_rows.specs.Good.{good-header, bad-of}
 use Rattle.phd_rows.specs.Judged.{Outcome, done, AllRight, Exact as ByTests}
+use Rattle.phd_rows.specs.Asked.{Split}
 use Rattle.phd_rows.specs.declared.Found.the-variants.{At, Nowhere}
+use Rattle.phd_rows.specs.declared.Written.{Written}
 use Rattle.phd_counts.specs.Counts.{sum, nulls, tally-of}
 use Rattle.phd_counts.specs.Exact.{with-nulls, exact as all-exact}
-use Rattle.classic.specs.Classic.{ascii, figure, first-row, is-class-at, class-at, is-lost, row-lines, totals, lines, text-of, texting}
+use Rattle.classic.specs.Classic.{ascii, figure, first-row, is-class-at, class-at, is-lost, row-lines, totals, lines, text-of, texting, text-sizing}
 use Rattle.classic.specs.Fine.{all-linked}
 use Rattle.classic_text.specs.Parts.{version-text, rows-size, trailers-by, text-parts}
 use Rattle.classic_text.specs.Sizes.{rows-long}
 use Rattle.classic.specs.Firsts.{First, None, ClassRow, Classless, first-is, none-is, class-row-is, classless-is}
-use Rattle.classic_text.specs.Ways.{by-tests}
+use Rattle.classic_text.specs.Ways.{by-tests, as-written, asked-split}
 
 -- ---- each reply exactly in its case
 
@@ -74,6 +77,44 @@ exact h names refs rows room = record {
 
     t : ByTests (good-header h names rows refs) (bad-of h names refs rows) (first-row (is-lost rows) rows) (leb (length text) room) text (texting h names refs rows room)
     t = by-tests h names refs rows room
+
+-- ---- asking for the size first
+
+-- What holds of what asking answers of these tables.
+pub record Asks (h : Facts) (names refs rows : List ℕ) (asked : Written) : Type 0 where
+  -- it is what a text answers whose output is just as long as it: so each reply comes exactly in its case, as above
+  pub as-written : asked ≡ texting h names refs rows (length (text-of h names refs rows)) .answer
+  -- 0: the header is good, no row is bad and none lacks its class; the place is how many bytes the text has
+  pub done : (asked .reply ≡ 0) ↔ ((AllRight h names refs rows) × (first-row (is-lost rows) rows ≡ Nowhere))
+  pub count : asked .reply ≡ 0 → asked .place ≡ length (text-of h names refs rows)
+  -- 17 never: a text has no limit but the output
+  pub no-limit : asked .reply ≡ 17 → ⊥
+
+pub asks : (h : Facts) (names refs rows : List ℕ) → Asks h names refs rows (text-sizing h names refs rows)
+asks h names refs rows = record {
+  as-written = e;
+  done = rw e (λ z. let s = x .done .0 z in (s .0, s .1), λ s. x .done .1 (s .0, s .1, omega arith));
+  count = rw e (λ z. x .place-0 z ∙ ap length (x .bytes z));
+  no-limit = rw e (λ z. let s = x .no-room .0 z in omega (arith, s .2));
+}
+  where
+    x : Exact h names refs rows (length (text-of h names refs rows)) (texting h names refs rows (length (text-of h names refs rows)))
+    x = exact h names refs rows (length (text-of h names refs rows))
+
+    e : text-sizing h names refs rows ≡ texting h names refs rows (length (text-of h names refs rows)) .answer
+    e = as-written h names refs rows
+
+-- Of any room: the text answers 0 exactly where asking answers 0 and the output holds its count, with the same place; any other
+-- refusal is the same from both (Asked.Split, of phd_rows).
+pub split : (h : Facts) (names refs rows : List ℕ) (room : ℕ) → Split (text-sizing h names refs rows) room (texting h names refs rows room)
+split h names refs rows room = asked-split h names refs rows _ room refl
+
+-- An output that is just as long as the count is enough: the text fills it.
+pub just-enough : (h : Facts) (names refs rows out : List ℕ) → text-sizing h names refs rows .reply ≡ 0 → length out ≡ text-sizing h names refs rows .place
+    → stored out (texting h names refs rows (length out) .bytes) ≡ text-of h names refs rows
+just-enough h names refs rows out z l =
+    let d = split h names refs rows (length out) .done .1 (z, omega arith) in
+    rw (exact h names refs rows (length out) .bytes d) (stored-all out (text-of h names refs rows) (l ∙ asks h names refs rows .count z))
 
 -- ---- the first row without its class, and the class row of an address
 

@@ -1,20 +1,23 @@
 -- A text by its tests, and what good tables give the functions.
 -- Assumes nothing.
-use mathlib.Core.Path.{_≡_}
+use mathlib.Core.Path.{_≡_, refl, sym, ap}
 use Prim.Native.Nat.{ℕ, _+_, _^_, _≤_, _<_}
 use native.Mathlib.Omega.{arith}
+use mathlib.Core.Bool.{Bool, true, false}
 use mathlib.Core.List.{List}
 use lib.ListN.{length}
 use lib.Dec.{leb}
 use borrow.Author.Tests.{le-leb, lt-leb}
+use Rattle.layout.specs.Numbers.{both}
 use Rattle.phd.specs.declared.Facts.{Facts}
 use Rattle.phd_rows.specs.Good.{good-header, bad-of}
-use Rattle.phd_rows.specs.Judged.{Outcome, refused, done, judged, checked, classed, checked-stops, classed-stops, AllRight, Exact, exact}
+use Rattle.phd_rows.specs.Judged.{Outcome, refused, done, judged, checked, classed, AllRight, Exact, exact}
+use Rattle.phd_rows.specs.Asked.{Split, asked-checked, asked-classed, asked-counts, asked-split as by-asked}
 use Rattle.phd_rows.specs.Kept.{Vm, vm-lent, vm-of, word-of, few-rows, few-refs}
 use Rattle.phd_rows.specs.declared.Found.{Found}
 use Rattle.phd_rows.specs.declared.Found.the-variants.{Nowhere}
 use Rattle.phd_rows.specs.declared.Written.{Written}
-use Rattle.classic.specs.Classic.{first-row, is-lost, text-of, texting}
+use Rattle.classic.specs.Classic.{first-row, is-lost, text-of, texting, text-sizing}
 use Rattle.classic.specs.Fine.{all-short, all-linked}
 use Rattle.classic_text.specs.Parts.{version-text, rows-size}
 use Rattle.classic_text.specs.Sizes.{version-most, rows-size-most}
@@ -36,15 +39,6 @@ module _ (h : Facts) (names refs rows : List ℕ) (room : ℕ) where
   unfolding texting
   by-tests = exact _ _ _ _ _
 
-  -- by the first two tests, and by the third
-  pub check-stops : (w : Written) → w ≡ checked (good-header h names rows refs) (bad-of h names refs rows) → (w .reply ≡ 0 → ⊥) → given ≡ refused (w .reply) (w .place)
-  unfolding texting
-  check-stops w e z = checked-stops _ _ _ _ _ w e z
-
-  pub class-stops : AllRight h names refs rows → (w : Written) → w ≡ classed lost → (w .reply ≡ 0 → ⊥) → given ≡ refused (w .reply) (w .place)
-  unfolding texting
-  class-stops a w e z = rw (a .0, a .1) (classed-stops lost (leb (length text) room) text w e z)
-
   pub no-room : AllRight h names refs rows → lost ≡ Nowhere → room < length text → given ≡ refused 17 0
   unfolding texting judged
   no-room a f l = rw (a .0, a .1, f, lt-leb _ _ l)
@@ -52,6 +46,48 @@ module _ (h : Facts) (names refs rows : List ℕ) (room : ℕ) where
   pub fits : AllRight h names refs rows → lost ≡ Nowhere → length text ≤ room → given ≡ done text
   unfolding texting judged
   fits a f l = rw (a .0, a .1, f, le-leb _ _ l)
+
+-- ---- asking for the size
+
+alone : (b : Bool) → b ≡ both b true
+alone true = refl
+alone false = refl
+
+module _ (h : Facts) (names refs rows : List ℕ) where
+  -- by the first two tests, and by the third
+  pub check-stops : (w : Written) → w ≡ checked (good-header h names rows refs) (bad-of h names refs rows) → (w .reply ≡ 0 → ⊥) → w ≡ text-sizing h names refs rows
+  unfolding text-sizing
+  check-stops w e z = asked-checked _ _ _ _ _ w e z
+
+  pub class-stops : AllRight h names refs rows → (w : Written) → w ≡ classed (first-row (is-lost rows) rows) → (w .reply ≡ 0 → ⊥) → w ≡ text-sizing h names refs rows
+  unfolding text-sizing
+  class-stops a w e z = asked-classed _ _ _ _ _ (a .0) (a .1) w e z
+
+  pub counts : AllRight h names refs rows → first-row (is-lost rows) rows ≡ Nowhere
+      → record { reply = 0; place = length (text-of h names refs rows) } ≡ text-sizing h names refs rows
+  unfolding text-sizing
+  counts a f = asked-counts _ _ _ _ _ (a .0) (a .1) f refl
+
+  -- asking is a text with just as much room as it takes
+  pub as-written : text-sizing h names refs rows ≡ texting h names refs rows (length (text-of h names refs rows)) .answer
+  unfolding texting text-sizing
+  as-written =
+      ap (λ b. judged (good-header h names rows refs) (bad-of h names refs rows) (first-row (is-lost rows) rows) b (text-of h names refs rows) .answer)
+      (sym (le-leb (length (text-of h names refs rows)) (length (text-of h names refs rows)) (omega arith)))
+
+  -- a text asks for room beside all that asking asks
+  pub as-asked : (room : ℕ) → texting h names refs rows room
+      ≡ judged (good-header h names rows refs) (bad-of h names refs rows) (first-row (is-lost rows) rows) (both (leb (length (text-of h names refs rows)) room) true) (text-of h names refs rows)
+  unfolding texting
+  as-asked room =
+      ap (λ b. judged (good-header h names rows refs) (bad-of h names refs rows) (first-row (is-lost rows) rows) b (text-of h names refs rows))
+      (alone (leb (length (text-of h names refs rows)) room))
+
+  -- what it says of a text
+  module _ (w : Written) (room : ℕ) (e : w ≡ text-sizing h names refs rows) where
+    pub asked-split : Split w room (texting h names refs rows room)
+    unfolding text-sizing
+    asked-split = rw (as-asked room) (by-asked _ _ _ _ _ w room e)
 
 -- ---- good tables
 

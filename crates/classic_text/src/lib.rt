@@ -1,11 +1,13 @@
-// Writing tables as classic text: the public operation `text`.
-// Its contract is one equation with the definition for the answer, and one for the output.
+// Writing tables as classic text: the public operations `text_size`, which asks how many bytes it takes, and `text`.
+// The contract of the first is one equation with the definition; that of the second one for the answer, and one for the output.
 ghost use mathlib.Core.Path.{_≡_};
 ghost use lib.ListN.{length};
 ghost use Rattle.layout.specs.Lent.{stored};
 ghost use Rattle.phd_rows.specs.Judged.{AllRight};
 ghost use Rattle.phd_rows.specs.declared.Found.the-variants.{Nowhere};
-ghost use Rattle.classic.specs.Classic.{first-row, is-lost, texting};
+ghost use Rattle.classic.specs.Classic.{first-row, is-lost, texting, text-sizing};
+ghost use Rattle.classic_text.specs.Measures.{Measures, Counted};
+use phd_counts::Tally;
 use phd_rows::Header;
 use phd_rows::Written;
 
@@ -13,16 +15,67 @@ mod rows;
 mod trailers;
 mod version;
 
-// Puts the text of good tables in which every row has its class, if there is room for it.
-fn fit(header: Header, rows: &[u64], refs: &[u64], names: &[u8], out: &mut [u8]) -> Written
+// What is found of a text before a byte of it is put: its refusal, or its size and the counts that its trailers say.
+enum Measured {
+    Refused(Written),
+    Sized(usize, Tally),
+}
+
+// The size of the text of good tables in which every row has its class.
+fn count(header: Header, rows: &[u64], refs: &[u64], names: &[u8]) -> Measured
     requires { ⌜ AllRight header (now names) (now refs) (now rows) ⌝ }
     requires { ⌜ first-row (is-lost (now rows)) (now rows) ≡ Nowhere ⌝ }
-    ensures is { λ r. ⌜ r ≡ texting header (now (names .entry)) (now (refs .entry)) (now (rows .entry)) (length (now (out .entry))) .answer ⌝ }
-    ensures out { λ _. ⌜ now (out .exit) ≡ stored (now (out .entry)) (texting header (now (names .entry)) (now (refs .entry)) (now (rows .entry)) (length (now (out .entry))) .bytes) ⌝ }
+    ensures { λ r. ⌜ Measures header (now (names .entry)) (now (refs .entry)) (now (rows .entry)) r ⌝ }
 {
     let tally = phd_counts::count_all(rows);
     let first = version::size(names, header.vm);
     let size = rows::size(header.word, names, rows, first) + trailers::size(tally);
+    Measured::Sized(size, tally)
+}
+
+// Checks the header, the rows and their classes, and sizes their text.
+fn measure(header: Header, rows: &[u64], refs: &[u64], names: &[u8]) -> Measured
+    ensures { λ r. ⌜ Measures header (now (names .entry)) (now (refs .entry)) (now (rows .entry)) r ⌝ }
+{
+    let checked = phd_rows::check(header, names, refs, rows);
+    if checked.reply != 0 {
+        return Measured::Refused(checked);
+    }
+    let classed = classic::check_classes(rows);
+    if classed.reply != 0 {
+        return Measured::Refused(classed);
+    }
+    count(header, rows, refs, names)
+}
+
+// Asks how many bytes the whole rows of a table and their references take as classic text: everything is checked as for `text`,
+// and nothing is written.
+pub fn text_size(header: Header, rows: &[u64], refs: &[u64], names: &[u8]) -> Written
+    ensures { λ r. ⌜ r ≡ text-sizing header (now (names .entry)) (now (refs .entry)) (now (rows .entry)) ⌝ }
+{
+    match measure(header, rows, refs, names) {
+        Measured::Refused(refusal) => refusal,
+        Measured::Sized(size, _) => Written {
+            reply: 0,
+            place: size,
+        },
+    }
+}
+
+// Puts the text of good tables in which every row has its class, if there is room for it. Its size and its counts are known.
+fn fit(
+    size: usize,
+    tally: Tally,
+    header: Header,
+    rows: &[u64],
+    refs: &[u64],
+    names: &[u8],
+    out: &mut [u8],
+) -> Written
+    requires { ⌜ Counted header (now names) (now refs) (now rows) size tally ⌝ }
+    ensures is { λ r. ⌜ r ≡ texting header (now (names .entry)) (now (refs .entry)) (now (rows .entry)) (length (now (out .entry))) .answer ⌝ }
+    ensures out { λ _. ⌜ now (out .exit) ≡ stored (now (out .entry)) (texting header (now (names .entry)) (now (refs .entry)) (now (rows .entry)) (length (now (out .entry))) .bytes) ⌝ }
+{
     if out.len() < size {
         return Written {
             reply: 17,
@@ -44,13 +97,8 @@ pub fn text(header: Header, rows: &[u64], refs: &[u64], names: &[u8], out: &mut 
     ensures is { λ r. ⌜ r ≡ texting header (now (names .entry)) (now (refs .entry)) (now (rows .entry)) (length (now (out .entry))) .answer ⌝ }
     ensures out { λ _. ⌜ now (out .exit) ≡ stored (now (out .entry)) (texting header (now (names .entry)) (now (refs .entry)) (now (rows .entry)) (length (now (out .entry))) .bytes) ⌝ }
 {
-    let checked = phd_rows::check(header, names, refs, rows);
-    if checked.reply != 0 {
-        return checked;
+    match measure(header, rows, refs, names) {
+        Measured::Refused(refusal) => refusal,
+        Measured::Sized(size, tally) => fit(size, tally, header, rows, refs, names, out),
     }
-    let classed = classic::check_classes(rows);
-    if classed.reply != 0 {
-        return classed;
-    }
-    fit(header, rows, refs, names, out)
 }

@@ -4,9 +4,9 @@ use mathlib.Core.Path.{_≡_, refl}
 use Prim.Native.Nat.{ℕ, _+_, _≤_}
 use native.Mathlib.Nat.{zero-add}
 use native.Mathlib.Omega.{arith}
-use mathlib.Core.List.{List, [], _++_}
+use mathlib.Core.List.{List, [], _++_, append-nil}
 use lib.ListN.{length, take, drop, length-take, length-drop}
-use lib.Seq.{sets, sets-eq}
+use lib.Seq.{sets, sets-eq, drop-length}
 
 -- a lent table in which xs was stored from its start; the rest stays as it was
 unfoldable pub stored : List ℕ → List ℕ → List ℕ
@@ -16,6 +16,11 @@ stored table xs = xs ++ drop (length xs) table
 pub stored-none : (table : List ℕ) → stored table [] ≡ table
 unfolding stored
 stored-none table = refl
+
+-- what is as long as the table is all that it then holds
+pub stored-all : (table xs : List ℕ) → length table ≡ length xs → stored table xs ≡ xs
+unfolding stored
+stored-all table xs e = rw (← e, drop-length table) (append-nil xs)
 
 -- what was stored one number after another, from the place 0 on
 pub stored-whole : (table xs : List ℕ) → length xs ≤ length table → sets table 0 xs ≡ stored table xs

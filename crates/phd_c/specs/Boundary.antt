@@ -33,6 +33,6 @@ read-facts r =
     r .reply ∷ r .place ∷ r .rows ∷ r .refs ∷ f .word ∷ flag (f .hashed) ∷ flag (f .openj9) ∷ flag (f .vm .there) ∷ f .vm .place ∷ f .vm .len
     ∷ r .missing ∷ 0 ∷ 0 ∷ 0 ∷ 0 ∷ 0 ∷ []
 
--- the numbers of a writing's answer: reply and place
+-- the numbers of the answer of a writing, or of asking for its size: reply and place
 unfoldable pub written-facts : Written → List ℕ
 written-facts w = w .reply ∷ w .place ∷ 0 ∷ 0 ∷ 0 ∷ 0 ∷ 0 ∷ 0 ∷ 0 ∷ 0 ∷ 0 ∷ 0 ∷ 0 ∷ 0 ∷ 0 ∷ 0 ∷ []

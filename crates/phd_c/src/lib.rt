@@ -1,13 +1,13 @@
-// The C boundary: reading, writing and text for callers in C or Rust. A slice is a pointer and a length, a number has 64 bits,
-// and nothing is allocated. Each function's contract is that of the operation it calls, with the answer as numbers
+// The C boundary: reading, writing and text, and asking how many bytes these two take, for callers in C or Rust. A slice is a
+// pointer and a length, a number has 64 bits, and nothing is allocated. Each function's contract is that of the operation it calls, with the answer as numbers
 // (specs/Boundary.antt).
 ghost use mathlib.Core.Path.{_≡_};
 ghost use lib.ListN.{length};
 ghost use Rattle.layout.specs.Lent.{stored};
 ghost use Rattle.phd.specs.Phd.{reading};
 ghost use Rattle.phd_read.specs.Answer.{answer};
-ghost use Rattle.phd_write.specs.Write.{writing};
-ghost use Rattle.classic.specs.Classic.{texting};
+ghost use Rattle.phd_write.specs.Write.{writing, write-sizing};
+ghost use Rattle.classic.specs.Classic.{texting, text-sizing};
 ghost use Rattle.phd_c.specs.Boundary.{flag as flagOf, header as headerOf, read-facts, written-facts};
 use layout::Text;
 use phd_read::Reading;
@@ -66,7 +66,7 @@ fn of_reading(r: Reading) -> [u64; 16]
     ]
 }
 
-// A writing's answer as numbers.
+// The answer of a writing, or of asking for its size, as numbers.
 fn of_written(w: Written) -> [u64; 16]
     ensures { λ x. ⌜ x ≡ written-facts w ⌝ }
 {
@@ -108,6 +108,23 @@ pub extern "C" fn phd_read(
     r.reply
 }
 
+// Asks how many bytes lent tables take as a dump.
+#[no_mangle]
+pub extern "C" fn phd_write_size(
+    header: &[u64; 6],
+    rows: &[u64],
+    refs: &[u64],
+    names: &[u8],
+    facts: &mut [u64; 16],
+) -> u64
+    ensures is { λ r. ⌜ r ≡ write-sizing (headerOf (now (header .entry))) (now (names .entry)) (now (refs .entry)) (now (rows .entry)) .reply ⌝ }
+    ensures facts { λ _. ⌜ now (facts .exit) ≡ written-facts (write-sizing (headerOf (now (header .entry))) (now (names .entry)) (now (refs .entry)) (now (rows .entry))) ⌝ }
+{
+    let w = phd_write::write_size(header_of(header), rows, refs, names);
+    *facts = of_written(w);
+    w.reply
+}
+
 // Writes lent tables as a dump.
 #[no_mangle]
 pub extern "C" fn phd_write(
@@ -123,6 +140,23 @@ pub extern "C" fn phd_write(
     ensures facts { λ _. ⌜ now (facts .exit) ≡ written-facts (writing (headerOf (now (header .entry))) (now (names .entry)) (now (refs .entry)) (now (rows .entry)) (length (now (out .entry))) .answer) ⌝ }
 {
     let w = phd_write::write(header_of(header), rows, refs, names, out);
+    *facts = of_written(w);
+    w.reply
+}
+
+// Asks how many bytes lent tables take as classic text.
+#[no_mangle]
+pub extern "C" fn phd_text_size(
+    header: &[u64; 6],
+    rows: &[u64],
+    refs: &[u64],
+    names: &[u8],
+    facts: &mut [u64; 16],
+) -> u64
+    ensures is { λ r. ⌜ r ≡ text-sizing (headerOf (now (header .entry))) (now (names .entry)) (now (refs .entry)) (now (rows .entry)) .reply ⌝ }
+    ensures facts { λ _. ⌜ now (facts .exit) ≡ written-facts (text-sizing (headerOf (now (header .entry))) (now (names .entry)) (now (refs .entry)) (now (rows .entry))) ⌝ }
+{
+    let w = classic_text::text_size(header_of(header), rows, refs, names);
     *facts = of_written(w);
     w.reply
 }

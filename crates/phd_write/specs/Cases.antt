@@ -11,11 +11,11 @@ use Rattle.phd_rows.specs.Good.{every, good-vm, good-header, good-hash, good-cl
 use Rattle.phd_rows.specs.Judged.{refused, done, judged}
 use Rattle.phd_form.specs.Form.{holds, slot-of, measure, flagged, object-form, form-of, tag-of, hash-flags, class-flags, flags-of, planned}
 use Rattle.phd_put.specs.Record.{put-tag, put-front, put-middle, put-name, put-links, put-tail, put-fields, put-planned, plan-of, put-record, cache-after}
-use Rattle.phd_write.specs.Write.{header-flags, put-vm, put-preamble, put-header, put-records, put-dump, has-room, writing}
+use Rattle.phd_write.specs.Write.{header-flags, put-vm, put-preamble, put-header, put-records, put-dump, has-room, writing, write-sizing}
 
 -- for a proof by computing: whoever unfolds this unfolds all that a writing is made of
 unfoldable pub computing : Unit {0}
-unfolding within be gap complement fits code widest links limit bit highest opening empty put hash-bytes width shape row-at refs-of name-of bare rec-of recs-from row-count recs every good-vm good-header good-hash good-class no-name good-object good-array good-primitive good-kind good-place good-span good-numbers good-ref good-refs good-row first-bad holds slot-of measure flagged object-form form-of tag-of hash-flags class-flags flags-of planned put-tag put-front put-middle put-name put-links put-tail put-fields put-planned plan-of put-record cache-after header-flags put-vm put-preamble put-header put-records put-dump refused done judged has-room writing
+unfolding within be gap complement fits code widest links limit bit highest opening empty put hash-bytes width shape row-at refs-of name-of bare rec-of recs-from row-count recs every good-vm good-header good-hash good-class no-name good-object good-array good-primitive good-kind good-place good-span good-numbers good-ref good-refs good-row first-bad holds slot-of measure flagged object-form form-of tag-of hash-flags class-flags flags-of planned put-tag put-front put-middle put-name put-links put-tail put-fields put-planned plan-of put-record cache-after header-flags put-vm put-preamble put-header put-records put-dump refused done judged has-room writing write-sizing
 computing = tt
 
 -- its rows and references, with the dump itself as the name bytes, and room for its 74 bytes and no more
@@ -27,3 +27,8 @@ written = refl
 pub too-small : writing its dump (0x1020 ∷ []) (table 0x1010 0x1020 0x1030) 73 ≡ record { answer = record { reply = 17; place = 0 }; bytes = [] }
 unfolding computing dump its table
 too-small = refl
+
+-- asking for its size counts its bytes
+pub counted : write-sizing its dump (0x1020 ∷ []) (table 0x1010 0x1020 0x1030) ≡ record { reply = 0; place = 74 }
+unfolding computing dump its table
+counted = refl

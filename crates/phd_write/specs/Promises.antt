@@ -1,8 +1,8 @@
--- The promises about writing, of `writing` and of the reading of what was written, in reading order.
+-- The promises about writing, of `writing`, of asking for its size, and of the reading of what was written, in reading order.
 -- A reader must believe the statements and their records. Assumes nothing.
 use mathlib.Core.Path.{_≡_, refl, ap, _∙_}
 use mathlib.Core.Logic.{_↔_, _⊎_, inl, inr}
-use Prim.Native.Nat.{ℕ, _*_, _≤_}
+use Prim.Native.Nat.{ℕ, _*_, _≤_, _<_}
 use mathlib.Core.Bool.{true, false}
 use mathlib.Core.List.{List, [], _++_, append-nil}
 use lib.ListN.{length, take, drop, length-append}
@@ -13,18 +13,20 @@ use borrow.Author.Tests.{le-leb}
 use Rattle.layout.specs.Numbers.{pick}
 use Rattle.phd.specs.Phd.{limit, row-width, empty, Result, reading}
 use Rattle.phd.specs.declared.Facts.{Facts}
-use Rattle.layout.specs.Lent.{stored}
+use Rattle.layout.specs.Lent.{stored, stored-all}
 use Rattle.phd_read.specs.Answer.{answer}
 use Rattle.phd_rows.specs.Rows.{Rec, vm-text, recs-from, row-count, recs}
 use Rattle.phd_rows.specs.Good.{good-vm, good-header, bad-of}
 use Rattle.phd_rows.specs.Judged.{Outcome, done, AllRight, Exact as ByTests}
+use Rattle.phd_rows.specs.Asked.{Split}
 use Rattle.phd_rows.specs.declared.Found.the-variants.{At, Nowhere}
-use Rattle.phd_write.specs.Write.{put-header, put-records, put-dump, has-room, writing}
+use Rattle.phd_rows.specs.declared.Written.{Written}
+use Rattle.phd_write.specs.Write.{put-header, put-records, put-dump, has-room, writing, write-sizing}
 use Rattle.phd_write.specs.Terms.{dump-of, TooLong, Ends, all-refs, kept}
 use Rattle.phd_write.specs.Within.{within-all, ends-behind, records-end}
 use Rattle.phd_write.specs.HeaderBack.{written-facts, vm-kept, vm-stands}
 use Rattle.phd_write.specs.Whole.{ReadsCut, reads-cut, kept-count, kept-records}
-use Rattle.phd_write.specs.Ways.{length-recs, rows-enough, refs-lent, has, lacks, has-it, lacks-it, by-tests, said-0, good-dump}
+use Rattle.phd_write.specs.Ways.{length-recs, rows-enough, refs-lent, has, lacks, has-it, lacks-it, by-tests, said-0, good-dump, as-written, asked-split, held}
 
 -- ---- each reply exactly in its case
 
@@ -75,6 +77,50 @@ exact h names refs rows room = record {
     four (inr (inr (inl e))) = inr (inr (inl e))
     four (inr (inr (inr (inl e)))) = inr (inr (inr e))
     four (inr (inr (inr (inr e)))) = let s = t .class (writing h names refs rows room .answer .place) .0 (e, refl) in let z : _≡_ {A = ℕ} 0 1 = cc (s .2) in absurd (omega arith)
+
+-- ---- asking for the size first
+
+-- What holds of what asking answers of these tables.
+pub record Asks (h : Facts) (names refs rows : List ℕ) (asked : Written) : Type 0 where
+  -- it is what a writing answers whose output is as long as the size limit: so each reply comes exactly in its case, as above
+  pub as-written : asked ≡ writing h names refs rows limit .answer
+  -- 0: the header is good and no row is bad, and the dump is within the size limit; the place is how many bytes it has
+  pub done : (asked .reply ≡ 0) ↔ ((AllRight h names refs rows) × (length (dump-of h names refs rows) ≤ limit))
+  pub count : asked .reply ≡ 0 → asked .place ≡ length (dump-of h names refs rows)
+  -- 17: all that is good, and the dump is over the size limit
+  pub over-limit : (asked .reply ≡ 17) ↔ ((AllRight h names refs rows) × (limit < length (dump-of h names refs rows)))
+
+pub asks : (h : Facts) (names refs rows : List ℕ) → Asks h names refs rows (write-sizing h names refs rows)
+unfolding done
+asks h names refs rows = record {
+  as-written = e;
+  done = rw e (λ z. let s = x .done .0 z in (s .0, s .1), λ s. x .done .1 (s .0, s .1, s .1));
+  count = rw e (λ z. rw (said-0 h names refs rows limit z .3));
+  over-limit = rw e (λ z. let s = x .no-room .0 z in (s .0, either-way (s .1)), λ s. x .no-room .1 (s .0, inl (s .1)));
+}
+  where
+    x : Exact h names refs rows limit (writing h names refs rows limit)
+    x = exact h names refs rows limit
+
+    e : write-sizing h names refs rows ≡ writing h names refs rows limit .answer
+    e = as-written h names refs rows
+
+    either-way : TooLong limit (dump-of h names refs rows) → limit < length (dump-of h names refs rows)
+    either-way (inl l) = l
+    either-way (inr l) = l
+
+-- Of any room: the writing answers 0 exactly where asking answers 0 and the output holds its count, with the same place; any
+-- other refusal is the same from both, a dump over the size limit included (Asked.Split, of phd_rows).
+pub split : (h : Facts) (names refs rows : List ℕ) (room : ℕ) → Split (write-sizing h names refs rows) room (writing h names refs rows room)
+split h names refs rows room = asked-split h names refs rows _ room refl
+
+-- An output that is just as long as the count is enough: the dump fills it.
+pub just-enough : (h : Facts) (names refs rows out : List ℕ) → write-sizing h names refs rows .reply ≡ 0 → length out ≡ write-sizing h names refs rows .place
+    → stored out (writing h names refs rows (length out) .bytes) ≡ dump-of h names refs rows
+unfolding done
+just-enough h names refs rows out z l =
+    let g = held h names refs rows _ (length out) refl z (omega arith) in
+    rw (g .all) (stored-all out (dump-of h names refs rows) (l ∙ g .count))
 
 -- ---- what a writing with reply 0 wrote
 

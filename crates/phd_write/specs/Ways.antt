@@ -2,7 +2,7 @@
 -- Assumes nothing.
 use mathlib.Core.Path.{_≡_, refl, ap}
 use mathlib.Core.Logic.{_⊎_, inl, inr}
-use Prim.Native.Nat.{ℕ, zero, suc, _+_, _*_, _≤_}
+use Prim.Native.Nat.{ℕ, zero, suc, _+_, _*_, _≤_, _<_}
 use mathlib.Core.Bool.{Bool, true, false}
 use mathlib.Core.List.{List}
 use lib.ListN.{length, length-append}
@@ -15,11 +15,12 @@ use Rattle.phd.specs.Phd.{limit, row-width}
 use Rattle.phd.specs.declared.Facts.{Facts}
 use Rattle.phd_rows.specs.Rows.{bare, refs-of, rec-of, row-at, recs-from, row-count, recs}
 use Rattle.phd_rows.specs.Good.{good-header, first-bad, bad-of}
-use Rattle.phd_rows.specs.Judged.{Outcome, refused, done, judged, checked, checked-stops, AllRight, Exact, exact}
+use Rattle.phd_rows.specs.Judged.{Outcome, done, judged, checked, AllRight, Exact, exact}
+use Rattle.phd_rows.specs.Asked.{Split, Held, asked-checked, asked-counts, asked-over, asked-split as by-asked, held as by-held}
 use Rattle.phd_rows.specs.Kept.{good-of, lent-of, none-bad, word-of, vm-of}
 use Rattle.phd_rows.specs.declared.Found.the-variants.{Nowhere}
 use Rattle.phd_rows.specs.declared.Written.{Written}
-use Rattle.phd_write.specs.Write.{has-room, writing}
+use Rattle.phd_write.specs.Write.{has-room, writing, write-sizing}
 use Rattle.phd_write.specs.Terms.{dump-of, TooLong, all-refs}
 use Rattle.phd_write.specs.Within.{AllGood}
 use Rattle.phd_write.specs.Whole.{GoodDump}
@@ -109,19 +110,6 @@ module _ (h : Facts) (names refs rows : List ℕ) (room : ℕ) where
   unfolding writing
   by-tests = exact _ _ _ _ _
 
-  -- by the first two tests
-  pub check-stops : (w : Written) → w ≡ checked (good-header h names rows refs) (bad-of h names refs rows) → (w .reply ≡ 0 → ⊥) → given ≡ refused (w .reply) (w .place)
-  unfolding writing
-  check-stops w e z = checked-stops _ _ _ _ _ w e z
-
-  pub no-room : AllRight h names refs rows → TooLong room dump → given ≡ refused 17 0
-  unfolding writing judged
-  no-room a l = rw (a .0, a .1, lacks room dump l)
-
-  pub fits : AllRight h names refs rows → length dump ≤ room → length dump ≤ limit → given ≡ done dump
-  unfolding writing judged
-  fits a l m = rw (a .0, a .1, has room dump l m)
-
   -- what holds where a dump was written
   pub said-0 : given .answer .reply ≡ 0 → (AllRight h names refs rows) × (length dump ≤ room) × (length dump ≤ limit) × (given ≡ done dump)
   said-0 z =
@@ -140,3 +128,43 @@ module _ (h : Facts) (names refs rows : List ℕ) (room : ℕ) where
         records = rows-good h names refs rows (row-count rows) 0 0 (s .0 .1);
         size = s .2;
       }
+
+-- ---- asking for the size
+
+twice : (b : Bool) → b ≡ both b b
+twice true = refl
+twice false = refl
+
+module _ (h : Facts) (names refs rows : List ℕ) where
+  -- by the first two tests
+  pub check-stops : (w : Written) → w ≡ checked (good-header h names rows refs) (bad-of h names refs rows) → (w .reply ≡ 0 → ⊥) → w ≡ write-sizing h names refs rows
+  unfolding write-sizing
+  check-stops w e z = asked-checked _ _ _ _ _ w e z
+
+  -- by the size limit
+  pub over : AllRight h names refs rows → limit < length (dump-of h names refs rows) → record { reply = 17; place = 0 } ≡ write-sizing h names refs rows
+  unfolding write-sizing
+  over a l = asked-over _ _ _ _ _ (a .0) (a .1) refl (lt-leb _ _ l)
+
+  pub counts : AllRight h names refs rows → length (dump-of h names refs rows) ≤ limit
+      → record { reply = 0; place = length (dump-of h names refs rows) } ≡ write-sizing h names refs rows
+  unfolding write-sizing
+  counts a l = asked-counts _ _ _ _ _ (a .0) (a .1) refl (le-leb _ _ l)
+
+  -- asking for no more than the size limit is a writing with so much room
+  pub as-written : write-sizing h names refs rows ≡ writing h names refs rows limit .answer
+  unfolding writing write-sizing has-room
+  as-written =
+      ap (λ b. judged (good-header h names rows refs) (bad-of h names refs rows) Nowhere b (dump-of h names refs rows) .answer)
+      (twice (leb (length (dump-of h names refs rows)) limit))
+
+  -- what it says of a writing
+  module _ (w : Written) (room : ℕ) (e : w ≡ write-sizing h names refs rows) where
+    pub asked-split : Split w room (writing h names refs rows room)
+    unfolding writing write-sizing has-room
+    asked-split = by-asked _ _ _ _ _ w room e
+
+    pub held : w .reply ≡ 0 → w .place ≤ room
+        → Held (good-header h names rows refs) (bad-of h names refs rows) Nowhere (dump-of h names refs rows) w (writing h names refs rows room)
+    unfolding writing write-sizing has-room
+    held z l = by-held _ _ _ _ _ w room e z l

@@ -1,4 +1,5 @@
--- Writing tables as a dump: the bytes of the whole dump, and what a writing gives, refusals included.
+-- Writing tables as a dump: the bytes of the whole dump, what a writing gives, refusals included, and what asking for its size
+-- answers.
 -- A reader must believe these definitions.
 use Prim.Native.Nat.{ℕ, _+_}
 use mathlib.Core.Bool.{Bool}
@@ -15,6 +16,7 @@ use Rattle.phd_rows.specs.Rows.{Rec, vm-text, recs}
 use Rattle.phd_rows.specs.Good.{good-header, bad-of}
 use Rattle.phd_rows.specs.Judged.{Outcome, judged}
 use Rattle.phd_rows.specs.declared.Found.the-variants.{Nowhere}
+use Rattle.phd_rows.specs.declared.Written.{Written}
 use Rattle.phd_put.specs.Record.{put-record, cache-after}
 
 -- ---- the bytes of a dump
@@ -58,3 +60,10 @@ unfoldable pub writing : Facts → List ℕ → List ℕ → List ℕ → ℕ �
 writing h names refs rows room =
     let dump : List ℕ = put-dump names h (recs names refs rows) in
     judged (good-header h names rows refs) (bad-of h names refs rows) Nowhere (has-room room dump) dump
+
+-- What asking for the size of that dump answers: the same tests in the same order, with no room asked for but the size limit. With
+-- 0 the place is how many bytes the dump has.
+unfoldable pub write-sizing : Facts → List ℕ → List ℕ → List ℕ → Written
+write-sizing h names refs rows =
+    let dump : List ℕ = put-dump names h (recs names refs rows) in
+    judged (good-header h names rows refs) (bad-of h names refs rows) Nowhere (leb (length dump) limit) dump .answer

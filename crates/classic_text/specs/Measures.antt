@@ -1,0 +1,29 @@
+-- What is found of a text before a byte of it is put: its refusal, which is asking's, or its size and counts.
+use mathlib.Core.Path.{_≡_}
+use Prim.Native.Nat.{ℕ}
+use mathlib.Core.List.{List}
+use lib.ListN.{length}
+use Rattle.phd.specs.declared.Facts.{Facts}
+use Rattle.phd_rows.specs.Judged.{AllRight}
+use Rattle.phd_rows.specs.declared.Found.the-variants.{Nowhere}
+use Rattle.phd_counts.specs.Counts.{tally-of}
+use Rattle.phd_counts.specs.declared.Tally.{Tally}
+use Rattle.classic.specs.Classic.{first-row, is-lost, text-of, text-sizing}
+use Rattle.classic_text.specs.Ways.{counts}
+use Rattle.classic_text.specs.declared.Measured.{Measured}
+use Rattle.classic_text.specs.declared.Measured.the-variants.{Refused, Sized}
+
+-- good tables in which every row has its class, with the size of their text and the counts of their rows
+pub record Counted (h : Facts) (names refs rows : List ℕ) (size : ℕ) (tally : Tally) : Type 0 where
+  pub right : AllRight h names refs rows
+  pub classes : first-row (is-lost rows) rows ≡ Nowhere
+  pub size-is : size ≡ length (text-of h names refs rows)
+  pub tally-is : tally ≡ tally-of rows
+
+abbrev pub Measures : Facts → (names refs rows : List ℕ) → Measured → Type 0
+Measures h names refs rows (Refused w) = (w ≡ text-sizing h names refs rows) × (w .reply ≡ 0 → ⊥)
+Measures h names refs rows (Sized n t) = Counted h names refs rows n t
+
+-- with a size asking answers 0, and it is the count
+pub counted-asks : {h : Facts} {names refs rows : List ℕ} {n : ℕ} {t : Tally} → Counted h names refs rows n t → record { reply = 0; place = n } ≡ text-sizing h names refs rows
+counted-asks c = rw (c .size-is) (counts _ _ _ _ (c .right) (c .classes))

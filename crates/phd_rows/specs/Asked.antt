@@ -1,0 +1,141 @@
+-- Asking for the size before writing: between what asking answers and what the writer or the text then gives. Asking makes the
+-- same tests in the same order, but for the output. A reader must believe the statement `Split`. Assumes nothing.
+use mathlib.Core.Path.{_≡_, refl, sym, ap}
+use mathlib.Core.Logic.{_↔_}
+use Prim.Native.Nat.{ℕ, _≤_, _<_}
+use mathlib.Core.Bool.{Bool, true, false}
+use mathlib.Core.List.{List}
+use lib.ListN.{length}
+use lib.Dec.{leb}
+use native.Mathlib.Omega.{arith}
+use native.Mathlib.Decide.{decLe}
+use borrow.Author.Tests.{le-leb, lt-leb}
+use Rattle.layout.specs.Numbers.{both}
+use Rattle.phd_rows.specs.Judged.{Outcome, refused, done, judged, checked, classed, checked-stops, classed-stops, exact}
+use Rattle.phd_rows.specs.declared.Found.{Found}
+use Rattle.phd_rows.specs.declared.Found.the-variants.{At, Nowhere}
+use Rattle.phd_rows.specs.declared.Written.{Written}
+
+-- Between what asking answers and what a writing of the same tables, with `room` bytes of output, gives.
+pub record Split (asked : Written) (room : ℕ) (w : Outcome) : Type 0 where
+  -- the writing answers 0 exactly where asking answers 0 and the output holds the count
+  pub done : (w .answer .reply ≡ 0) ↔ ((asked .reply ≡ 0) × (asked .place ≤ room))
+  -- then both answers are the same, and the count is how many bytes are written
+  pub same : w .answer .reply ≡ 0 → w .answer ≡ asked
+  pub count : w .answer .reply ≡ 0 → length (w .bytes) ≡ asked .place
+  -- a count that the output does not hold is 17 at 0
+  pub too-small : asked .reply ≡ 0 → room < asked .place → w ≡ refused 17 0
+  -- what asking refuses, the writing refuses alike
+  pub refusal : (asked .reply ≡ 0 → ⊥) → w ≡ refused (asked .reply) (asked .place)
+  -- and a writing's refusal other than 17 is asking's
+  pub other : (w .answer .reply ≡ 17 → ⊥) → w .answer ≡ asked
+
+-- a refusal of both
+refusing : (reply place room : ℕ) → (reply ≡ 0 → ⊥) → Split (refused reply place .answer) room (refused reply place)
+unfolding refused
+refusing reply place room n = record {
+  done = (λ z. absurd (n z), λ e. absurd (n (e .0)));
+  same = λ z. absurd (n z);
+  count = λ z. absurd (n z);
+  too-small = λ z. absurd (n z);
+  refusal = λ _. refl;
+  other = λ _. refl;
+}
+
+-- bytes that asking counts: they are written, or there is no room
+written : (bytes : List ℕ) (room : ℕ) → length bytes ≤ room → Split (done bytes .answer) room (done bytes)
+unfolding done
+written bytes room l = record {
+  done = (λ _. (refl, l), λ _. refl);
+  same = λ _. refl;
+  count = λ _. refl;
+  too-small = λ _ g. absurd (omega arith);
+  refusal = λ n. absurd (n refl);
+  other = λ _. refl;
+}
+
+without : (bytes : List ℕ) (room : ℕ) → room < length bytes → Split (done bytes .answer) room (refused 17 0)
+unfolding done refused
+without bytes room l = record {
+  done = (λ z. absurd (omega arith), λ e. absurd (omega (arith, e .1)));
+  same = λ z. absurd (omega arith);
+  count = λ z. absurd (omega arith);
+  too-small = λ _ _. refl;
+  refusal = λ n. absurd (n refl);
+  other = λ n. absurd (n refl);
+}
+
+-- Of any tests: beside all that asking asks, the writing asks whether the output holds the bytes.
+pub split : (good : Bool) (bad lost : Found) (within : Bool) (bytes : List ℕ) (room : ℕ)
+    → Split (judged good bad lost within bytes .answer) room (judged good bad lost (both (leb (length bytes) room) within) bytes)
+unfolding judged
+split false bad lost within bytes room = refusing 15 0 room (λ z. omega arith)
+split true (At i) lost within bytes room = refusing 16 i room (λ z. omega arith)
+split true Nowhere (At i) within bytes room = refusing 18 i room (λ z. omega arith)
+split true Nowhere Nowhere within bytes room = elim (decLe (length bytes) room) [
+  | yes l ↦ rw (le-leb (length bytes) room l) (fitting within l)
+  | no l ↦ rw (lt-leb (length bytes) room (omega arith)) (lacking within (omega arith))
+]
+  where
+    fitting : (b : Bool) → length bytes ≤ room → Split (judged true Nowhere Nowhere b bytes .answer) room (judged true Nowhere Nowhere b bytes)
+    fitting true l = written bytes room l
+    fitting false l = refusing 17 0 room (λ z. omega arith)
+
+    lacking : (b : Bool) → room < length bytes → Split (judged true Nowhere Nowhere b bytes .answer) room (refused 17 0)
+    lacking true l = without bytes room l
+    lacking false l = refusing 17 0 room (λ z. omega arith)
+
+-- Where asking answers 0 and the output holds its count: all tests hold, and the bytes are written.
+pub record Held (good : Bool) (bad lost : Found) (bytes : List ℕ) (asked : Written) (w : Outcome) : Type 0 where
+  pub header : good ≡ true
+  pub rows : bad ≡ Nowhere
+  pub classes : lost ≡ Nowhere
+  pub count : asked .place ≡ length bytes
+  pub same : asked ≡ w .answer
+  pub all : w ≡ done bytes
+
+-- ---- what asking answers, by the tests as a function makes them
+
+module _ (good : Bool) (bad lost : Found) (within : Bool) (bytes : List ℕ) where
+  -- by the first two tests
+  pub asked-checked : (w : Written) → w ≡ checked good bad → (w .reply ≡ 0 → ⊥) → w ≡ judged good bad lost within bytes .answer
+  unfolding refused
+  asked-checked w e z = ap (λ (o : Outcome). o .answer) (sym (checked-stops good bad lost within bytes w e z))
+
+  -- by the third, where those hold
+  pub asked-classed : good ≡ true → bad ≡ Nowhere → (w : Written) → w ≡ classed lost → (w .reply ≡ 0 → ⊥) → w ≡ judged good bad lost within bytes .answer
+  unfolding refused
+  asked-classed p q w e z = rw (p, q) (ap (λ (o : Outcome). o .answer) (sym (classed-stops lost within bytes w e z)))
+
+  -- where all of them hold, the count of the bytes, or 17 where they are too many
+  pub asked-counts : good ≡ true → bad ≡ Nowhere → lost ≡ Nowhere → within ≡ true → record { reply = 0; place = length bytes } ≡ judged good bad lost within bytes .answer
+  unfolding judged done
+  asked-counts p q r s = rw (p, q, r, s)
+
+  pub asked-over : good ≡ true → bad ≡ Nowhere → lost ≡ Nowhere → within ≡ false → record { reply = 17; place = 0 } ≡ judged good bad lost within bytes .answer
+  unfolding judged refused
+  asked-over p q r s = rw (p, q, r, s)
+
+  -- what it says of a writing
+  module _ (asked : Written) (room : ℕ) (e : asked ≡ judged good bad lost within bytes .answer) where
+    abbrev given : Outcome
+    given = judged good bad lost (both (leb (length bytes) room) within) bytes
+
+    pub asked-split : Split asked room given
+    asked-split = rw e (split good bad lost within bytes room)
+
+    pub held : asked .reply ≡ 0 → asked .place ≤ room → Held good bad lost bytes asked given
+    unfolding done
+    held z l =
+        let d = asked-split .done .1 (z, l) in
+        let x = exact good bad lost (both (leb (length bytes) room) within) bytes in
+        let g = x .all-good .0 d in
+        let w : given ≡ done bytes = x .written d in
+        record {
+          header = g .0;
+          rows = g .1;
+          classes = g .2;
+          count = sym (rw w at (asked-split .count d));
+          same = sym (asked-split .same d);
+          all = w;
+        }
