@@ -34,7 +34,8 @@ enum phd_number {
     PHD_TYPE = 11        /* of a primitive array: 0 to 7 for boolean, char, float, double, byte, short, int, long */
 };
 
-/* What a function says in `facts`, by its place there. The rest is 0, and after a write or a text all but the first two. */
+/* What a function says in `facts`, by its place there. The rest is 0, and after all but a reading that is all but the first
+ * two. */
 enum phd_fact {
     PHD_REPLY = 0,
     PHD_PLACE = 1,
@@ -56,7 +57,8 @@ enum phd_fact {
 
 /* The replies. The place is given behind each. */
 enum phd_reply {
-    PHD_DONE = 0,            /* all of it was read or written: after the end tag, or how many bytes were written */
+    PHD_DONE = 0,            /* all of it was read or written: after the end tag, or how many bytes were written. Of asking
+                              * for a size: how many bytes it takes */
     PHD_CUT = 1,             /* the dump is cut off: the tag of the record that it ends in, 0 in the header */
     PHD_OVER_LIMIT = 2,      /* the dump has over 1,073,741,824 bytes: 0 */
     PHD_NO_DUMP = 3,         /* it does not begin with the words of a portable heap dump: 0 */
@@ -74,7 +76,8 @@ enum phd_reply {
     PHD_NO_REFERENCES = 14,  /* too little room for this record's references: the record's tag. Lend more and read again */
     PHD_BAD_HEADER = 15,     /* the header to write is bad, or over 2^30 rows or reference numbers are lent: 0 */
     PHD_BAD_ROW = 16,        /* a number of a row cannot be written: the first such row, from 0 */
-    PHD_NO_OUTPUT = 17,      /* the output is too small, or a dump would be over the limit: 0. Nothing was written */
+    PHD_NO_OUTPUT = 17,      /* the output is too small, or a dump would be over the limit: 0. Nothing was written. Of asking
+                              * for the size of a dump: it would be over the limit */
     PHD_NO_CLASS = 18        /* of a text: a row's class is not among the rows: the first such row, from 0 */
 };
 
@@ -83,8 +86,16 @@ enum phd_reply {
 uint64_t phd_read(const uint8_t *dump, size_t dump_len, uint64_t *rows, size_t rows_len, uint64_t *refs, size_t refs_len,
                   uint64_t facts[16]);
 
+/* Asks how many bytes the whole rows of a table and their references take as a dump, or as classic text: reply 0, and the place
+ * is the count. All is checked as for the writing below, so that any other reply is the writing's too, whatever `out` it is
+ * lent; with a count it ends with reply 0 and the same place if out_len is at least the count, and else with 17. */
+uint64_t phd_write_size(const uint64_t header[PHD_HEADER], const uint64_t *rows, size_t rows_len, const uint64_t *refs,
+                        size_t refs_len, const uint8_t *names, size_t names_len, uint64_t facts[16]);
+uint64_t phd_text_size(const uint64_t header[PHD_HEADER], const uint64_t *rows, size_t rows_len, const uint64_t *refs,
+                       size_t refs_len, const uint8_t *names, size_t names_len, uint64_t facts[16]);
+
 /* Writes the whole rows of a table and their references as a dump, or as classic text, to the start of `out`. Names are taken
- * from `names`. Only reply 0 changes `out`, and behind what was written it stays as it was. */
+ * from `names`. Only reply 0 changes `out`, and behind what was written it stays as it was. No size need be asked before. */
 uint64_t phd_write(const uint64_t header[PHD_HEADER], const uint64_t *rows, size_t rows_len, const uint64_t *refs,
                    size_t refs_len, const uint8_t *names, size_t names_len, uint8_t *out, size_t out_len, uint64_t facts[16]);
 uint64_t phd_text(const uint64_t header[PHD_HEADER], const uint64_t *rows, size_t rows_len, const uint64_t *refs,

@@ -154,10 +154,13 @@ def written(tables, more=7):
     """The sample of tables that are written, with so many bytes of output more than that takes."""
     d = tables.dump()
     first, *others = d.reading()
-    report = [f"reply 0 place {len(d.bytes)}", *in_lines(d.bytes), "rest kept", "read " + first, *others]
+    said = f"reply 0 place {len(d.bytes)}"
+    report = ["size " + said, said, *in_lines(d.bytes), "rest kept", "read " + first, *others]
     return tables.held(len(d.bytes) + more), report
 
 
 def refused(tables, reply, place=0, room=512):
-    """The sample of tables that are refused."""
-    return tables.held(room), [f"reply {reply} place {place}", "rest kept"]
+    """The sample of tables that are refused. Where only the room is too little, asking for the size says how much is enough."""
+    said = f"reply {reply} place {place}"
+    size = f"reply 0 place {len(tables.dump().bytes)}" if reply == 17 else said
+    return tables.held(room), ["size " + size, said, "rest kept"]

@@ -138,7 +138,8 @@ def texted(dump):
     text = t.text()
     n = len(text)
     assert max(n, len(t.held)) < BYTES
-    report = [line(t.reading), f"text reply 0 place {n}", *text.split("\n")[:-1], "rest kept"]
+    said = f"reply 0 place {n}"
+    report = [line(t.reading), "size " + said, "text " + said, *text.split("\n")[:-1], "rest kept"]
     return t.held, report + [f"room {n} reply 0 place {n} same", f"room {n - 1} reply 17 place 0 kept"]
 
 
@@ -147,4 +148,4 @@ def refused(dump, reply, place=0):
     t = lent(dump)
     assert reply != 18 or place == t.lost()
     said = f"reply {reply} place {place}"
-    return t.held, [line(t.reading), "text " + said, "rest kept", f"room 0 {said} kept"]
+    return t.held, [line(t.reading), "size " + said, "text " + said, "rest kept", f"room 0 {said} kept"]

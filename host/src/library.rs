@@ -4,8 +4,8 @@
 pub const ROW: usize = 12;
 
 /// What an operation answers: 0 reply, 1 place, 2 rows, 3 references, 4 W, 5 all hashed, 6 from OpenJ9, 7 VM string there,
-/// 8 its place, 9 its length, 10 the bytes that the field lacked where the dump is cut. After a write or a text only the first
-/// two count.
+/// 8 its place, 9 its length, 10 the bytes that the field lacked where the dump is cut. After a write, a text, or asking for
+/// the size of one only the first two count.
 pub type Facts = [u64; 16];
 
 /// A header to write: W, all hashed, from OpenJ9, VM string there, its place and its length in the name bytes.
@@ -25,6 +25,18 @@ type Making = unsafe extern "C" fn(
     facts: *mut Facts,
 ) -> u64;
 
+/// Asking how many bytes a writing or a text takes.
+type Asking = unsafe extern "C" fn(
+    header: *const Header,
+    rows: *const u64,
+    rows_len: usize,
+    refs: *const u64,
+    refs_len: usize,
+    names: *const u8,
+    names_len: usize,
+    facts: *mut Facts,
+) -> u64;
+
 mod boundary {
     use super::{Facts, Header};
 
@@ -38,6 +50,16 @@ mod boundary {
             refs_len: usize,
             facts: *mut Facts,
         ) -> u64;
+        pub fn phd_write_size(
+            header: *const Header,
+            rows: *const u64,
+            rows_len: usize,
+            refs: *const u64,
+            refs_len: usize,
+            names: *const u8,
+            names_len: usize,
+            facts: *mut Facts,
+        ) -> u64;
         pub fn phd_write(
             header: *const Header,
             rows: *const u64,
@@ -48,6 +70,16 @@ mod boundary {
             names_len: usize,
             out: *mut u8,
             out_len: usize,
+            facts: *mut Facts,
+        ) -> u64;
+        pub fn phd_text_size(
+            header: *const Header,
+            rows: *const u64,
+            rows_len: usize,
+            refs: *const u64,
+            refs_len: usize,
+            names: *const u8,
+            names_len: usize,
             facts: *mut Facts,
         ) -> u64;
         pub fn phd_text(
@@ -81,6 +113,27 @@ pub fn read(dump: &[u8], rows: &mut [u64], refs: &mut [u64], facts: &mut Facts) 
     }
 }
 
+fn ask(
+    call: Asking,
+    header: &Header,
+    (rows, refs, names): (&[u64], &[u64], &[u8]),
+    facts: &mut Facts,
+) -> u64 {
+    // As for `read`.
+    unsafe {
+        call(
+            header,
+            rows.as_ptr(),
+            rows.len(),
+            refs.as_ptr(),
+            refs.len(),
+            names.as_ptr(),
+            names.len(),
+            facts,
+        )
+    }
+}
+
 fn make(
     call: Making,
     header: &Header,
@@ -105,6 +158,17 @@ fn make(
     }
 }
 
+/// Asks how many bytes the tables take as a dump.
+pub fn write_size(
+    header: &Header,
+    rows: &[u64],
+    refs: &[u64],
+    names: &[u8],
+    facts: &mut Facts,
+) -> u64 {
+    ask(boundary::phd_write_size, header, (rows, refs, names), facts)
+}
+
 /// Writes the tables as a dump.
 pub fn write(
     header: &Header,
@@ -115,6 +179,17 @@ pub fn write(
     facts: &mut Facts,
 ) -> u64 {
     make(boundary::phd_write, header, (rows, refs, names), out, facts)
+}
+
+/// Asks how many bytes the tables take as classic text.
+pub fn text_size(
+    header: &Header,
+    rows: &[u64],
+    refs: &[u64],
+    names: &[u8],
+    facts: &mut Facts,
+) -> u64 {
+    ask(boundary::phd_text_size, header, (rows, refs, names), facts)
 }
 
 /// Writes the tables as classic text.

@@ -37,12 +37,17 @@ fn expected(dump: &[u8]) -> String {
     let header: library::Header = facts[4..10].try_into().expect("six numbers");
     let rows = &rows[..facts[2] as usize * library::ROW];
     let refs = &refs[..facts[3] as usize];
-    let mut out = vec![0; 1 << 16];
+    let reply = library::write_size(&header, rows, refs, dump, &mut facts);
+    said += &line("write size", reply, &facts);
+    let mut out = vec![0; facts[1] as usize];
     let reply = library::write(&header, rows, refs, dump, &mut out, &mut facts);
     said += &line("write", reply, &facts);
+    let reply = library::text_size(&header, rows, refs, dump, &mut facts);
+    said += &line("text size", reply, &facts);
+    let mut out = vec![0; facts[1] as usize];
     let reply = library::text(&header, rows, refs, dump, &mut out, &mut facts);
     said += &line("text", reply, &facts);
-    said + std::str::from_utf8(&out[..facts[1] as usize]).expect("a text is ASCII")
+    said + std::str::from_utf8(&out).expect("a text is ASCII")
 }
 
 #[test]

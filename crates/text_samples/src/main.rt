@@ -1,9 +1,10 @@
-// Writes the sample dumps that its arguments name as classic text, and prints it.
+// Asks for the size of the sample dumps that its arguments name as classic text, writes it, and prints both.
 // samples/make_text.py makes the dumps and works out what is to be printed, from what it put in. For each file:
 //
 //     NAME
 //     reply R place P missing M rows N refs N word W  the reading of the dump
-//     text reply R place P                            what writing its records as text answers
+//     size reply R place P                            what asking for the size of its records as text answers
+//     text reply R place P                            what writing them answers
 //     ..                                              the text, if it was not refused
 //     rest kept|changed                               the output behind the text; all of it, if refused
 //     room N reply R place P same|other               the text again, with room for it and no more
@@ -89,8 +90,12 @@ fn tell_room(header: Header, rows: &[u64], refs: &[u64], names: &[u8], text: &[u
     tell_again(header, rows, refs, names, text, &mut out[..n]);
 }
 
-// The text of tables, to untouched output with much room; then with room for just the text, and with a byte less.
+// How long the text of tables is; the text, to untouched output with much room; then with room for just the text, and with a byte
+// less.
 fn tell_text(header: Header, rows: &[u64], refs: &[u64], names: &[u8], out: &mut [u8]) {
+    say(b"size ");
+    tell_written(classic_text::text_size(header, rows, refs, names));
+    say(b"\n");
     let w = classic_text::text(header, rows, refs, names, out);
     say(b"text ");
     tell_written(w);

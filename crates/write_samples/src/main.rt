@@ -1,7 +1,8 @@
-// Writes the sample tables that its arguments name as dumps, reads back what it wrote, and prints both.
+// Asks for the size of the sample tables that its arguments name as dumps, writes them, reads back what it wrote, and prints it all.
 // samples/make_write.py makes the tables and works out what is to be printed, from what it put in. For each file:
 //
 //     NAME
+//     size reply R place P                                 what asking for the size answers
 //     reply R place P                                      what the writing answers
 //     bytes HH HH ..                                       the bytes written, up to 32 in a line
 //     again N                                              so many lines more like the one before
@@ -114,8 +115,11 @@ fn read_back(dump: &[u8]) {
     tell_whole(r, &rows, &refs);
 }
 
-// Writes tables to untouched output.
+// Asks for the size of tables, and writes them to untouched output.
 fn write(facts: Facts, rows: &[u64], refs: &[u64], names: &[u8], out: &mut [u8]) {
+    say(b"size ");
+    tell_written(phd_write::write_size(facts, rows, refs, names));
+    say(b"\n");
     let w = phd_write::write(facts, rows, refs, names, out);
     tell_written(w);
     say(b"\n");

@@ -10,9 +10,6 @@ use crate::say::{self, Status, Trouble};
 use crate::words;
 use phd_host::library::{self, Facts};
 
-/// The reply of a writing that has too little room.
-const NO_OUTPUT: u64 = 17;
-
 /// What is made of the records.
 #[derive(Clone, Copy)]
 pub enum Form {
@@ -54,38 +51,35 @@ fn tell(reading: &Reading) -> Result<(), Trouble> {
     Ok(())
 }
 
-/// The text or the dump, in memory that is made larger until it is enough.
+/// The text or the dump. It is asked first how many bytes that takes, and just so many are lent.
 fn make(reading: &Reading, form: Form) -> Result<Vec<u8>, Trouble> {
-    let (mut size, most) = match form {
-        Form::Text => (likely_text(reading), usize::MAX),
-        Form::Dump => (reading.dump.len() + 1, LIMIT as usize),
-    };
-    size = size.min(most);
-    loop {
-        let doing = format!("writing the records of {}", reading.name);
-        let _line = progress::show(&doing, Some(size as u64));
-        let mut out = room::zeroes(size)
-            .map_err(|lack| Trouble::failed(&reading.name, lack.words("for the output")))?;
-        let mut facts = Facts::default();
-        match put(reading, form, &mut out, &mut facts) {
-            0 => {
-                out.truncate(facts[1] as usize);
-                return Ok(out);
-            }
-            NO_OUTPUT if size < most => size = size.saturating_mul(2).min(most),
-            reply => {
-                let words = unwritten(reading, form, reply, facts[1]);
-                return Err(Trouble::refused(&reading.name, words));
-            }
-        }
+    let size = ask(reading, form)?;
+    let doing = format!("writing the records of {}", reading.name);
+    let _line = progress::show(&doing, Some(size as u64));
+    let mut out = room::zeroes(size)
+        .map_err(|lack| Trouble::failed(&reading.name, lack.words("for the output")))?;
+    let mut facts = Facts::default();
+    match put(reading, form, &mut out, &mut facts) {
+        0 => Ok(out),
+        reply => Err(unwritten(reading, form, reply, facts[1])),
     }
 }
 
-/// About how long a text is: two lines for a record, a number for a reference.
-fn likely_text(reading: &Reading) -> usize {
-    let address = 3 + reading.width() as usize / 4;
-    let lines = reading.records() as usize * (2 * address + 80);
-    lines + reading.references() as usize * address + 1024
+/// How many bytes it takes.
+fn ask(reading: &Reading, form: Form) -> Result<usize, Trouble> {
+    let ask = match form {
+        Form::Text => library::text_size,
+        Form::Dump => library::write_size,
+    };
+    let (header, rows, refs) = (reading.header(), reading.rows(), reading.refs());
+    let doing = format!("checking the records of {}", reading.name);
+    let tables = size_of_val(rows) + size_of_val(refs);
+    let _line = progress::show(&doing, Some(tables as u64));
+    let mut facts = Facts::default();
+    match ask(&header, rows, refs, &reading.dump, &mut facts) {
+        0 => Ok(facts[1] as usize),
+        reply => Err(unwritten(reading, form, reply, facts[1])),
+    }
 }
 
 fn put(reading: &Reading, form: Form, out: &mut [u8], facts: &mut Facts) -> u64 {
@@ -103,7 +97,8 @@ fn put(reading: &Reading, form: Form, out: &mut [u8], facts: &mut Facts) -> u64 
     )
 }
 
-fn unwritten(reading: &Reading, form: Form, reply: u64, place: u64) -> String {
+/// That nothing can be written, and why not.
+fn unwritten(reading: &Reading, form: Form, reply: u64, place: u64) -> Trouble {
     let what = match form {
         Form::Text => "text",
         Form::Dump => "dump",
@@ -111,11 +106,12 @@ fn unwritten(reading: &Reading, form: Form, reply: u64, place: u64) -> String {
     let why = match reply {
         15 => "the header cannot be written, or there are too many records".into(),
         16 => format!("{} cannot be written", record(place)),
-        NO_OUTPUT => format!("it would have more than {}", words::count(LIMIT, "byte")),
+        17 => format!("it would have more than {}", words::count(LIMIT, "byte")),
         18 => no_class(reading, place),
         _ => "the records were refused".into(),
     };
-    format!("no {what} can be written of it (reply {reply}): {why}")
+    let words = format!("no {what} can be written of it (reply {reply}): {why}");
+    Trouble::refused(&reading.name, words)
 }
 
 fn record(index: u64) -> String {

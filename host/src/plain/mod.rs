@@ -85,6 +85,20 @@ pub fn read(dump: &[u8], rows: &mut [u64], refs: &mut [u64], facts: &mut [u64; 1
     facts[0]
 }
 
+/// Asks how many bytes the tables take as a dump, and returns the reply.
+pub fn write_size(
+    header: &[u64; 6],
+    rows: &[u64],
+    refs: &[u64],
+    names: &[u8],
+    facts: &mut [u64; 16],
+) -> u64 {
+    report(
+        Lent::judge(header, rows, refs, names).and_then(|lent| write::size(&lent)),
+        facts,
+    )
+}
+
 /// Writes the tables as a dump and returns the reply.
 pub fn write(
     header: &[u64; 6],
@@ -96,6 +110,20 @@ pub fn write(
 ) -> u64 {
     report(
         Lent::judge(header, rows, refs, names).and_then(|lent| write::write(&lent, out)),
+        facts,
+    )
+}
+
+/// Asks how many bytes the tables take as classic text, and returns the reply.
+pub fn text_size(
+    header: &[u64; 6],
+    rows: &[u64],
+    refs: &[u64],
+    names: &[u8],
+    facts: &mut [u64; 16],
+) -> u64 {
+    report(
+        Lent::judge(header, rows, refs, names).and_then(|lent| text::size(&lent)),
         facts,
     )
 }
@@ -115,7 +143,7 @@ pub fn text(
     )
 }
 
-/// Puts the outcome of a write or a text into the facts.
+/// Puts the outcome of a write, of a text, or of asking for its size into the facts.
 fn report(outcome: Result<usize, Stop>, facts: &mut [u64; 16]) -> u64 {
     let (reply, place) = match outcome {
         Ok(written) => (Reply::Done, written as u64),

@@ -1,6 +1,6 @@
 //! The scope paper's whole dump, its cuts and what they lack, and its text; the nulls of arrays.
 
-use super::{read, text, write, ROW};
+use super::{read, text, text_size, write, write_size, ROW};
 
 /// The widths of the paper's fields, in file order: the header, the four records and the end tag.
 const FIELDS: [usize; 29] = [
@@ -122,15 +122,22 @@ fn cases() {
     expect(&with(40, 0x80), 4, 8, 38, 0);
 }
 
-/// The rows give the same dump and the paper's text, in just enough room and not in less.
+/// The rows give the same dump and the paper's text, in just enough room and not in less; that much is what asking says.
 #[test]
 fn written() {
     type Job = fn(&[u64; 6], &[u64], &[u64], &[u8], &mut [u8], &mut [u64; 16]) -> u64;
+    type Asking = fn(&[u64; 6], &[u64], &[u64], &[u8], &mut [u64; 16]) -> u64;
     let dump = dump();
     let rows = [&ROWS.concat()[..], &[1; ROW - 1]].concat();
-    for (job, wanted) in [(write as Job, &dump[..]), (text as Job, TEXT.as_bytes())] {
+    let jobs = [
+        (write_size as Asking, write as Job, &dump[..]),
+        (text_size, text, TEXT.as_bytes()),
+    ];
+    for (ask, job, wanted) in jobs {
         let size = wanted.len();
         let mut facts = [UNTOUCHED; 16];
+        assert_eq!(ask(&HEADER, &rows, &REFS, &dump, &mut facts), 0);
+        assert_eq!(facts[..3], [0, size as u64, 0]);
         let mut out = vec![0xEE; size + 1];
         assert_eq!(
             job(

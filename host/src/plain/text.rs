@@ -6,15 +6,26 @@ use std::collections::HashMap;
 /// The names of the primitive array types.
 const PRIMITIVES: [&[u8]; 8] = [b"[Z", b"[C", b"[F", b"[D", b"[B", b"[S", b"[I", b"[J"];
 
+/// The size of the text.
+pub(super) fn size(lent: &Lent) -> Result<usize, Stop> {
+    measure(lent, &Classes::of(lent))
+}
+
 /// Writes the text and returns its size.
 pub(super) fn text(lent: &Lent, out: &mut [u8]) -> Result<usize, Stop> {
     let classes = Classes::of(lent);
-    let mut size = 0;
-    whole(lent, &classes, |bytes| size += bytes.len())?;
+    let size = measure(lent, &classes)?;
     if size > out.len() {
         return Err((Reply::NoRoom, 0));
     }
     whole(lent, &classes, filler(out))?;
+    Ok(size)
+}
+
+/// How many bytes the whole text has.
+fn measure(lent: &Lent, classes: &Classes) -> Result<usize, Stop> {
+    let mut size = 0;
+    whole(lent, classes, |bytes| size += bytes.len())?;
     Ok(size)
 }
 

@@ -5,11 +5,20 @@ use super::{
     OBJECT_ARRAY, OPENING, SHORT_HASH,
 };
 
-/// Writes the dump and returns its size.
-pub(super) fn write(lent: &Lent, out: &mut [u8]) -> Result<usize, Stop> {
+/// The size of the dump, if it is within the limit.
+pub(super) fn size(lent: &Lent) -> Result<usize, Stop> {
     let mut size = 0;
     dump(lent, |bytes| size += bytes.len());
-    if size > out.len().min(DUMP_LIMIT) {
+    if size > DUMP_LIMIT {
+        return Err((Reply::NoRoom, 0));
+    }
+    Ok(size)
+}
+
+/// Writes the dump and returns its size.
+pub(super) fn write(lent: &Lent, out: &mut [u8]) -> Result<usize, Stop> {
+    let size = size(lent)?;
+    if size > out.len() {
         return Err((Reply::NoRoom, 0));
     }
     dump(lent, filler(out));

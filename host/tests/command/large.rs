@@ -63,20 +63,40 @@ fn a_cut_far_inside() {
     assert!(folder.get("b") == [&dump[..300_000], b"\x03"].concat());
 }
 
+/// The name of the class of `long_named`.
+fn long_name() -> String {
+    "N".repeat(60_000)
+}
+
+/// The example's class with a long name, its first object, and then so many objects of two bytes each.
+fn long_named(count: usize) -> Vec<u8> {
+    let mut dump = example()[..50].to_vec();
+    dump.extend(60_000u16.to_be_bytes());
+    dump.extend(long_name().as_bytes());
+    dump.extend(&example()[53..64]);
+    dump.extend(b"\x80\x01".repeat(count));
+    dump.push(3);
+    dump
+}
+
 #[test]
 fn a_text_much_longer_than_its_dump() {
     let folder = Folder::new("large-text");
-    let name = "N".repeat(60_000);
-    let mut dump = example()[..50].to_vec();
-    dump.extend(60_000u16.to_be_bytes());
-    dump.extend(name.as_bytes());
-    dump.extend(&example()[53..64]);
-    dump.extend(b"\x80\x01".repeat(300));
-    dump.push(3);
-    folder.put("a", &dump);
+    folder.put("a", &long_named(300));
     let ran = folder.phd(&["text", "a"]).ended(0).quiet();
-    assert_eq!(ran.out().matches(&name).count(), 302);
+    assert_eq!(ran.out().matches(&long_name()).count(), 302);
     assert!(ran.out().ends_with(" : 302,1(0)\n"));
+}
+
+#[test]
+fn just_as_much_memory_as_the_output_takes() {
+    let folder = Folder::new("large-just");
+    folder.put("a", &long_named(20_000));
+    // The name 20,002 times; 17 bytes of version, 31 and 43 with the first two records, 32 with each other, 128 of trailers.
+    let run = "ulimit -v 400000; \"$PHD\" text a -o out";
+    let ran = folder.shell(run).ended(2).prints_nothing();
+    ran.says("phd: a: not enough memory for the output: 1,200,760,219 bytes were asked for\n");
+    assert_eq!(folder.names(), ["a"]);
 }
 
 /// The example's class, and then objects that name their classes by slots which the copy fills otherwise: it takes the fifth

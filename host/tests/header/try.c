@@ -1,5 +1,5 @@
-/* Reads the dump on standard input, writes it anew and as text through include/phd.h, and prints what each call said and the
- * text. */
+/* Reads the dump on standard input, asks how many bytes it takes anew and as text, writes it into just so many, all through
+ * include/phd.h, and prints what each call said and the text. */
 #include <phd.h>
 #include <stdio.h>
 
@@ -28,8 +28,14 @@ int main(void) {
         header[i] = facts[PHD_W + i];
     size_t numbers = facts[PHD_ROWS] * PHD_ROW;
     size_t links = facts[PHD_REFERENCES];
-    say("write", phd_write(header, rows, numbers, refs, links, dump, size, again, ROOM, facts));
-    say("text", phd_text(header, rows, numbers, refs, links, dump, size, text, ROOM, facts));
+    say("write size", phd_write_size(header, rows, numbers, refs, links, dump, size, facts));
+    if (facts[PHD_REPLY] != PHD_DONE || facts[PHD_PLACE] > ROOM)
+        return 3;
+    say("write", phd_write(header, rows, numbers, refs, links, dump, size, again, facts[PHD_PLACE], facts));
+    say("text size", phd_text_size(header, rows, numbers, refs, links, dump, size, facts));
+    if (facts[PHD_REPLY] != PHD_DONE || facts[PHD_PLACE] > ROOM)
+        return 4;
+    say("text", phd_text(header, rows, numbers, refs, links, dump, size, text, facts[PHD_PLACE], facts));
     fwrite(text, 1, facts[PHD_PLACE], stdout);
     return 0;
 }

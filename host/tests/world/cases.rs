@@ -2,7 +2,7 @@
 //! library and on the plain implementation, compared in full.
 
 use crate::borders::{self, GAPS, LENGTHS, MISSING, NULLS};
-use crate::compare::{self, of_dump, of_tables, Job, Outcome, TEXT, WRITE};
+use crate::compare::{self, foretold, of_dump, of_tables, Job, Outcome, TEXT, WRITE};
 use crate::damage;
 use crate::dice::Dice;
 use crate::encode;
@@ -45,6 +45,8 @@ fn cases() {
         ),
         tally.rare("write", &[0, 15, 16, 17], LEAST),
         tally.rare("text", &[0, 15, 16, 17, 18], LEAST),
+        tally.rare("write size", &[0, 15, 16], LEAST),
+        tally.rare("text size", &[0, 15, 16, 18], LEAST),
         tally.rare("gap", &GAPS, LEAST),
         tally.rare("reference", &GAPS, LEAST),
         tally.rare("length", &LENGTHS, LEAST),
@@ -94,29 +96,27 @@ impl Case<'_> {
         Ok(read)
     }
 
-    /// Writes or tells with room enough, and then with some other room.
+    /// Asks for the size; writes or tells with room enough, and then with some other room.
     fn make_twice(&mut self, job: &Job, lent: &Tables, room: usize) -> Result<Outcome, String> {
-        let more = self.dice.index(20);
-        let made = self.make(job, lent, room + more)?;
-        let size = if made.reply == 0 { made.place() } else { room };
-        let room = match self.dice.below(6) {
+        let asked = compare::ask(job, lent, self.dice.any())?;
+        self.tally.count(job.size_name, asked.reply as i64);
+        let enough = room + self.dice.index(20);
+        let made = self.make(job, lent, enough)?;
+        let size = if asked.reply == 0 {
+            asked.place()
+        } else {
+            room
+        };
+        let other = match self.dice.below(6) {
             0..=1 => size,
             2..=3 => size.saturating_sub(1),
             4 => 0,
             _ => self.dice.index(size + 1),
         };
-        let again = self.make(job, lent, room)?;
-        let expected = if made.reply == 0 && room < size {
-            17
-        } else {
-            made.reply
-        };
-        if again.reply != expected {
-            return Err(of_tables(
-                &format!("{} with room {room} of {size}", job.name),
-                lent,
-            ));
-        }
+        let again = self.make(job, lent, other)?;
+        foretold(&asked, &made, enough)
+            .and_then(|()| foretold(&asked, &again, other))
+            .map_err(|what| of_tables(&format!("{} {what}", job.name), lent))?;
         Ok(made)
     }
 

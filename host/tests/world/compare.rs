@@ -1,5 +1,6 @@
 //! Holds the proved library against the plain implementation: each operation is called twice with the same memory, and what the
-//! two answered and left is compared in full, the memory that must stay untouched included.
+//! two answered and left is compared in full, the memory that must stay untouched included. What asking for a size says of a
+//! making is held against the making.
 
 use crate::tables::*;
 use phd_host::{library, plain};
@@ -8,23 +9,34 @@ use std::panic::{catch_unwind, AssertUnwindSafe};
 type Reader = fn(&[u8], &mut [u64], &mut [u64], &mut Facts) -> u64;
 type Maker = fn(&Header, &[u64], &[u64], &[u8], &mut [u8], &mut Facts) -> u64;
 
-/// An operation that makes bytes of tables, on both sides.
+type Asker = fn(&Header, &[u64], &[u64], &[u8], &mut Facts) -> u64;
+
+/// An operation that makes bytes of tables, and asking for their size, on both sides.
 pub struct Job {
     pub name: &'static str,
     pub library: Maker,
     pub plain: Maker,
+    pub size_name: &'static str,
+    pub library_size: Asker,
+    pub plain_size: Asker,
 }
 
 pub const WRITE: Job = Job {
     name: "write",
     library: library::write,
     plain: plain::write,
+    size_name: "write size",
+    library_size: library::write_size,
+    plain_size: plain::write_size,
 };
 
 pub const TEXT: Job = Job {
     name: "text",
     library: library::text,
     plain: plain::text,
+    size_name: "text size",
+    library_size: library::text_size,
+    plain_size: plain::text_size,
 };
 
 /// What an operation answered, and all memory that it could change.
@@ -89,6 +101,19 @@ pub fn make_by(maker: Maker, lent: &Tables, room: usize, salt: u64) -> Outcome {
     }
 }
 
+/// One side's asking for a size.
+pub fn ask_by(asker: Asker, lent: &Tables, salt: u64) -> Outcome {
+    let mut facts = facts_before(salt);
+    let (rows, refs, names) = (&lent.rows, &lent.refs, &lent.names);
+    let reply = asker(&lent.header, rows, refs, names, &mut facts);
+    Outcome {
+        reply,
+        facts,
+        tables: Vec::new(),
+        out: Vec::new(),
+    }
+}
+
 /// Both readings of a dump; the library's is handed out where they agree.
 pub fn read(dump: &[u8], rooms: (usize, usize), salt: u64) -> Result<Outcome, String> {
     let library = read_by(library::read, dump, rooms, salt);
@@ -116,6 +141,33 @@ pub fn make(job: &Job, lent: &Tables, room: usize, salt: u64) -> Result<Outcome,
         Ok(()) => Ok(library),
         Err(what) => Err(of_tables(&named(what), lent)),
     }
+}
+
+/// Both askings for a size; the library's is handed out where they agree.
+pub fn ask(job: &Job, lent: &Tables, salt: u64) -> Result<Outcome, String> {
+    let library = ask_by(job.library_size, lent, salt);
+    let plain = guarded(|| ask_by(job.plain_size, lent, salt));
+    let judged = plain.and_then(|plain| {
+        alike(&library, &plain)?;
+        facts_rules(&library, 2)
+    });
+    match judged {
+        Ok(()) => Ok(library),
+        Err(what) => Err(of_tables(&format!("{}: {what}", job.size_name), lent)),
+    }
+}
+
+/// A making with so much room answers what asking said of it: a refusal alike, and a count where the room holds it, else 17.
+pub fn foretold(asked: &Outcome, made: &Outcome, room: usize) -> Result<(), String> {
+    let said = match asked.reply {
+        0 if room < asked.place() => [17, 0],
+        _ => [asked.reply, asked.place() as u64],
+    };
+    if made.facts[..2] == said {
+        return Ok(());
+    }
+    let told = (said, &made.facts[..2]);
+    Err(format!("with room {room}: foretold and answered {told:?}"))
 }
 
 /// A complaint with the dump that it is about.

@@ -1,6 +1,6 @@
-//! The size limits, which random cases cannot reach: a dump over 1,073,741,824 bytes, read and written.
+//! The size limits, which random cases cannot reach: a dump over 1,073,741,824 bytes, read, written and asked for.
 
-use crate::compare::{self, alike, Outcome};
+use crate::compare::{self, alike, Outcome, TEXT, WRITE};
 use crate::tables::*;
 use phd_host::{library, plain};
 
@@ -64,6 +64,32 @@ fn write_by(side: u8, lent: &Tables, room: usize) -> Outcome {
     }
 }
 
+/// Asking for a size takes neither the dump nor the text to be there. A text has no limit.
+#[test]
+fn sizes_at_the_limit() {
+    for (size, write) in [(LIMIT, [0, LIMIT as u64]), (LIMIT + 1, [17, 0])] {
+        let lent = rows_of(size);
+        let written = compare::ask(&WRITE, &lent, 7).expect("both sides alike");
+        assert_eq!(written.facts[..2], write, "{size} bytes");
+        let names: u64 = lent
+            .rows
+            .chunks_exact(ROW)
+            .map(|row| row[NAME_LENGTH])
+            .sum();
+        let lines = "0x00000000 [0] CLS \n0x00000000\n".len() as u64;
+        let count = lent.count() as u64;
+        let frame = format!(
+            "// Version: \n\
+             // Breakdown - Classes: {count}, Objects: 0, ObjectArrays: 0, PrimitiveArrays: 0\n\
+             // EOF:  Total 'Objects',Refs(null) : {count},0(0)\n"
+        );
+        let text = names + count * lines + frame.len() as u64;
+        let told = compare::ask(&TEXT, &lent, 7).expect("both sides alike");
+        assert_eq!(told.facts[..2], [0, text], "{size} bytes");
+        assert!(text > LIMIT as u64);
+    }
+}
+
 #[test]
 fn written_over_the_limit() {
     let lent = rows_of(LIMIT + 1);
@@ -97,11 +123,13 @@ fn references_over_the_limit() {
             refs: vec![0; count],
             names: Vec::new(),
         };
-        for job in [&compare::WRITE, &compare::TEXT] {
+        for job in [&WRITE, &TEXT] {
             let library = compare::make_by(job.library, &lent, 300, 7);
             let plain = compare::make_by(job.plain, &lent, 300, 7);
             assert_eq!(library.reply, reply, "{} of {count} references", job.name);
             alike(&library, &plain).expect("both sides alike");
+            let asked = compare::ask(job, &lent, 7).expect("both sides alike");
+            compare::foretold(&asked, &library, 300).expect("as asking said");
         }
     }
 }

@@ -40,6 +40,8 @@ impl Tally {
             "read",
             "write",
             "text",
+            "write size",
+            "text size",
             "gap",
             "reference",
             "length",
