@@ -27,7 +27,7 @@ pub record Split (asked : Written) (room : ℕ) (w : Outcome) : Type 0 where
   pub too-small : asked .reply ≡ 0 → room < asked .place → w ≡ refused 17 0
   -- what asking refuses, the writing refuses alike
   pub refusal : (asked .reply ≡ 0 → ⊥) → w ≡ refused (asked .reply) (asked .place)
-  -- and a writing's refusal other than 17 is asking's
+  -- and a writing's answer other than 17 is asking's
   pub other : (w .answer .reply ≡ 17 → ⊥) → w .answer ≡ asked
 
 -- a refusal of both

@@ -14,8 +14,10 @@ struct Times {
     tables: usize,
     read: [Duration; 2],
     write: [Duration; 2],
+    write_size: Duration,
     copy: Duration,
     text: Duration,
+    text_size: Duration,
 }
 
 type Read = fn(&[u8], &mut [u64], &mut [u64], &mut [u64; 16]) -> u64;
@@ -34,18 +36,12 @@ fn least(best: &mut Duration, work: impl FnOnce()) {
 /// Times both sides' reading and writing of a heap in turn, `rounds` times, and holds what they made against each other.
 fn measure(n: usize, rounds: usize) -> Times {
     let heap = Heap::of(n);
-    let mut dump = vec![0; 64 + 40 * n + heap.names.len() + 10 * heap.refs.len()];
     let mut facts = [0; 16];
-    let reply = library::write(
-        &HEADER,
-        &heap.rows,
-        &heap.refs,
-        &heap.names,
-        &mut dump,
-        &mut facts,
-    );
+    let (rows, refs, names) = (&heap.rows, &heap.refs, &heap.names);
+    library::write_size(&HEADER, rows, refs, names, &mut facts);
+    let mut dump = vec![0; facts[1] as usize];
+    let reply = library::write(&HEADER, rows, refs, names, &mut dump, &mut facts);
     assert_eq!(reply, 0, "the heap is written");
-    dump.truncate(facts[1] as usize);
     let mut rows = vec![1; heap.rows.len()];
     let mut refs = vec![1; heap.refs.len()];
     let mut out = vec![1; dump.len()];
@@ -55,8 +51,10 @@ fn measure(n: usize, rounds: usize) -> Times {
         tables: 8 * (rows.len() + refs.len()),
         read: [Duration::MAX; 2],
         write: [Duration::MAX; 2],
+        write_size: Duration::MAX,
         copy: Duration::MAX,
         text: Duration::MAX,
+        text_size: Duration::MAX,
     };
     for _ in 0..rounds {
         for side in 0..2 {
@@ -74,33 +72,33 @@ fn measure(n: usize, rounds: usize) -> Times {
             assert_eq!(facts[..2], [0, dump.len() as u64]);
             assert!(out == dump, "what is written anew is the dump");
         }
+        least(&mut times.write_size, || {
+            library::write_size(&HEADER, &rows, &refs, &dump, &mut facts);
+        });
+        assert_eq!(facts[..2], [0, dump.len() as u64]);
         least(&mut times.copy, || {
             rows.copy_from_slice(&heap.rows);
             refs.copy_from_slice(&heap.refs);
         });
         std::hint::black_box((&rows, &refs));
     }
-    times.text = text_time(&heap);
+    time_text(&heap, &mut times);
     times
 }
 
-/// How long the text of a heap takes, once.
-fn text_time(heap: &Heap) -> Duration {
-    let mut out = vec![0; 4096 + 100 * (heap.rows.len() / library::ROW) + 20 * heap.refs.len()];
+/// How long the text of a heap takes, and asking for its size, once.
+fn time_text(heap: &Heap, times: &mut Times) {
+    let (rows, refs, names) = (&heap.rows, &heap.refs, &heap.names);
     let mut facts = [0; 16];
-    let mut time = Duration::MAX;
-    least(&mut time, || {
-        let reply = library::text(
-            &HEADER,
-            &heap.rows,
-            &heap.refs,
-            &heap.names,
-            &mut out,
-            &mut facts,
-        );
-        assert_eq!(reply, 0, "the text is written");
+    least(&mut times.text_size, || {
+        library::text_size(&HEADER, rows, refs, names, &mut facts);
     });
-    time
+    let size = facts[1];
+    let mut out = vec![0; size as usize];
+    least(&mut times.text, || {
+        library::text(&HEADER, rows, refs, names, &mut out, &mut facts);
+    });
+    assert_eq!(facts[..2], [0, size], "the text is written");
 }
 
 /// Nanoseconds for each of `n` records.
@@ -113,16 +111,18 @@ fn line(t: &Times) {
         let (ours, theirs) = (each(pair[0], t.records), each(pair[1], t.records));
         format!("{ours:.1} | {theirs:.1} | {:.2}", ours / theirs)
     };
-    let text = format!("{:.3} s", t.text.as_secs_f64());
+    let share = |part: Duration, whole: Duration| part.as_secs_f64() / whole.as_secs_f64();
     println!(
-        "| {} | {} | {} | {} | {} | {:.1} | {} |",
+        "| {} | {} | {} | {} | {} | {:.2} | {:.1} | {:.3} s | {:.2} |",
         t.records,
         t.dump,
         t.tables,
         side(&t.read),
         side(&t.write),
+        share(t.write_size, t.write[0]),
         each(t.copy, t.records),
-        text
+        t.text.as_secs_f64(),
+        share(t.text_size, t.text),
     );
 }
 
@@ -151,9 +151,9 @@ fn main() {
         eprintln!("phd-bench: {why}");
         std::process::exit(2)
     });
-    println!("nanoseconds for a record, the least of several rounds; below a ratio of 1 the proved library is the faster");
-    println!("| records | dump bytes | table bytes | read: library | plain | ratio | write: library | plain | ratio | copy of the tables | text |");
-    println!("|---|---|---|---|---|---|---|---|---|---|---|");
+    println!("nanoseconds for a record, the least of several rounds; below a ratio of 1 the proved library is the faster; asking is the library's, as a part of its own writing or text");
+    println!("| records | dump bytes | table bytes | read: library | plain | ratio | write: library | plain | ratio | asking | copy of the tables | text | asking |");
+    println!("|---|---|---|---|---|---|---|---|---|---|---|---|---|");
     let mut all = Vec::new();
     for n in sizes {
         let rounds = (30_000_000 / n).clamp(5, 300);

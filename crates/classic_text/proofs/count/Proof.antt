@@ -1,5 +1,4 @@
 -- `count` meets its contract: the three parts are sized, and are the text.
-use borrow.Author.Needs.{needs}
 use native.Mathlib.Omega.{arith}
 use Rattle.phd_rows.specs.Kept.{word-of}
 use Rattle.phd_counts.specs.Exact.{exact}

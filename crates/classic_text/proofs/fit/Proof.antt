@@ -1,6 +1,5 @@
 -- `fit` meets its contract: a byte is put only where there is room for the text.
 use borrow.Author.Needs.{needs}
-use mathlib.Core.Path.{_≡_}
 use Prim.Native.Nat.{_≤_}
 use native.Mathlib.Omega.{arith}
 use lib.ListN.{length}
