@@ -1,4 +1,5 @@
--- What is found of a text before a byte of it is put: its refusal, which is asking's, or its size and counts.
+-- What is found of a text before a byte of it is put, as the functions between hand it on: no promise speaks of it.
+-- Assumes nothing.
 use mathlib.Core.Path.{_≡_}
 use Prim.Native.Nat.{ℕ}
 use mathlib.Core.List.{List}
@@ -20,6 +21,7 @@ pub record Counted (h : Facts) (names refs rows : List ℕ) (size : ℕ) (tally 
   pub size-is : size ≡ length (text-of h names refs rows)
   pub tally-is : tally ≡ tally-of rows
 
+-- a refusal is the one that asking answers; with a size the tables are good, and it is that of their text
 abbrev pub Measures : Facts → (names refs rows : List ℕ) → Measured → Type 0
 Measures h names refs rows (Refused w) = (w ≡ text-sizing h names refs rows) × (w .reply ≡ 0 → ⊥)
 Measures h names refs rows (Sized n t) = Counted h names refs rows n t

@@ -1,6 +1,6 @@
 // The C boundary: reading, writing and text, and asking how many bytes these two take, for callers in C or Rust. A slice is a
-// pointer and a length, a number has 64 bits, and nothing is allocated. Each function's contract is that of the operation it calls, with the answer as numbers
-// (specs/Boundary.antt).
+// pointer and a length, a number has 64 bits, and nothing is allocated. Each function's contract is that of the operation it calls,
+// with the answer as numbers (specs/Boundary.antt).
 ghost use mathlib.Core.Path.{_≡_};
 ghost use lib.ListN.{length};
 ghost use Rattle.layout.specs.Lent.{stored};

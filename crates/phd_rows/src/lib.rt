@@ -43,7 +43,8 @@ pub enum Found {
 // is what a reading hands out, with the dump as the name bytes.
 pub type Header = Facts;
 
-// What the writer and the text answer: the reply and its place. For 0 the place is how many bytes were written.
+// What the writer and the text answer, and asking for their sizes: the reply and its place. For 0 the place is how many bytes were
+// written, or are to be.
 pub struct Written {
     pub reply: u64,
     pub place: usize,
