@@ -93,10 +93,7 @@ pub fn write_size(
     names: &[u8],
     facts: &mut [u64; 16],
 ) -> u64 {
-    report(
-        Lent::judge(header, rows, refs, names).and_then(|lent| write::size(&lent)),
-        facts,
-    )
+    report(Lent::judge(header, rows, refs, names), write::size, facts)
 }
 
 /// Writes the tables as a dump and returns the reply.
@@ -108,10 +105,8 @@ pub fn write(
     out: &mut [u8],
     facts: &mut [u64; 16],
 ) -> u64 {
-    report(
-        Lent::judge(header, rows, refs, names).and_then(|lent| write::write(&lent, out)),
-        facts,
-    )
+    let put = |lent: &Lent| write::write(lent, out);
+    report(Lent::judge(header, rows, refs, names), put, facts)
 }
 
 /// Asks how many bytes the tables take as classic text, and returns the reply.
@@ -122,10 +117,7 @@ pub fn text_size(
     names: &[u8],
     facts: &mut [u64; 16],
 ) -> u64 {
-    report(
-        Lent::judge(header, rows, refs, names).and_then(|lent| text::size(&lent)),
-        facts,
-    )
+    report(Lent::judge(header, rows, refs, names), text::size, facts)
 }
 
 /// Writes the tables as classic text and returns the reply.
@@ -137,16 +129,18 @@ pub fn text(
     out: &mut [u8],
     facts: &mut [u64; 16],
 ) -> u64 {
-    report(
-        Lent::judge(header, rows, refs, names).and_then(|lent| text::text(&lent, out)),
-        facts,
-    )
+    let put = |lent: &Lent| text::text(lent, out);
+    report(Lent::judge(header, rows, refs, names), put, facts)
 }
 
-/// Puts the outcome of a write, of a text, or of asking for its size into the facts.
-fn report(outcome: Result<usize, Stop>, facts: &mut [u64; 16]) -> u64 {
-    let (reply, place) = match outcome {
-        Ok(written) => (Reply::Done, written as u64),
+/// Does the work with what is lent, if that is good, and puts the outcome into the facts.
+fn report(
+    judged: Result<Lent, Stop>,
+    work: impl FnOnce(&Lent) -> Result<usize, Stop>,
+    facts: &mut [u64; 16],
+) -> u64 {
+    let (reply, place) = match judged.and_then(|lent| work(&lent)) {
+        Ok(size) => (Reply::Done, size as u64),
         Err(stop) => stop,
     };
     *facts = [0; 16];
