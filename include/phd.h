@@ -34,7 +34,7 @@ enum phd_number {
     PHD_TYPE = 11        /* of a primitive array: 0 to 7 for boolean, char, float, double, byte, short, int, long */
 };
 
-/* What a function says in `facts`, by its place there. The rest is 0, and after all but a reading that is all but the first
+/* What a function says in `facts`, by its place there. The rest is 0; after any function but phd_read that is all but the first
  * two. */
 enum phd_fact {
     PHD_REPLY = 0,

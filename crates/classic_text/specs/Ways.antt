@@ -1,17 +1,17 @@
 -- A text by its tests, and what good tables give the functions.
 -- Assumes nothing.
 use mathlib.Core.Path.{_≡_, refl, sym, ap}
-use Prim.Native.Nat.{ℕ, _+_, _^_, _≤_, _<_}
+use Prim.Native.Nat.{ℕ, _+_, _^_, _<_}
 use native.Mathlib.Omega.{arith}
 use mathlib.Core.Bool.{Bool, true, false}
 use mathlib.Core.List.{List}
 use lib.ListN.{length}
 use lib.Dec.{leb}
-use borrow.Author.Tests.{le-leb, lt-leb}
+use borrow.Author.Tests.{le-leb}
 use Rattle.layout.specs.Numbers.{both}
 use Rattle.phd.specs.declared.Facts.{Facts}
 use Rattle.phd_rows.specs.Good.{good-header, bad-of}
-use Rattle.phd_rows.specs.Judged.{Outcome, refused, done, judged, checked, classed, AllRight, Exact, exact}
+use Rattle.phd_rows.specs.Judged.{Outcome, judged, checked, classed, AllRight, Exact, exact}
 use Rattle.phd_rows.specs.Asked.{Split, asked-checked, asked-classed, asked-counts, asked-split as by-asked}
 use Rattle.phd_rows.specs.Kept.{Vm, vm-lent, vm-of, word-of, few-rows, few-refs}
 use Rattle.phd_rows.specs.declared.Found.{Found}
@@ -38,14 +38,6 @@ module _ (h : Facts) (names refs rows : List ℕ) (room : ℕ) where
   pub by-tests : Exact (good-header h names rows refs) (bad-of h names refs rows) lost (leb (length text) room) text given
   unfolding texting
   by-tests = exact _ _ _ _ _
-
-  pub no-room : AllRight h names refs rows → lost ≡ Nowhere → room < length text → given ≡ refused 17 0
-  unfolding texting judged
-  no-room a f l = rw (a .0, a .1, f, lt-leb _ _ l)
-
-  pub fits : AllRight h names refs rows → lost ≡ Nowhere → length text ≤ room → given ≡ done text
-  unfolding texting judged
-  fits a f l = rw (a .0, a .1, f, le-leb _ _ l)
 
 -- ---- asking for the size
 
@@ -84,10 +76,9 @@ module _ (h : Facts) (names refs rows : List ℕ) where
       (alone (leb (length (text-of h names refs rows)) room))
 
   -- what it says of a text
-  module _ (w : Written) (room : ℕ) (e : w ≡ text-sizing h names refs rows) where
-    pub asked-split : Split w room (texting h names refs rows room)
-    unfolding text-sizing
-    asked-split = rw (as-asked room) (by-asked _ _ _ _ _ w room e)
+  pub asked-split : (w : Written) (room : ℕ) → w ≡ text-sizing h names refs rows → Split w room (texting h names refs rows room)
+  unfolding text-sizing
+  asked-split w room e = rw (as-asked room) (by-asked _ _ _ _ _ w room e)
 
 -- ---- good tables
 

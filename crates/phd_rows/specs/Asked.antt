@@ -11,7 +11,7 @@ use native.Mathlib.Omega.{arith}
 use native.Mathlib.Decide.{decLe}
 use borrow.Author.Tests.{le-leb, lt-leb}
 use Rattle.layout.specs.Numbers.{both}
-use Rattle.phd_rows.specs.Judged.{Outcome, refused, done, judged, checked, classed, checked-stops, classed-stops, exact}
+use Rattle.phd_rows.specs.Judged.{Outcome, refused, done, judged, checked, classed, checked-stops, classed-stops}
 use Rattle.phd_rows.specs.declared.Found.{Found}
 use Rattle.phd_rows.specs.declared.Found.the-variants.{At, Nowhere}
 use Rattle.phd_rows.specs.declared.Written.{Written}
@@ -85,15 +85,6 @@ split true Nowhere Nowhere within bytes room = elim (decLe (length bytes) room) 
     lacking true l = without bytes room l
     lacking false l = refusing 17 0 room (λ z. omega arith)
 
--- Where asking answers 0 and the output holds its count: all tests hold, and the bytes are written.
-pub record Held (good : Bool) (bad lost : Found) (bytes : List ℕ) (asked : Written) (w : Outcome) : Type 0 where
-  pub header : good ≡ true
-  pub rows : bad ≡ Nowhere
-  pub classes : lost ≡ Nowhere
-  pub count : asked .place ≡ length bytes
-  pub same : asked ≡ w .answer
-  pub all : w ≡ done bytes
-
 -- ---- what asking answers, by the tests as a function makes them
 
 module _ (good : Bool) (bad lost : Found) (within : Bool) (bytes : List ℕ) where
@@ -117,25 +108,6 @@ module _ (good : Bool) (bad lost : Found) (within : Bool) (bytes : List ℕ) whe
   asked-over p q r s = rw (p, q, r, s)
 
   -- what it says of a writing
-  module _ (asked : Written) (room : ℕ) (e : asked ≡ judged good bad lost within bytes .answer) where
-    abbrev given : Outcome
-    given = judged good bad lost (both (leb (length bytes) room) within) bytes
-
-    pub asked-split : Split asked room given
-    asked-split = rw e (split good bad lost within bytes room)
-
-    pub held : asked .reply ≡ 0 → asked .place ≤ room → Held good bad lost bytes asked given
-    unfolding done
-    held z l =
-        let d = asked-split .done .1 (z, l) in
-        let x = exact good bad lost (both (leb (length bytes) room) within) bytes in
-        let g = x .all-good .0 d in
-        let w : given ≡ done bytes = x .written d in
-        record {
-          header = g .0;
-          rows = g .1;
-          classes = g .2;
-          count = sym (rw w at (asked-split .count d));
-          same = sym (asked-split .same d);
-          all = w;
-        }
+  pub asked-split : (asked : Written) (room : ℕ) → asked ≡ judged good bad lost within bytes .answer
+      → Split asked room (judged good bad lost (both (leb (length bytes) room) within) bytes)
+  asked-split asked room e = rw e (split good bad lost within bytes room)

@@ -179,11 +179,6 @@ pub refused-keeps : (out : List ℕ) (w : Outcome) (reply place : ℕ) → w ≡
 unfolding refused
 refused-keeps out w reply place e = rw (e, stored-none) (refl, refl)
 
--- bytes that were written are answered with how many they are
-pub done-answers : (bytes : List ℕ) (size : ℕ) (w : Outcome) → w ≡ done bytes → size ≡ length bytes → record { reply = 0; place = size } ≡ w .answer
-unfolding done
-done-answers bytes size w e s = rw e (rw s refl)
-
 -- bytes that were put from the place 0 on stand at its start
 pub done-stores : (out out₁ bytes : List ℕ) (w : Outcome) → w ≡ done bytes → length bytes ≤ length out → out₁ ≡ sets out 0 bytes → out₁ ≡ stored out (w .bytes)
 unfolding done

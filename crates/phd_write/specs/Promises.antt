@@ -26,7 +26,7 @@ use Rattle.phd_write.specs.Terms.{dump-of, TooLong, Ends, all-refs, kept
 use Rattle.phd_write.specs.Within.{within-all, ends-behind, records-end}
 use Rattle.phd_write.specs.HeaderBack.{written-facts, vm-kept, vm-stands}
 use Rattle.phd_write.specs.Whole.{ReadsCut, reads-cut, kept-count, kept-records}
-use Rattle.phd_write.specs.Ways.{length-recs, rows-enough, refs-lent, has, lacks, has-it, lacks-it, by-tests, said-0, good-dump, as-written, asked-split, held}
+use Rattle.phd_write.specs.Ways.{length-recs, rows-enough, refs-lent, has, lacks, has-it, lacks-it, by-tests, said-0, good-dump, as-written, asked-split}
 
 -- ---- each reply exactly in its case
 
@@ -119,8 +119,8 @@ pub just-enough : (h : Facts) (names refs rows out : List ℕ) → write-sizing 
     → stored out (writing h names refs rows (length out) .bytes) ≡ dump-of h names refs rows
 unfolding done
 just-enough h names refs rows out z l =
-    let g = held h names refs rows _ (length out) refl z (omega arith) in
-    rw (g .all) (stored-all out (dump-of h names refs rows) (l ∙ g .count))
+    let d = split h names refs rows (length out) .done .1 (z, omega arith) in
+    rw (said-0 h names refs rows (length out) d .3) (stored-all out (dump-of h names refs rows) (l ∙ asks h names refs rows .count z))
 
 -- ---- what a writing with reply 0 wrote
 

@@ -16,7 +16,7 @@ use Rattle.phd.specs.declared.Facts.{Facts}
 use Rattle.phd_rows.specs.Rows.{bare, refs-of, rec-of, row-at, recs-from, row-count, recs}
 use Rattle.phd_rows.specs.Good.{good-header, first-bad, bad-of}
 use Rattle.phd_rows.specs.Judged.{Outcome, done, judged, checked, AllRight, Exact, exact}
-use Rattle.phd_rows.specs.Asked.{Split, Held, asked-checked, asked-counts, asked-over, asked-split as by-asked, held as by-held}
+use Rattle.phd_rows.specs.Asked.{Split, asked-checked, asked-counts, asked-over, asked-split as by-asked}
 use Rattle.phd_rows.specs.Kept.{good-of, lent-of, none-bad, word-of, vm-of}
 use Rattle.phd_rows.specs.declared.Found.the-variants.{Nowhere}
 use Rattle.phd_rows.specs.declared.Written.{Written}
@@ -159,12 +159,6 @@ module _ (h : Facts) (names refs rows : List ℕ) where
       (twice (leb (length (dump-of h names refs rows)) limit))
 
   -- what it says of a writing
-  module _ (w : Written) (room : ℕ) (e : w ≡ write-sizing h names refs rows) where
-    pub asked-split : Split w room (writing h names refs rows room)
-    unfolding writing write-sizing has-room
-    asked-split = by-asked _ _ _ _ _ w room e
-
-    pub held : w .reply ≡ 0 → w .place ≤ room
-        → Held (good-header h names rows refs) (bad-of h names refs rows) Nowhere (dump-of h names refs rows) w (writing h names refs rows room)
-    unfolding writing write-sizing has-room
-    held z l = by-held _ _ _ _ _ w room e z l
+  pub asked-split : (w : Written) (room : ℕ) → w ≡ write-sizing h names refs rows → Split w room (writing h names refs rows room)
+  unfolding writing write-sizing has-room
+  asked-split w room e = by-asked _ _ _ _ _ w room e

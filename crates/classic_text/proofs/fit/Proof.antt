@@ -1,13 +1,15 @@
 -- `fit` meets its contract: a byte is put only where there is room for the text.
 use borrow.Author.Needs.{needs}
+use mathlib.Core.Path.{refl, sym}
 use Prim.Native.Nat.{_≤_}
 use native.Mathlib.Omega.{arith}
 use lib.ListN.{length}
-use Rattle.phd_rows.specs.Judged.{refused-keeps, done-answers, done-stores}
+use Rattle.phd_rows.specs.Judged.{refused-keeps, done-stores}
 use Rattle.phd_rows.specs.Kept.{word-of}
 use Rattle.classic.specs.Classic.{text-of}
 use Rattle.classic.specs.Fine.{all-short, all-linked}
-use Rattle.classic_text.specs.Ways.{no-room, fits, good-vm-of}
+use Rattle.classic_text.specs.Ways.{by-tests, asked-split, good-vm-of}
+use Rattle.classic_text.specs.Measures.{counted-asks}
 use Rattle.classic_text.proofs.Whole.{totalled, version-room, rows-room, trailers-room, text-put}
 use Rattle.classic_text.proofs.fit.Statement.{statement}
 use Rattle.classic_text.proofs.fit.Tie as tie
@@ -18,9 +20,8 @@ begin c = c .before .before .before .before .before
 
 returns : tie.Need-returns
 returns c =
-    let p = c .before .before .before .before .before .pre in
-    let s = p .size-is in
-    refused-keeps _ _ 17 0 (no-room _ _ _ _ _ (p .right) (p .classes) (omega arith))
+    let s = asked-split _ _ _ _ _ _ (counted-asks (c .before .before .before .before .before .pre)) in
+    refused-keeps _ _ 17 0 (s .too-small refl (omega arith))
 
 -- it is put only where there is room for it
 enough : (c : tie.Else1) → let a = begin c .args in length (text-of (a .header) (a .names .now) (a .refs .now) (a .rows .now)) ≤ length (a .out .now)
@@ -54,9 +55,10 @@ returns-2 : tie.Need-returns-2
 returns-2 c =
     let d = c .before .before .before .before .before .before .before .before .before .before .before .before in
     let p = begin d .pre in
-    let f = fits _ _ _ _ _ (p .right) (p .classes) (enough d) in (
-      done-answers _ _ _ f (p .size-is),
-      done-stores _ _ _ _ f (enough d)
+    let s = asked-split _ _ _ _ _ (length (begin d .args .out .now)) (counted-asks p) in
+    let z = s .done .1 (refl, omega arith) in (
+      sym (s .same z),
+      done-stores _ _ _ _ (by-tests _ _ _ _ _ .written z) (enough d)
           (text-put _ _ _ _ _ (p .tally-is) _ (enough d) (c .before .before .before .before .before .before .before .before .before .before .put .ensures) (c .before .before .before .before .before .before .put2 .ensures) (c .before .before .put3 .ensures)),
     )
 
