@@ -17,8 +17,7 @@
 extern "C" {
 #endif
 
-/* The numbers of a row, and their order. A number that a kind does not use is 0. */
-#define PHD_ROW 12
+/* The numbers of a row, in their order, and last how many they are. A number that a kind does not use is 0. */
 enum phd_number {
     PHD_KIND = 0,        /* 1 class, 2 object, 3 object array, 4 primitive array */
     PHD_ADDRESS = 1,
@@ -31,7 +30,9 @@ enum phd_number {
     PHD_LENGTH = 8,      /* of an array, in elements */
     PHD_NAME_PLACE = 9,  /* of a class: where its name stands in the dump, or in the name bytes */
     PHD_NAME_LENGTH = 10,
-    PHD_TYPE = 11        /* of a primitive array: 0 to 7 for boolean, char, float, double, byte, short, int, long */
+    PHD_TYPE = 11,       /* of a primitive array: 0 to 7 for boolean, char, float, double, byte, short, int, long */
+    PHD_OFFSET = 12,     /* where its record's tag stands in the dump that it was read from. Writing and text ignore it */
+    PHD_ROW
 };
 
 /* What a function says in `facts`, by its place there. The rest is 0; after any function but phd_read that is all but the first

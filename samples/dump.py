@@ -8,7 +8,9 @@ is expected comes from what was put in.
 # The numbers of a row, in their order. One that a record does not name is 0.
 ROW = (
     "kind", "address", "word", "hash_kind", "hash", "first", "count", "size", "length", "name_place", "name_length", "type",
+    "offset",
 )  # fmt: skip
+WIDTH = len(ROW)
 
 # The room that a program has if nothing else is said: whole rows, and references.
 ROWS, REFS = 48, 70
@@ -198,7 +200,7 @@ class Dump:
         elif len(self.refs) + len(refs) > self.room_refs:
             self.stop(14, tag)
         if not self.over:
-            numbers.update(first=len(self.refs), count=len(refs))
+            numbers.update(first=len(self.refs), count=len(refs), offset=tag)
             self.rows.append([numbers.pop(n, 0) for n in ROW])
             assert not numbers
             self.refs += refs

@@ -9,7 +9,7 @@ a dump (text.py); of those that are refused this file says the reply and the row
 import sys
 
 from crate import fill
-from dump import ASKED, NONE, OPENING, PAPER
+from dump import ASKED, NONE, OPENING, PAPER, WIDTH
 from text import REFS, ROWS, TYPES, Lent, blank, refused, texted
 
 # The text that the paper has whole, of the dump that it has.
@@ -357,7 +357,7 @@ def bad_rows():
     yield "bad-ref-null", refused(changed().but_ref(0, 0), 16, 1)
     yield "bad-ref-odd", refused(changed().but_ref(0, 0x1022), 16, 1)
     yield "bad-ref-lacks", refused(changed().lend(more_refs=-1), 16, 1)
-    yield "bad-row-unread", refused(changed().lend(more_numbers=12), 16, 4)
+    yield "bad-row-unread", refused(changed().lend(more_numbers=WIDTH), 16, 4)
     yield "bad-hashed", refused(changed().but(hashed=1), 16, 0)
     yield "bad-row-before-class", refused(changed().but(1, word=4).but(3, kind=9), 16, 3)
     yield "bad-64-as-32", refused(Lent(edges(64).end()).but(word=32), 16, 0)
@@ -368,9 +368,10 @@ def lent_otherwise():
     yield "lent-openj9", texted(changed().but(openj9=0))
     yield "lent-no-vm", texted(changed().but(vm=0, place=2**64 - 1, len=2**64 - 1))
     yield "lent-vm-elsewhere", texted(changed().but(place=2, len=18))
-    yield "lent-more", texted(changed().lend(11, 3))
-    yield "lent-less", texted(changed().lend(-12 - 1))
-    yield "lent-no-rows", texted(changed().lend(-48 + 11))
+    yield "lent-more", texted(changed().lend(WIDTH - 1, 3))
+    yield "lent-less", texted(changed().lend(-WIDTH - 1))
+    yield "lent-no-rows", texted(changed().lend(-3 * WIDTH - 1))
+    yield "lent-offsets", texted(changed().but(0, offset=2**64 - 1).but(1, offset=0).but(2, offset=66).but(3, offset=38))
     yield "lent-name", texted(changed().but(0, name_place=2, name_length=8))
     yield "lent-hash", texted(changed().but(1, hash_kind=2, hash=2**32 - 1).but(2, hash_kind=1))
     yield "lent-class-gone", refused(changed().but(0, address=0x1004), 18, 1)

@@ -9,7 +9,7 @@ Writes data/*.tables, args and stdout into that folder, the same on every run. W
 import sys
 
 from crate import fill
-from dump import ASKED, NONE, PAPER
+from dump import ASKED, NONE, PAPER, WIDTH
 from tables import Tables, refused, written
 
 # The greatest numbers that fit a byte, a short and an int.
@@ -34,7 +34,7 @@ def rooms():
     yield "example-more", written(more)
     yield "no-rows-room-31", refused(Tables(vm=None), 17, room=31)
     leftover = Tables()
-    leftover.more = [2**64 - 1] * 11
+    leftover.more = [2**64 - 1] * (WIDTH - 1)
     yield "no-rows-leftover", written(leftover, more=0)
 
 

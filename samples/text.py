@@ -4,10 +4,10 @@ The text is made here from the records that were put into a dump (dump.py), as t
 and its change request 3 of nulls.
 Behind its end tag a dump may have changes of what was read; how they are held is said in crates/text_samples/src/changes.rt.
 """
-from dump import ROW, Dump, line, unsigned
+from dump import ROW, WIDTH, Dump, line, unsigned
 
 # The room that the program has: whole rows, with as many numbers more, references, and bytes for a file and for output.
-ROWS, MORE, REFS, BYTES = 128, 11, 160, 0x40000
+ROWS, MORE, REFS, BYTES = 128, WIDTH - 1, 160, 0x40000
 
 # What a number of its tables is where nothing was read.
 UNREAD = 0x5EED5EED5EED5EED
@@ -47,7 +47,7 @@ class Lent:
                 self.change(0, [*self.facts].index(name), n)
                 self.facts[name] = n
             else:
-                at = len(ROW) * i + ROW.index(name)
+                at = WIDTH * i + ROW.index(name)
                 assert self.numbers[at] != n
                 self.change(1, at, n)
                 self.numbers[at] = n
@@ -65,15 +65,14 @@ class Lent:
             self.change(0, index, count)
             table[count:] = []
             table += [UNREAD] * (count - len(table))
-        assert len(self.numbers) <= len(ROW) * ROWS + MORE and len(self.refs) <= REFS
+        assert len(self.numbers) <= WIDTH * ROWS + MORE and len(self.refs) <= REFS
         return self
 
     # ---- the text
 
     def rows(self):
         """The whole rows, by the names of their numbers."""
-        width = len(ROW)
-        return [dict(zip(ROW, self.numbers[i : i + width])) for i in range(0, len(self.numbers) - width + 1, width)]
+        return [dict(zip(ROW, self.numbers[i : i + WIDTH])) for i in range(0, len(self.numbers) - WIDTH + 1, WIDTH)]
 
     def string(self, place, length):
         assert place + length <= len(self.held)

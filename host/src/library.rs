@@ -1,7 +1,20 @@
 //! The proved library behind its C boundary, `include/phd.h`. The functions here hand slices on and decide nothing.
 
-/// The numbers of a row.
-pub const ROW: usize = 12;
+/// The numbers of a row, and how many they are.
+pub const KIND: usize = 0;
+pub const ADDRESS: usize = 1;
+pub const CLASS: usize = 2;
+pub const HASH_KIND: usize = 3;
+pub const HASH: usize = 4;
+pub const FIRST: usize = 5;
+pub const COUNT: usize = 6;
+pub const SIZE: usize = 7;
+pub const LENGTH: usize = 8;
+pub const NAME: usize = 9;
+pub const NAME_LENGTH: usize = 10;
+pub const TYPE: usize = 11;
+pub const OFFSET: usize = 12;
+pub const ROW: usize = 13;
 
 /// What an operation answers: 0 reply, 1 place, 2 rows, 3 references, 4 W, 5 all hashed, 6 from OpenJ9, 7 VM string there,
 /// 8 its place, 9 its length, 10 the bytes that the field lacked where the dump is cut. After a write, a text, or asking for

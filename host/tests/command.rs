@@ -8,6 +8,8 @@ mod info;
 mod large;
 #[path = "command/output.rs"]
 mod output;
+#[path = "command/rows.rs"]
+mod rows;
 #[path = "command/trial.rs"]
 mod trial;
 #[path = "command/usage.rs"]

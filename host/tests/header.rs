@@ -37,6 +37,9 @@ fn expected(dump: &[u8]) -> String {
     let header: library::Header = facts[4..10].try_into().expect("six numbers");
     let rows = &rows[..facts[2] as usize * library::ROW];
     let refs = &refs[..facts[3] as usize];
+    for row in rows.chunks_exact(library::ROW) {
+        said += &format!("row at {}\n", row[library::OFFSET]);
+    }
     let reply = library::write_size(&header, rows, refs, dump, &mut facts);
     said += &line("write size", reply, &facts);
     let mut out = vec![0; facts[1] as usize];

@@ -16,12 +16,14 @@ use Rattle.phd_rows.specs.Rows.{row-count}
 use Rattle.phd_rows.specs.Good.{good-header, bad-of}
 use Rattle.phd_rows.specs.Judged.{Outcome, done, AllRight, Exact as ByTests}
 use Rattle.phd_rows.specs.Asked.{Split}
+use Rattle.phd_rows.specs.Alike.{Alike}
 use Rattle.phd_rows.specs.declared.Found.the-variants.{At, Nowhere}
 use Rattle.phd_rows.specs.declared.Written.{Written}
 use Rattle.phd_counts.specs.Counts.{sum, nulls, tally-of}
 use Rattle.phd_counts.specs.Exact.{with-nulls, exact as all-exact}
 use Rattle.classic.specs.Classic.{ascii, figure, first-row, is-class-at, class-at, is-lost, row-lines, totals, lines, text-of, texting, text-sizing}
 use Rattle.classic.specs.Fine.{all-linked}
+use Rattle.classic.specs.Same.{same-texting, same-sizing}
 use Rattle.classic_text.specs.Parts.{version-text, rows-size, trailers-by, text-parts}
 use Rattle.classic_text.specs.Sizes.{rows-long}
 use Rattle.classic.specs.Firsts.{First, None, ClassRow, Classless, first-is, none-is, class-row-is, classless-is}
@@ -115,6 +117,13 @@ pub just-enough : (h : Facts) (names refs rows out : List ℕ) → text-sizing h
 just-enough h names refs rows out z l =
     let d = split h names refs rows (length out) .done .1 (z, omega arith) in
     rw (exact h names refs rows (length out) .bytes d) (stored-all out (text-of h names refs rows) (l ∙ asks h names refs rows .count z))
+
+-- ---- the offsets of the rows lent
+
+-- Any numbers may stand there: tables that differ in them alone, or behind their last whole row, give the same text and size.
+pub any-offsets : (h : Facts) (names refs : List ℕ) {rows rows′ : List ℕ} (room : ℕ) → Alike rows rows′
+    → (texting h names refs rows room ≡ texting h names refs rows′ room) × (text-sizing h names refs rows ≡ text-sizing h names refs rows′)
+any-offsets h names refs room a = (same-texting a h names refs room, same-sizing a h names refs)
 
 -- ---- the first row without its class, and the class row of an address
 

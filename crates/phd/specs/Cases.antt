@@ -8,12 +8,12 @@ use lib.ListN.{take, set}
 use Rattle.layout.specs.Numbers.{value-after, signed, moved, counted, within}
 use Rattle.layout.specs.Layout.{run, _>>=_, position, raw, field, check, need, reply-of, missing-of}
 use Rattle.layout.specs.Fields.{exactly, below, address, reference, count, string}
-use Rattle.phd.specs.Phd.{limit, row-width, bit, highest, same, opening, opening-bytes, preamble, after-vm, header-records, header-facts, header, no-facts, empty, put, slot, tagged, formed, known-class, moved-bit, hashed-bit, flag-byte, hash-kind, hash-bytes, width, shape, front, middle, class-name, link-count, references, links, true-length, tail, there, row, linked, fields, record-of, entry, Result, ended, settle, step, records, first, nothing, opened, reading}
+use Rattle.phd.specs.Phd.{limit, row-width, bit, highest, same, opening, opening-bytes, preamble, after-vm, header-records, header-facts, header, no-facts, empty, put, slot, tagged, formed, known-class, moved-bit, hashed-bit, flag-byte, hash-kind, hash-bytes, width, shape, front, middle, class-name, link-count, references, links, true-length, tail, there, row, linked, fields, record-of, from-tag, entry, Result, ended, settle, step, records, first, nothing, opened, reading}
 use Rattle.phd.specs.declared.Facts.{Facts}
 
 -- for a proof by computing: whoever unfolds this unfolds all that a reading is made of
 unfoldable pub computing : Unit {0}
-unfolding value-after signed moved counted within run _>>=_ position raw field check need reply-of missing-of exactly below address reference count string limit bit highest same opening opening-bytes preamble after-vm header-records header-facts header no-facts empty put slot tagged formed known-class moved-bit hashed-bit flag-byte hash-kind hash-bytes width shape front middle class-name link-count references links true-length tail there row linked fields record-of entry ended settle step records first nothing opened reading
+unfolding value-after signed moved counted within run _>>=_ position raw field check need reply-of missing-of exactly below address reference count string limit bit highest same opening opening-bytes preamble after-vm header-records header-facts header no-facts empty put slot tagged formed known-class moved-bit hashed-bit flag-byte hash-kind hash-bytes width shape front middle class-name link-count references links true-length tail there row linked fields record-of from-tag entry ended settle step records first nothing opened reading
 computing = tt
 
 -- the dump of 01, 74 bytes
@@ -31,13 +31,13 @@ dump =
 unfoldable pub its : Facts
 its = record { word = 32; hashed = false; openj9 = true; vm = record { there = true; place = 32; len = 4 } }
 
--- its rows, of which (i) moves all but the first
+-- its rows, with the offsets of their records; (i) moves all addresses but the first
 unfoldable pub table : ℕ → ℕ → ℕ → List ℕ
 table second third fourth =
-    1 ∷ 0x1000 ∷ 0 ∷ 0 ∷ 0 ∷ 0 ∷ 0 ∷ 16 ∷ 0 ∷ 52 ∷ 1 ∷ 0
-    ∷ 2 ∷ second ∷ 0x1000 ∷ 0 ∷ 0 ∷ 0 ∷ 1 ∷ 0 ∷ 0 ∷ 0 ∷ 0 ∷ 0
-    ∷ 2 ∷ third ∷ 0x1000 ∷ 0 ∷ 0 ∷ 1 ∷ 0 ∷ 0 ∷ 0 ∷ 0 ∷ 0 ∷ 0
-    ∷ 4 ∷ fourth ∷ 0 ∷ 0 ∷ 0 ∷ 1 ∷ 0 ∷ 6 ∷ 3 ∷ 0 ∷ 0 ∷ 1 ∷ []
+    1 ∷ 0x1000 ∷ 0 ∷ 0 ∷ 0 ∷ 0 ∷ 0 ∷ 16 ∷ 0 ∷ 52 ∷ 1 ∷ 0 ∷ 38
+    ∷ 2 ∷ second ∷ 0x1000 ∷ 0 ∷ 0 ∷ 0 ∷ 1 ∷ 0 ∷ 0 ∷ 0 ∷ 0 ∷ 0 ∷ 57
+    ∷ 2 ∷ third ∷ 0x1000 ∷ 0 ∷ 0 ∷ 1 ∷ 0 ∷ 0 ∷ 0 ∷ 0 ∷ 0 ∷ 0 ∷ 64
+    ∷ 4 ∷ fourth ∷ 0 ∷ 0 ∷ 0 ∷ 1 ∷ 0 ∷ 6 ∷ 3 ∷ 0 ∷ 0 ∷ 1 ∷ 66 ∷ []
 
 -- bytes, rows of room, and the reading that 01 says, with room for one reference
 pub record Case : Type 0 where

@@ -18,6 +18,7 @@ use Rattle.phd.specs.declared.Form.{Form}
 use Rattle.phd.specs.declared.Form.the-variants.{Short, Medium, Long, Class, ObjectArray, Primitive, LongPrimitive}
 use Rattle.phd.specs.declared.Tagged.{Tagged}
 use Rattle.phd.specs.declared.Tagged.the-variants.{Begins, Other}
+use Rattle.phd.specs.declared.Origin.{Origin}
 use Rattle.phd.specs.declared.Shape.{Shape}
 use Rattle.phd.specs.declared.Front.{Front}
 use Rattle.phd.specs.declared.Middle.{Middle}
@@ -30,7 +31,11 @@ limit = 0x40000000
 
 -- the numbers of a row
 abbrev pub row-width : ℕ
-row-width = 12
+row-width = 13
+
+-- which of them, from 0, is the offset of its record in the dump
+abbrev pub offset-number : ℕ
+offset-number = 12
 
 -- whether the bit of the value m (1, 2, 4, 8 ..) is set
 unfoldable pub bit : ℕ → ℕ → Bool
@@ -256,12 +261,12 @@ unfoldable pub there : ℕ → ℕ → ℕ → ℕ
 there w v other = pick (eqb w 0) other v
 
 -- The row: kind, address, class word, hash kind, hash, first reference's index, reference count, size, length, name
--- place, name length, primitive type. `known` is the class of a short record.
-unfoldable pub row : ℕ → ℕ → ℕ → Shape → Front → Middle → Text → ℕ → Tail → List ℕ
-row index hk known sh v m name n t =
+-- place, name length, primitive type, offset of the record. `known` is the class of a short record.
+unfoldable pub row : Origin → ℕ → ℕ → Shape → Front → Middle → Text → ℕ → Tail → List ℕ
+row origin hk known sh v m name n t =
     sh .kind ∷ v .address ∷ there (sh .word) (v .word) (there (sh .superclass) (m .superclass) known) ∷ hk ∷ m .hash
-    ∷ index ∷ n ∷ there (sh .inst) (m .inst) (t .size) ∷ there (sh .truelen) (t .truelen) (v .len)
-    ∷ name .place ∷ name .len ∷ sh .prim ∷ []
+    ∷ origin .index ∷ n ∷ there (sh .inst) (m .inst) (t .size) ∷ there (sh .truelen) (t .truelen) (v .len)
+    ∷ name .place ∷ name .len ∷ sh .prim ∷ origin .offset ∷ []
 
 -- What comes next: the end tag, or a record with its row, its references, its address and the cache after it.
 pub data Item : Type 0 where
@@ -269,34 +274,40 @@ pub data Item : Type 0 where
   item : List ℕ → Links → ℕ → Cache → Item
 
 -- the fields from the reference count on, and the record whole
-unfoldable pub linked : ℕ → Cache → ℕ → ℕ → ℕ → Shape → Front → Middle → Text → Layout Item
-linked top c index known hk sh v m name = do
+unfoldable pub linked : ℕ → Cache → Origin → ℕ → ℕ → Shape → Front → Middle → Text → Layout Item
+linked top c origin known hk sh v m name = do
   n ← link-count (sh .counted) (sh .count)
   ls ← links (sh .link) (v .address) top n
   t ← tail (sh .size) (sh .truelen) n
-  yield (item (row index hk known sh v m name n t) ls (v .address) (pick (sh .cached) (put c (v .word)) c))
+  yield (item (row origin hk known sh v m name n t) ls (v .address) (pick (sh .cached) (put c (v .word)) c))
 
 -- the fields after the tag and the flag byte, in file order
-unfoldable pub fields : ℕ → ℕ → Cache → ℕ → ℕ → ℕ → Shape → Layout Item
-fields top before c index known hk sh = do
+unfoldable pub fields : ℕ → ℕ → Cache → Origin → ℕ → ℕ → Shape → Layout Item
+fields top before c origin known hk sh = do
   v ← front top before sh
   m ← middle sh (hash-bytes hk)
   name ← class-name (sh .name)
-  linked top c index known hk sh v m name
+  linked top c origin known hk sh v m name
 
--- a record behind its tag t, with `index` references before it
-unfoldable pub record-of : Facts → ℕ → Cache → ℕ → ℕ → Layout Item
-record-of h before c index t = do
+-- a record behind its tag t
+unfoldable pub record-of : Facts → ℕ → Cache → Origin → ℕ → Layout Item
+record-of h before c origin t = do
   fm ← formed (tagged t)
   known ← need 10 (known-class c t)
   f ← flag-byte h t
-  fields (highest (h .word)) before c index known (hash-kind h t f) (shape (h .word / 8) fm t f)
+  fields (highest (h .word)) before c origin known (hash-kind h t f) (shape (h .word / 8) fm t f)
 
 -- the end tag, or a record whole
+unfoldable pub from-tag : Facts → ℕ → Cache → Origin → Layout Item
+from-tag h before c origin = do
+  t ← field 1
+  pick (eqb t 3) (yield over) (record-of h before c origin t)
+
+-- what stands at the place reached, with `index` references before it
 unfoldable pub entry : Facts → ℕ → Cache → ℕ → Layout Item
 entry h before c index = do
-  t ← field 1
-  pick (eqb t 3) (yield over) (record-of h before c index t)
+  offset ← position
+  from-tag h before c (record { offset = offset; index = index })
 
 -- ---- a reading
 

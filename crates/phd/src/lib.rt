@@ -8,7 +8,7 @@ pub mod forms;
 pub use classes::Cache;
 
 // The numbers of a row, and the bytes of the largest dump.
-pub const ROW: usize = 12;
+pub const ROW: usize = 13;
 
 pub const LIMIT: usize = 0x4000_0000;
 
@@ -58,6 +58,12 @@ pub struct Shape {
     // whether the class word goes to the cache; the primitive type
     pub cached: bool,
     pub prim: u64,
+}
+
+// Where a record stands: the offset of its tag in the dump, and how many references the records before it have.
+pub struct Origin {
+    pub offset: usize,
+    pub index: u64,
 }
 
 // The first numbers of a record: its address, class word and array length.

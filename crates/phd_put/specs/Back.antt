@@ -1,12 +1,12 @@
 -- A good record that is put at any place of a dump is read there as it was, whatever stands before and after it; and its name
 -- stands where the row that is read says.
 -- Assumes nothing.
-use mathlib.Core.Path.{_≡_}
+use mathlib.Core.Path.{_≡_, refl}
 use Prim.Native.Nat.{ℕ, _%_, _≤_}
 use mathlib.Core.List.{List, _++_}
 use lib.ListN.{length, take, drop}
 use Rattle.layout_put.specs.Reads.{Reads}
-use Rattle.phd.specs.Phd.{highest, item, entry}
+use Rattle.phd.specs.Phd.{row-width, highest, item, entry}
 use Rattle.phd.specs.Shapes.{Word}
 use Rattle.phd.specs.declared.classes.Cache.{Cache}
 use Rattle.phd.specs.declared.Facts.{Facts}
@@ -26,12 +26,20 @@ name-place h p before c r = name-at p (plan-of h before c r) (r .row)
 unfoldable pub refs-place : Facts → ℕ → ℕ → Cache → Rec → Span
 refs-place h p before c r = span-at p (plan-of h before c r) (r .row)
 
+-- the row that it is read as
+unfoldable pub row-back : Facts → ℕ → ℕ → Cache → Rec → List ℕ
+row-back h p before c r = numbers (name-place h p before c r) (record { offset = p; index = r .row .first }) r
+
+pub length-row : (h : Facts) (p before : ℕ) (c : Cache) (r : Rec) → length (row-back h p before c r) ≡ row-width
+unfolding row-back numbers
+length-row h p before c r = refl
+
 module _ (h : Facts) (before : ℕ) (c : Cache) (index : ℕ) (r : Rec) (p : ℕ) (w : Word (h .word)) (g : Good h index r)
     (bf : before % 4 ≡ 0) (bl : before ≤ highest (h .word))
   where
     pub record-back : Reads p (entry h before c index) (put-record h before c r)
-        (item (numbers (name-place h p before c r) r) (record { span = refs-place h p before c r; list = r .refs }) (r .row .address) (cache-after h before c r))
-    unfolding name-place refs-place plan-of planned put-record cache-after
+        (item (row-back h p before c r) (record { span = refs-place h p before c r; list = r .refs }) (r .row .address) (cache-after h before c r))
+    unfolding row-back numbers name-place refs-place plan-of planned put-record cache-after
     record-back = let s = form-sound h c before index r w g bf bl in entry-back h c before index r _ _ _ (s .0) p (s .1) (g .first)
 
     pub name-back : (pre post : List ℕ) → length pre ≡ p

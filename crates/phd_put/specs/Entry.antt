@@ -11,16 +11,18 @@ use lib.Seq.{take-at, drop-at}
 use lib.Dec.{ltb, eqb}
 use borrow.Author.Tests.{eqb-true}
 use Rattle.layout.specs.Numbers.{pick, both, either}
+use Rattle.layout.specs.Layout.{position}
 use Rattle.layout.specs.declared.Text.{Text}
 use Rattle.layout_put.specs.Put.{join, be, links as put-all}
 use Rattle.layout_put.specs.Bytes.{length-be}
-use Rattle.layout_put.specs.Reads.{Reads, reads-then, reads-end, reads-skip, reads-yield, reads-field, reads-check, reads-need}
-use Rattle.phd.specs.Phd.{highest, put, tagged, formed, moved-bit, hashed-bit, flag-byte, hash-bytes, shape, row, Item, item, linked, fields, record-of, entry}
+use Rattle.layout_put.specs.Reads.{Reads, reads-then, reads-end, reads-skip, reads-yield, reads-field, reads-position, reads-check, reads-need}
+use Rattle.phd.specs.Phd.{highest, put, tagged, formed, moved-bit, hashed-bit, flag-byte, hash-bytes, shape, row, Item, item, linked, fields, record-of, from-tag, entry}
 use Rattle.phd.specs.declared.classes.Cache.{Cache}
 use Rattle.phd.specs.declared.Facts.{Facts}
 use Rattle.phd.specs.declared.Form.{Form}
 use Rattle.phd.specs.declared.Front.{Front}
 use Rattle.phd.specs.declared.Middle.{Middle}
+use Rattle.phd.specs.declared.Origin.{Origin}
 use Rattle.phd.specs.declared.Shape.{Shape}
 use Rattle.phd.specs.declared.Span.{Span}
 use Rattle.phd.specs.declared.Tagged.the-variants.{Begins}
@@ -71,7 +73,7 @@ cache-same : (c : Cache) (b : Bool) (v w : ℕ) → (b ≡ true → v ≡ w) →
 cache-same c true v w e = ap (put c) (e refl)
 cache-same c false v w e = refl
 
-module _ (top before index known : ℕ) (c : Cache) (sh : Shape) (r : Rec) (t : Fit top before sh r) where
+module _ (top before known : ℕ) (origin : Origin) (c : Cache) (sh : Shape) (r : Rec) (t : Fit top before sh r) where
   abbrev as-front : Front
   as-front = record { address = r .row .address; word = given (sh .word) (r .row .word); len = given (sh .len) (r .row .len) }
 
@@ -82,7 +84,7 @@ module _ (top before index known : ℕ) (c : Cache) (sh : Shape) (r : Rec) (t : 
   as-tail = record { size = given (sh .size) (r .row .size); truelen = given (sh .truelen) (r .row .len) }
 
   abbrev as-row : Text → List ℕ
-  as-row name = row index (r .row .hashkind) known sh as-front as-middle name (r .row .count) as-tail
+  as-row name = row origin (r .row .hashkind) known sh as-front as-middle name (r .row .count) as-tail
 
   -- with its name, and its references at a place
   abbrev as-read : Text → ℕ → Item
@@ -91,7 +93,7 @@ module _ (top before index known : ℕ) (c : Cache) (sh : Shape) (r : Rec) (t : 
       (r .row .address) (pick (sh .cached) (put c (given (sh .word) (r .row .word))) c)
 
   linked-reads : (q : ℕ) (name : Text)
-      → Reads q (linked top c index known (r .row .hashkind) sh as-front as-middle name) (join (put-links sh (r .row) (r .refs) ∷ put-tail sh (r .row) ∷ []))
+      → Reads q (linked top c origin known (r .row .hashkind) sh as-front as-middle name) (join (put-links sh (r .row) (r .refs) ∷ put-tail sh (r .row) ∷ []))
       (as-read name (q + sh .counted))
   unfolding linked put-links
   linked-reads q name =
@@ -104,8 +106,8 @@ module _ (top before index known : ℕ) (c : Cache) (sh : Shape) (r : Rec) (t : 
       (reads-then _ _ _ refs _ _ _ (links-read top before sh r t (q + sh .counted))
       (reads-then _ _ _ (put-tail sh (r .row)) [] as-tail _ (tail-reads top before sh r t _) (reads-yield _ _)))))
 
-  row-same : (place : ℕ) → Says known sh r → r .row .first ≡ index
-      → as-row (text (sh .name) place (r .row .namelen)) ≡ numbers (pick (eqb (sh .name) 0) 0 place) r
+  row-same : (place : ℕ) → Says known sh r → r .row .first ≡ origin .index
+      → as-row (text (sh .name) place (r .row .namelen)) ≡ numbers (pick (eqb (sh .name) 0) 0 place) origin r
   unfolding row numbers
   row-same place s e =
       let n : ℕ = r .row .namelen in
@@ -113,9 +115,9 @@ module _ (top before index known : ℕ) (c : Cache) (sh : Shape) (r : Rec) (t : 
       let long : text (sh .name) place n .len ≡ n = text-len (sh .name) place n (r .name) (t .name) (t .namelen) in
       rw (s .kind, s .word, s .size, s .len, s .prim, e, at, long)
 
-  fields-read : (q : ℕ) → Says known sh r → r .row .first ≡ index
-      → Reads q (fields top before c index known (r .row .hashkind) sh) (put-fields before sh (r .row) (r .refs) (r .name))
-      (item (numbers (name-in q sh (r .row)) r) (record { span = span-in q sh (r .row); list = r .refs })
+  fields-read : (q : ℕ) → Says known sh r → r .row .first ≡ origin .index
+      → Reads q (fields top before c origin known (r .row .hashkind) sh) (put-fields before sh (r .row) (r .refs) (r .name))
+      (item (numbers (name-in q sh (r .row)) origin r) (record { span = span-in q sh (r .row); list = r .refs })
       (r .row .address) (pick (sh .cached) (put c (r .row .word)) c))
   unfolding fields put-fields
   fields-read q s e =
@@ -171,20 +173,22 @@ module _ (h : Facts) (c : Cache) (before index : ℕ) (r : Rec) (fm : Form) (t f
   pub entry-back : r .row .first ≡ index
       → let pl : Plan = record { tag = t; flags = f; shape = shape (h .word / 8) fm t f } in
       Reads p (entry h before c index) (put-planned before pl (r .row) (r .refs) (r .name))
-      (item (numbers (name-at p pl (r .row)) r) (record { span = span-at p pl (r .row); list = r .refs })
+      (item (numbers (name-at p pl (r .row)) (record { offset = p; index = index }) r) (record { span = span-at p pl (r .row); list = r .refs })
       (r .row .address) (pick (pl .shape .cached) (put c (r .row .word)) c))
-  unfolding entry record-of put-planned put-tag name-at span-at
+  unfolding entry from-tag record-of put-planned put-tag name-at span-at
   entry-back e =
       let sh : Shape = shape (h .word / 8) fm t f in
       let w : ℕ = pick (ltb t 0x20) 1 0 in
       let body : List ℕ = put-fields before sh (r .row) (r .refs) (r .name) in
+      let origin : Origin = record { offset = p; index = index } in
       rw (append-assoc (be 1 t) (be w f))
+      (reads-skip p position _ _ p _ (reads-position p)
       (reads-then p _ _ (be 1 t) _ t _ (reads-field p 1 t (s .byte))
       (rw (s .goes-on, length-be 1 t)
       (reads-skip (p + 1) _ _ _ fm _ (formed-reads (p + 1) t fm (s .formed))
       (reads-skip (p + 1) _ _ _ known _ (reads-need (p + 1) 10 _ known (s .from-slot))
       (reads-then (p + 1) _ _ (be w f) body f _ (flag-reads (p + 1))
-      (rw (length-be w f, s .hash) (fields-read (highest (h .word)) before index known c sh r (s .fit) (p + 1 + w) (s .says) e)))))))
+      (rw (length-be w f, s .hash) (fields-read (highest (h .word)) before known origin c sh r (s .fit) (p + 1 + w) (s .says) e))))))))
 
   -- Its name stands where its row says.
   pub name-stands : (pre post : List ℕ) → length pre ≡ p

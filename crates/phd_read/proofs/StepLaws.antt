@@ -54,7 +54,7 @@ module _ (h : Facts) {s rows refs : List ℕ} {k : Cursor} (fits : Fits s rows r
     abbrev its : (ls : Links) × (there ≡ whole (item (f .row) ls (f .address) (f .cache)) n) × (ls .span ≡ f .span)
     its = found-item (k .cache) there f is n what
 
-    pub stands : Stands h s (f .row) (its .0) (f .address)
+    pub stands : Stands h s (record { offset = k .at; index = k .refs }) (f .row) (its .0) (f .address)
     stands = links-stand h s (k .address) (k .cache) (k .refs) (k .at) (f .row) (its .0) (f .address) (f .cache) n (its .1)
 
     -- what is known of its references, by its span

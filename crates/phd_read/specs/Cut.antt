@@ -35,7 +35,7 @@ pub record Agree (shorter longer : Result) : Type 0 where
 begins-refl : (xs : List ℕ) → Begins xs xs
 begins-refl xs = record { more = []; all = append-nil xs }
 
-begins-more : {xs ys : List ℕ} → Begins xs ys → (zs : List ℕ) → Begins xs (ys ++ zs)
+pub begins-more : {xs ys : List ℕ} → Begins xs ys → (zs : List ℕ) → Begins xs (ys ++ zs)
 begins-more {xs} p zs = record { more = p .more ++ zs; all = sym (append-assoc xs (p .more) zs) ∙ ap (λ (l : List ℕ). l ++ zs) (p .all) }
 
 -- Both tables of a state begin those that its reading ends with.

@@ -1,36 +1,31 @@
 -- In every stored row the length is below 2^31, and an object array has no more references than its true length.
--- A reader must believe `Measured`, `number` and `AllMeasured`.
+-- A reader must believe `Measured` and `AllMeasured`.
 use mathlib.Core.Path.{_≡_, refl}
-use Prim.Native.Nat.{ℕ, _+_, _*_, _/_, _%_, _^_, _≤_, _<_}
-use native.Mathlib.Nat.{eq-or-lt-of-le}
+use Prim.Native.Nat.{ℕ, _%_, _^_, _≤_, _<_}
 use native.Mathlib.Omega.{arith}
 use mathlib.Core.Bool.{false}
-use mathlib.Core.Logic.{_⊎_, inl, inr}
 use mathlib.Core.List.{List, _++_}
-use lib.ListN.{length, getD, length-append, List·getD-append}
-use lib.Seq.{getD-append-add}
+use lib.ListN.{length, getD}
 use lib.Dec.{eqb}
 use borrow.Author.Tests.{leb-true}
 use Rattle.layout.specs.Values.{Gives, pick-either, gives-yield, gives-then, gives-last, gives-pick, gives-by, gives-check, gives-count}
-use Rattle.phd.specs.Phd.{row-width, shape, front, true-length, tail, there, row, Item, over, item, linked, fields, record-of, entry, reading}
+use Rattle.phd.specs.Phd.{row-width, shape, front, true-length, tail, there, row, Item, over, item, linked, fields, record-of, from-tag, entry, reading}
 use Rattle.phd.specs.declared.classes.Cache.{Cache}
 use Rattle.phd.specs.declared.Facts.{Facts}
 use Rattle.phd.specs.declared.Form.{Form}
 use Rattle.phd.specs.declared.Form.the-variants.{Short, Medium, Long, Class, ObjectArray, Primitive, LongPrimitive}
 use Rattle.phd.specs.declared.Front.{Front}
+use Rattle.phd.specs.declared.Origin.{Origin}
 use Rattle.phd.specs.declared.Shape.{Shape}
 use Rattle.phd.specs.declared.Tail.{Tail}
 use Rattle.phd_read.specs.Links.{links-stand}
 use Rattle.phd_read.specs.Steps.{tables-hold, entry-forth}
+use Rattle.phd_read.specs.Table.{rows-in, number, whole-more, number-before, number-last, every-row}
 
 -- What holds of a row's kind, count of references and length.
 pub record Measured (kind refs len : ℕ) : Type 0 where
   pub short : len < 2 ^ 31
   pub array : kind ≡ 3 → refs ≤ len
-
--- the number k of the row number i
-abbrev pub number : List ℕ → ℕ → ℕ → ℕ
-number rows i k = getD rows (i * row-width + k) 0
 
 -- ---- a record
 
@@ -58,10 +53,10 @@ abbrev Measures : Item → Type 0
 Measures over = Unit {0}
 Measures (item r ls a c) = Measured (getD r 0 0) (getD r 6 0) (getD r 8 0)
 
-gives-fields : {s : List ℕ} (top before : ℕ) (c : Cache) (index known hk : ℕ) (sh : Shape) → (sh .kind ≡ 3 → eqb (sh .truelen) 0 ≡ false)
-    → Gives s Measures (fields top before c index known hk sh)
+gives-fields : {s : List ℕ} (top before : ℕ) (c : Cache) (origin : Origin) (known hk : ℕ) (sh : Shape) → (sh .kind ≡ 3 → eqb (sh .truelen) 0 ≡ false)
+    → Gives s Measures (fields top before c origin known hk sh)
 unfolding fields linked row there
-gives-fields top before c index known hk sh k =
+gives-fields top before c origin known hk sh k =
     gives-then _ _ _ (gives-front top before sh) (λ v l. gives-last _ _ (λ m. gives-last _ _ (λ name. gives-last _ _ (λ n. gives-last _ _ (λ ls.
     gives-then _ _ _ (gives-tail (sh .size) (sh .truelen) n) (λ t p.
     gives-yield _ (record {
@@ -81,41 +76,28 @@ array-long w Primitive t f e = absurd (omega arith)
 array-long w LongPrimitive t f e = absurd (omega arith)
 
 gives-entry : {s : List ℕ} (h : Facts) (before : ℕ) (c : Cache) (index : ℕ) → Gives s Measures (entry h before c index)
-unfolding entry record-of
+unfolding entry from-tag record-of
 gives-entry h before c index =
-    gives-last _ _ (λ t. gives-pick (eqb t 3) _ _ (gives-yield over tt) (gives-last _ _ (λ fm. gives-last _ _ (λ known. gives-last _ _ (λ f.
-    gives-fields _ before c index known _ _ (array-long _ fm t f))))))
+    gives-last _ _ (λ at. gives-last _ _ (λ t. gives-pick (eqb t 3) _ _ (gives-yield over tt) (gives-last _ _ (λ fm. gives-last _ _ (λ known. gives-last _ _ (λ f.
+    gives-fields _ before c _ known _ _ (array-long _ fm t f)))))))
 
 -- ---- the tables of a reading
 
 -- of whole rows: a row's number 0 is its kind, 6 its count of references, 8 its length
 pub record AllMeasured (rows : List ℕ) : Type 0 where
   pub whole-rows : length rows % row-width ≡ 0
-  pub each : (i : ℕ) → i < length rows / row-width → Measured (number rows i 0) (number rows i 6) (number rows i 8)
+  pub each : (i : ℕ) → i < rows-in rows → Measured (number rows i 0) (number rows i 6) (number rows i 8)
 
 -- one row more
-module _ (rows r : List ℕ) (w : length r ≡ row-width) (t : AllMeasured rows) (m : Measured (getD r 0 0) (getD r 6 0) (getD r 8 0)) where
-  -- a number of a row before, and of the last
-  before : (i k : ℕ) → i < length rows / row-width → k < row-width → number (rows ++ r) i k ≡ number rows i k
-  before i k l b = rw (List·getD-append rows r 0 (i * row-width + k) (omega (arith, t .whole-rows)))
-
-  last : (k : ℕ) → number (rows ++ r) (length rows / row-width) k ≡ getD r k 0
-  last k =
-      let e : length rows / row-width * row-width ≡ length rows = omega (arith, t .whole-rows) in
-      rw e (getD-append-add rows r k 0)
-
-  measured-more : AllMeasured (rows ++ r)
-  measured-more = record {
-    whole-rows = simp length-append (omega (arith, t .whole-rows));
-    each = λ i l.
-        let a : length (rows ++ r) ≡ length rows + length r = length-append rows r in
-        let b : i ≤ length rows / row-width = omega (arith, t .whole-rows) in
-        by i (eq-or-lt-of-le b);
-  }
-    where
-      by : (i : ℕ) → (i ≡ length rows / row-width) ⊎ (i < length rows / row-width) → Measured (number (rows ++ r) i 0) (number (rows ++ r) i 6) (number (rows ++ r) i 8)
-      by i (inl e) = rw (e, last 0, last 6, last 8) m
-      by i (inr l) = rw (before i 0 l (omega arith), before i 6 l (omega arith), before i 8 l (omega arith)) (t .each i l)
+measured-more : (rows r : List ℕ) → length r ≡ row-width → AllMeasured rows → Measured (getD r 0 0) (getD r 6 0) (getD r 8 0) → AllMeasured (rows ++ r)
+measured-more rows r w t m =
+    let e : length rows % row-width ≡ 0 = t .whole-rows in
+    record {
+      whole-rows = whole-more rows r e w;
+      each = every-row rows r e w (λ i. Measured (number (rows ++ r) i 0) (number (rows ++ r) i 6) (number (rows ++ r) i 8))
+          (λ i l. rw (number-before rows r e w i 0 l (omega arith), number-before rows r e w i 6 l (omega arith), number-before rows r e w i 8 l (omega arith)) (t .each i l))
+          (rw (number-last rows r e w 0, number-last rows r e w 6, number-last rows r e w 8) m);
+    }
 
 -- So it is of any bytes, and any tables.
 pub reading-measured : (s : List ℕ) (R F : ℕ) → AllMeasured (reading s R F .rows)

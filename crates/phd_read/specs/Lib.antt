@@ -11,7 +11,9 @@ pub mod Steps
 pub mod Links
 pub mod Rooms
 pub mod Ranges
+pub mod Table
 pub mod Lengths
+pub mod Offsets
 pub mod Replies
 pub mod Cut
 pub mod Missing

@@ -1,22 +1,28 @@
 -- What holds of a record that was read from a dump: its row's numbers, its address, and where its references stand.
 -- Assumes nothing.
 use mathlib.Core.Path.{_≡_, refl, subst}
-use Prim.Native.Nat.{ℕ, zero, suc, _≤_}
-use mathlib.Core.Bool.{true}
+use Prim.Native.Nat.{ℕ, zero, suc, _+_, _≤_}
+use mathlib.Core.Bool.{Bool, true, false}
 use mathlib.Core.List.{List, [], _∷_}
-use lib.ListN.{length, getD}
+use lib.ListN.{length, getD, take, drop}
 use lib.Dec.{eqb}
 use native.Mathlib.Omega.{arith}
 use borrow.Author.Tests.{le-leb}
-use Rattle.layout.specs.Numbers.{within}
-use Rattle.layout.specs.Layout.{yield, whole, run, run-then, run-position, run-yield, then-inv}
+use Rattle.layout.specs.Numbers.{pick, value, within}
+use Rattle.layout.specs.Layout.{yield, whole, stops, run, run-then, run-position, run-yield, run-refuse, run-field, then-inv}
+use Rattle.layout.specs.declared.Stop.the-variants.{Refused}
 use Rattle.layout.specs.Values.{Gives, gives-yield, gives-then, gives-last, gives-pick, gives-address, gives-reference}
-use Rattle.phd.specs.Phd.{row-width, highest, references, Links, links, front, row, Item, over, item, linked, fields, record-of, entry}
+use Rattle.phd.specs.Phd.{row-width, offset-number, highest, tagged, formed, references, Links, links, front, row, Item, over, item, linked, fields, record-of, from-tag, entry}
+use Rattle.phd.specs.Origins.{entry-at}
 use Rattle.phd.specs.Shapes.{link-narrow}
 use Rattle.phd.specs.declared.classes.Cache.{Cache}
 use Rattle.phd.specs.declared.Facts.{Facts}
+use Rattle.phd.specs.declared.Form.{Form}
 use Rattle.phd.specs.declared.Front.{Front}
+use Rattle.phd.specs.declared.Origin.{Origin}
 use Rattle.phd.specs.declared.Shape.{Shape}
+use Rattle.phd.specs.declared.Tagged.{Tagged}
+use Rattle.phd.specs.declared.Tagged.the-variants.{Begins, Other}
 use Rattle.phd_read.specs.Steps.{entry-forth}
 
 -- ---- references
@@ -60,39 +66,69 @@ gives-links {s} w a top n small = record {
 -- ---- the record
 
 -- What holds of a record with the row r, the references ls and the address a, read from s under the header facts h.
-pub record Stands (h : Facts) (s : List ℕ) (r : List ℕ) (ls : Links) (a : ℕ) : Type 0 where
+pub record Stands (h : Facts) (s : List ℕ) (origin : Origin) (r : List ℕ) (ls : Links) (a : ℕ) : Type 0 where
   pub numbers : length r ≡ row-width
   pub address : getD r 1 0 ≡ a
+  pub offset : getD r offset-number 0 ≡ origin .offset
   pub most : a ≤ highest (h .word)
   pub links : Placed s a (highest (h .word)) ls
 
-abbrev Stood : Facts → List ℕ → Item → Type 0
-Stood h s over = Unit {0}
-Stood h s (item r ls a c) = Stands h s r ls a
+abbrev Stood : Facts → List ℕ → Origin → Item → Type 0
+Stood h s origin over = Unit {0}
+Stood h s origin (item r ls a c) = Stands h s origin r ls a
 
 gives-front : {s : List ℕ} (top before : ℕ) (sh : Shape) → Gives s (λ (v : Front). v .address ≤ top) (front top before sh)
 unfolding front
 gives-front top before sh =
     gives-then _ _ _ (gives-address (sh .gap) before top) (λ a l. gives-last _ _ (λ word. gives-last _ _ (λ len. gives-yield _ l)))
 
-gives-fields : (h : Facts) (s : List ℕ) (before : ℕ) (c : Cache) (index known hk : ℕ) (sh : Shape) → sh .link ≤ 8
-    → Gives s (Stood h s) (fields (highest (h .word)) before c index known hk sh)
+gives-fields : (h : Facts) (s : List ℕ) (before : ℕ) (c : Cache) (origin : Origin) (known hk : ℕ) (sh : Shape) → sh .link ≤ 8
+    → Gives s (Stood h s origin) (fields (highest (h .word)) before c origin known hk sh)
 unfolding fields linked row
-gives-fields h s before c index known hk sh small =
+gives-fields h s before c origin known hk sh small =
     gives-then _ _ _ (gives-front (highest (h .word)) before sh) (λ v l. gives-last _ _ (λ m. gives-last _ _ (λ name. gives-last _ _ (λ n.
     gives-then _ _ _ (gives-links (sh .link) (v .address) (highest (h .word)) n small) (λ ls p. gives-last _ _ (λ t.
-    gives-yield _ (record { numbers = refl; address = refl; most = l; links = p })))))))
+    gives-yield _ (record { numbers = refl; address = refl; offset = refl; most = l; links = p })))))))
 
-gives-entry : (h : Facts) (s : List ℕ) (before : ℕ) (c : Cache) (index : ℕ) → Gives s (Stood h s) (entry h before c index)
-unfolding entry record-of
-gives-entry h s before c index =
+gives-tagged : (h : Facts) (s : List ℕ) (before : ℕ) (c : Cache) (origin : Origin) → Gives s (Stood h s origin) (from-tag h before c origin)
+unfolding from-tag record-of
+gives-tagged h s before c origin =
     gives-last _ _ (λ t. gives-pick (eqb t 3) _ _ (gives-yield over tt) (gives-last _ _ (λ fm. gives-last _ _ (λ known. gives-last _ _ (λ f.
-    gives-fields h s before c index known _ _ (link-narrow _ fm t f))))))
+    gives-fields h s before c origin known _ _ (link-narrow _ fm t f))))))
 
--- A record that was read stands in the dump.
+-- ---- its tag
+
+-- a tag behind which a record was read begins one
+begins-record : (h : Facts) (s : List ℕ) (before : ℕ) (c : Cache) (origin : Origin) (t m : ℕ) (r : List ℕ) (ls : Links) (a : ℕ) (k : Cache) (n : ℕ)
+    → run (pick (eqb t 3) (yield over) (record-of h before c origin t)) s m ≡ whole (item r ls a k) n → (fm : Form) × (tagged t ≡ Begins fm)
+unfolding record-of formed
+begins-record h s before c origin t m r ls a k n e = by (eqb t 3) (tagged t) refl refl
+  where
+    by : (b : Bool) (g : Tagged) → eqb t 3 ≡ b → tagged t ≡ g → (fm : Form) × (tagged t ≡ Begins fm)
+    by b (Begins fm) p q = (fm, q)
+    by true Other p q =
+        let y : whole over m ≡ whole (item r ls a k) n = rw (p, run-yield) at e in
+        let z : _≡_ {A = ℕ} 0 1 = cc in
+        absurd (omega arith)
+    by false Other p q =
+        let y : stops (Refused 6) ≡ whole (item r ls a k) n = rw (p, run-then, q, run-refuse) at e in
+        let z : _≡_ {A = ℕ} 0 1 = cc in
+        absurd (omega arith)
+
+-- The byte where a record was read is a record's tag.
+pub tag-stands : (h : Facts) (s : List ℕ) (before : ℕ) (c : Cache) (index at : ℕ) (r : List ℕ) (ls : Links) (a : ℕ) (k : Cache) (n : ℕ)
+    → run (entry h before c index) s at ≡ whole (item r ls a k) n → (fm : Form) × (tagged (value (take 1 (drop at s))) ≡ Begins fm)
+unfolding from-tag
+tag-stands h s before c index at r ls a k n e =
+    let f = entry-forth h before c index s at (item r ls a k) n e in
+    begins-record h s before c (record { offset = at; index = index }) (value (take 1 (drop at s))) (at + 1) r ls a k n
+    (rw (entry-at, run-then, run-field 1 s at (omega arith)) at e)
+
+-- ---- a record that was read stands in the dump
+
 pub links-stand : (h : Facts) (s : List ℕ) (before : ℕ) (c : Cache) (index at : ℕ) (r : List ℕ) (ls : Links) (a : ℕ) (k : Cache) (n : ℕ)
-    → run (entry h before c index) s at ≡ whole (item r ls a k) n → Stands h s r ls a
+    → run (entry h before c index) s at ≡ whole (item r ls a k) n → Stands h s (record { offset = at; index = index }) r ls a
 links-stand h s before c index at r ls a k n e =
     let f = entry-forth h before c index s at (item r ls a k) n e in
     let l : at ≤ length s = omega arith in
-    gives-entry h s before c index .each at (item r ls a k) n l e
+    gives-tagged h s before c (record { offset = at; index = index }) .each at (item r ls a k) n l (rw entry-at at e)

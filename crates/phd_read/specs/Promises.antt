@@ -17,6 +17,7 @@ use Rattle.phd_read.specs.Cut.{Begins, Final, Agree, more-agree, cuts-ag
 use Rattle.phd_read.specs.Ranges.{addresses, reading-ranged}
 use Rattle.phd_read.specs.Lengths.{AllMeasured, reading-measured}
 use Rattle.phd_read.specs.Missing.{MissingOf, less-missing, reading-missing, reading-waits, reading-needs}
+use Rattle.phd_read.specs.Offsets.{Traced, reading-traced}
 use Rattle.phd_read.specs.Replies.{reading-answers}
 use Rattle.phd_read.specs.Rooms.{reading-keeps, counts}
 
@@ -108,6 +109,13 @@ pub cuts-seen : (b : List ℕ) (m n : ℕ) (rows rows′ refs refs′ : List ℕ
     → Seen (reading (take m b) (length rows) (length refs)) (reading (take n b) (length rows′) (length refs′)) rows rows′ refs refs′
 cuts-seen b m n rows rows′ refs refs′ h l p q =
     seen _ _ rows rows′ refs refs′ (counts (take m b) (length rows) (length refs) .0) (cuts b m n (length rows) (length rows′) (length refs) (length refs′) h l p q)
+
+-- ---- where a row came from
+
+-- The offset of each stored row is the place of a record's tag; reading one record there, from the state before it, gives that
+-- row; and the offsets grow strictly. (Two cuts of the same bytes agree in the offsets as in every number of a row: above.)
+pub came-from : (s : List ℕ) (R F : ℕ) → Traced s R F (reading s R F)
+came-from = reading-traced
 
 -- ---- how much is missing
 

@@ -14,9 +14,10 @@ use Rattle.layout.specs.Fields.{no-text}
 use Rattle.layout.specs.Values.{both-left, both-right, Refuses, refuses-yield, refuses-refuse, refuses-then, refuses-pick, refuses-field, refuses-raw, refuses-position, refuses-check, refuses-need, refuses-exactly, refuses-below, refuses-address, refuses-reference, refuses-count, refuses-string}
 use Rattle.layout.specs.declared.Stop.{Stop}
 use Rattle.layout.specs.declared.Stop.the-variants.{Cut, Refused}
-use Rattle.phd.specs.Phd.{opening-bytes, preamble, after-vm, header-records, header, formed, flag-byte, front, middle, class-name, link-count, references, links, true-length, tail, over, linked, fields, record-of, entry, ended, nothing, reading}
+use Rattle.phd.specs.Phd.{opening-bytes, preamble, after-vm, header-records, header, formed, flag-byte, front, middle, class-name, link-count, references, links, true-length, tail, over, linked, fields, record-of, from-tag, entry, ended, nothing, reading}
 use Rattle.phd.specs.declared.classes.Cache.{Cache}
 use Rattle.phd.specs.declared.Facts.{Facts}
+use Rattle.phd.specs.declared.Origin.{Origin}
 use Rattle.phd.specs.declared.Shape.{Shape}
 use Rattle.phd.specs.declared.Tagged.{Tagged}
 use Rattle.phd.specs.declared.Tagged.the-variants.{Begins, Other}
@@ -111,19 +112,19 @@ tail-fine : (size truelen n : ℕ) → Fine (tail size truelen n)
 unfolding tail
 tail-fine size truelen n = refuses-then _ _ (refuses-field size) (λ z. refuses-then _ _ (true-length-fine truelen n) (λ t. refuses-yield _))
 
-fields-fine : (top before : ℕ) (c : Cache) (index known hk : ℕ) (sh : Shape) → Fine (fields top before c index known hk sh)
+fields-fine : (top before : ℕ) (c : Cache) (origin : Origin) (known hk : ℕ) (sh : Shape) → Fine (fields top before c origin known hk sh)
 unfolding fields linked
-fields-fine top before c index known hk sh =
+fields-fine top before c origin known hk sh =
     refuses-then _ _ (front-fine top before sh) (λ v. refuses-then _ _ (middle-fine sh _) (λ m. refuses-then _ _ (class-name-fine (sh .name)) (λ name.
     refuses-then _ _ (link-count-fine (sh .counted) (sh .count)) (λ n. refuses-then _ _ (links-fine (sh .link) (v .address) top n) (λ ls.
     refuses-then _ _ (tail-fine (sh .size) (sh .truelen) n) (λ t. refuses-yield _))))))
 
 pub entry-fine : (h : Facts) (before : ℕ) (c : Cache) (index : ℕ) → Fine (entry h before c index)
-unfolding entry record-of
+unfolding entry from-tag record-of
 entry-fine h before c index =
-    refuses-then _ _ (refuses-field 1) (λ t. refuses-pick (eqb t 3) _ _ (refuses-yield over)
+    refuses-then _ _ refuses-position (λ at. refuses-then _ _ (refuses-field 1) (λ t. refuses-pick (eqb t 3) _ _ (refuses-yield over)
     (refuses-then _ _ (formed-fine _) (λ fm. refuses-then _ _ (refuses-need 10 _ refl) (λ known.
-    refuses-then _ _ (flag-byte-fine h t) (λ f. fields-fine _ before c index known _ _)))))
+    refuses-then _ _ (flag-byte-fine h t) (λ f. fields-fine _ before c _ known _ _))))))
 
 -- ---- the reading
 

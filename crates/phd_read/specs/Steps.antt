@@ -12,7 +12,8 @@ use borrow.Author.Tests.{leb-true, le-leb, lt-leb}
 use Rattle.layout.specs.Numbers.{pick}
 use Rattle.layout.specs.Layout.{Layout, bytes, Outcome, whole, stops, run, run-enough, had, forth, inside, _>>=_, field, reply-of, missing-of}
 use Rattle.layout.specs.declared.Stop.{Stop}
-use Rattle.phd.specs.Phd.{limit, row-width, header, Links, Item, over, item, entry, State, Result, Next, go, halt, ended, settle, step, records, first, nothing, opened, reading}
+use Rattle.phd.specs.Phd.{limit, row-width, header, Links, Item, over, item, from-tag, entry, State, Result, Next, go, halt, ended, settle, step, records, first, nothing, opened, reading}
+use Rattle.phd.specs.Origins.{entry-at}
 use Rattle.phd.specs.declared.classes.Cache.{Cache}
 use Rattle.phd.specs.declared.Facts.{Facts}
 
@@ -39,8 +40,8 @@ byte-forth k s at a e r =
 
 pub entry-forth : (h : Facts) (before : ℕ) (c : Cache) (index : ℕ) (s : List ℕ) (at : ℕ) (i : Item) (e : ℕ)
     → run (entry h before c index) s at ≡ whole i e → (at < e) × (e ≤ length s)
-unfolding entry field _>>=_
-entry-forth h before c index s at i e r = byte-forth _ s at i e r
+unfolding from-tag field _>>=_
+entry-forth h before c index s at i e r = byte-forth _ s at i e (rw entry-at at r)
 
 -- ---- what a step does
 

@@ -18,6 +18,7 @@ use Rattle.phd.specs.References.{references-none}
 use Rattle.phd.specs.declared.Facts.{Facts}
 use Rattle.phd.specs.declared.Form.the-variants.{ObjectArray, Primitive}
 use Rattle.phd.specs.declared.Tagged.the-variants.{Begins}
+use Rattle.phd.specs.declared.Origin.{Origin}
 use Rattle.phd.specs.declared.Shape.{Shape}
 use Rattle.phd.specs.declared.Front.{Front}
 use Rattle.phd.specs.declared.Middle.{Middle}
@@ -85,14 +86,14 @@ module _ (w t f : ℕ) where
   array-len = refl
 
 -- from behind its front on
-module _ (top : ℕ) (c : Cache) (index hk : ℕ) (sh : Shape) (v : Front) (s : List ℕ) (at : ℕ) where
+module _ (top : ℕ) (c : Cache) (origin : Origin) (hk : ℕ) (sh : Shape) (v : Front) (s : List ℕ) (at : ℕ) where
   behind-whole : (m : Middle) (name : Text) (n : ℕ) (rs : List ℕ) (t : Tail) (p1 p2 p3 p4 p5 : ℕ)
       → run (middle sh (hash-bytes hk)) s at ≡ whole m p1
       → run (class-name (sh .name)) s p1 ≡ whole name p2
       → run (link-count (sh .counted) (sh .count)) s p2 ≡ whole n p3
       → run (references (sh .link) (v .address) top n) s p3 ≡ whole rs p4
       → run (tail (sh .size) (sh .truelen) n) s p4 ≡ whole t p5
-      → found-of c (run (behind top c index hk sh v) s at) ≡ recorded p5 p3 n t c index 0 hk sh v m name
+      → found-of c (run (behind top c origin hk sh v) s at) ≡ recorded p5 p3 n t c origin 0 hk sh v m name
   unfolding behind linked links found-of recorded
   behind-whole m name n rs t p1 p2 p3 p4 p5 f g h i j =
       rw (run-then, f, run-then, g, run-then, h, run-then, run-then, run-position, run-then, i, run-yield, run-then, j, run-yield)
@@ -102,8 +103,8 @@ module _ (top : ℕ) (c : Cache) (index hk : ℕ) (sh : Shape) (v : Front) (s : 
       → at + hb + 4 + n * sh .link + 8 ≤ length s
       → size ≡ value (take 4 (drop (at + hb + 4 + n * sh .link) s))
       → counted (signed 4 (value (take 4 (drop (at + hb + 4 + n * sh .link + 4) s)))) ≡ Just truelen → n ≤ truelen → name ≡ no-text
-      → found-of c (run (behind top c index hk sh v) s at)
-      ≡ recorded (at + hb + 4 + n * sh .link + 8) (at + hb + 4) n (record { size = size; truelen = truelen }) c index 0 hk sh v
+      → found-of c (run (behind top c origin hk sh v) s at)
+      ≡ recorded (at + hb + 4 + n * sh .link + 8) (at + hb + 4) n (record { size = size; truelen = truelen }) c origin 0 hk sh v
       (record { inst = 0; hash = hash; superclass = 0 }) name
   array-behind hb hash n size truelen name a eb far eh en room es et l ek =
       let place : ℕ = at + hb + 4 in
@@ -120,15 +121,15 @@ module _ (top : ℕ) (c : Cache) (index hk : ℕ) (sh : Shape) (v : Front) (s : 
       (four-field s end (sh .size) size (a .size) (omega arith) es)
       (four-length s (end + 4) (sh .truelen) truelen (a .truelen) (omega arith) n et l)))
 
-module _ (h : Facts) (before : ℕ) (c : Cache) (index : ℕ) (s : List ℕ) (at top hk : ℕ) (sh : Shape) where
+module _ (h : Facts) (before : ℕ) (c : Cache) (origin : Origin) (s : List ℕ) (at top hk : ℕ) (sh : Shape) where
   array-fields : (f p : ℕ) → run (flag-byte h 8) s at ≡ whole f p
-      → run (record-of h before c index 8) s at
-      ≡ run (fields (highest (h .word)) before c index 0 (hash-kind h 8 f) (shape (h .word / 8) ObjectArray 8 f)) s p
+      → run (record-of h before c origin 8) s at
+      ≡ run (fields (highest (h .word)) before c origin 0 (hash-kind h 8 f) (shape (h .word / 8) ObjectArray 8 f)) s p
   unfolding record-of tagged formed known-class
   array-fields f p e = rw (run-then, run-yield, run-then, run-need, run-then, e)
 
   fields-behind : (v : Front) (p q : ℕ) → run (front top before sh) s p ≡ whole v q
-      → run (fields top before c index 0 hk sh) s p ≡ run (behind top c index hk sh v) s q
+      → run (fields top before c origin 0 hk sh) s p ≡ run (behind top c origin hk sh v) s q
   unfolding fields behind
   fields-behind v p q e = rw (run-then, e)
 
@@ -138,12 +139,12 @@ module _ (h : Facts) (before : ℕ) (c : Cache) (index : ℕ) (s : List ℕ) (at
       → p + sh .gap + sh .word ≤ length s
       → moved top before (signed (sh .gap) (value (take (sh .gap) (drop p s)))) ≡ Just a
       → w ≡ value (take (sh .word) (drop (p + sh .gap) s))
-      → run (record-of h before c index 8) s at
-      ≡ run (behind top c index hk sh (record { address = a; word = w; len = 0 })) s (p + sh .gap + sh .word)
+      → run (record-of h before c origin 8) s at
+      ≡ run (behind top c origin hk sh (record { address = a; word = w; len = 0 })) s (p + sh .gap + sh .word)
   array-front f p a w e et ek es room ea ew =
       let q : ℕ = p + sh .gap + sh .word in
       let n : sh .len ≡ 0 = rw es (array-len (h .word / 8) 8 f) in
-      let i : run (record-of h before c index 8) s at ≡ run (fields top before c index 0 hk sh) s p = rw (et, ek, es) (array-fields f p e) in
+      let i : run (record-of h before c origin 8) s at ≡ run (fields top before c origin 0 hk sh) s p = rw (et, ek, es) (array-fields f p e) in
       i
       ∙ fields-behind _ p q
       (front-whole s p top before sh a w 0 (p + sh .gap) q q
@@ -182,7 +183,7 @@ tagged-primitive : (t : ℕ) → 0x20 ≤ t → t < 0x40 → tagged t ≡ Begins
 unfolding tagged
 tagged-primitive t low high = rw (lt-leb 0x80 t (omega arith), lt-leb 0x40 t high, le-leb 0x20 t low)
 
-pub primitive-whole : (h : Facts) (before : ℕ) (c : Cache) (index : ℕ) (s : List ℕ) (at top hk : ℕ) (sh : Shape) (t hb a n hash size : ℕ) (name : Text)
+pub primitive-whole : (h : Facts) (before : ℕ) (c : Cache) (origin : Origin) (s : List ℕ) (at top hk : ℕ) (sh : Shape) (t hb a n hash size : ℕ) (name : Text)
     → 0x20 ≤ t → t < 0x40
     → top ≡ highest (h .word) → hk ≡ hash-kind h t 0 → sh ≡ shape (h .word / 8) Primitive t 0 → hb ≡ hash-bytes hk
     → at + sh .gap + sh .len + hb + 4 ≤ length s
@@ -190,18 +191,18 @@ pub primitive-whole : (h : Facts) (before : ℕ) (c : Cache) (index : ℕ) (s : 
     → counted (signed (sh .len) (value (take (sh .len) (drop (at + sh .gap) s)))) ≡ Just n
     → hash ≡ value (take hb (drop (at + sh .gap + sh .len) s))
     → size ≡ value (take 4 (drop (at + sh .gap + sh .len + hb) s)) → name ≡ no-text
-    → found-of c (run (record-of h before c index t) s at)
-    ≡ recorded (at + sh .gap + sh .len + hb + 4) (at + sh .gap + sh .len + hb) 0 (record { size = size; truelen = 0 }) c index 0 hk sh
+    → found-of c (run (record-of h before c origin t) s at)
+    ≡ recorded (at + sh .gap + sh .len + hb + 4) (at + sh .gap + sh .len + hb) 0 (record { size = size; truelen = 0 }) c origin 0 hk sh
     (record { address = a; word = 0; len = n }) (record { inst = 0; hash = hash; superclass = 0 }) name
-primitive-whole h before c index s at top hk sh t hb a n hash size name low high et ek es eb room ea en eh ez em =
+primitive-whole h before c origin s at top hk sh t hb a n hash size name low high et ek es eb room ea en eh ez em =
     let q : Plain sh = rw es (plain (h .word / 8) t 0) in
     let from : ℕ = at + sh .gap + sh .len in
     let place : ℕ = from + hb in
-    let i : run (record-of h before c index t) s at ≡ run (fields top before c index 0 hk sh) s at =
-    rw (et, ek, es) (unflagged h before c index t s at Primitive 0 low (omega arith) (tagged-primitive t low high) (none-known c t (omega arith))) in
+    let i : run (record-of h before c origin t) s at ≡ run (fields top before c origin 0 hk sh) s at =
+    rw (et, ek, es) (unflagged h before c origin t s at Primitive 0 low (omega arith) (tagged-primitive t low high) (none-known c t (omega arith))) in
     ap (found-of c) i
     ∙ rw em
-    (fields-whole top before c index 0 hk sh s at _ _ _ 0 [] _ from place place place place (place + 4)
+    (fields-whole top before c origin 0 hk sh s at _ _ _ 0 [] _ from place place place place (place + 4)
     (front-whole s at top before sh a 0 n (at + sh .gap) (at + sh .gap) from
     (run-address s at (sh .gap) before top a (omega arith) ea)
     (lacks-field s (at + sh .gap) (sh .word) (q .word) (omega arith))

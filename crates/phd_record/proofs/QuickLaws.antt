@@ -15,7 +15,8 @@ use Rattle.layout.specs.Fields.{address, count, no-text}
 use Rattle.layout.specs.declared.Maybe.the-variants.{Just}
 use Rattle.layout.specs.declared.Text.{Text}
 use Rattle.layout_quick.specs.Quick.{clear, target, clear-reference}
-use Rattle.phd.specs.Phd.{Item, highest, bit, width, tagged, formed, known-class, moved-bit, hashed-bit, flag-byte, hash-kind, hash-bytes, shape, front, middle, class-name, link-count, references, links, true-length, tail, linked, fields, record-of, entry}
+use Rattle.phd.specs.Phd.{Item, highest, bit, width, tagged, formed, known-class, moved-bit, hashed-bit, flag-byte, hash-kind, hash-bytes, shape, front, middle, class-name, link-count, references, links, true-length, tail, linked, fields, record-of, from-tag, entry}
+use Rattle.phd.specs.Origins.{entry-at}
 use Rattle.phd.specs.References.{in-front, references-none, references-more}
 use Rattle.phd.specs.Shapes.{Word, width-grows}
 use Rattle.phd.specs.declared.classes.Cache.{Cache}
@@ -24,6 +25,7 @@ use Rattle.phd.specs.declared.Form.{Form}
 use Rattle.phd.specs.declared.Form.the-variants.{Short, Medium}
 use Rattle.phd.specs.declared.Front.{Front}
 use Rattle.phd.specs.declared.Middle.{Middle}
+use Rattle.phd.specs.declared.Origin.{Origin}
 use Rattle.phd.specs.declared.Shape.{Shape}
 use Rattle.phd.specs.declared.Tagged.the-variants.{Begins}
 use Rattle.phd.specs.declared.Tail.{Tail}
@@ -122,7 +124,7 @@ module _ (s : List ℕ) (at : ℕ) where
   tail-whole size truelen n z t p e f g = rw (run-then, f, run-then, g, run-yield)
 
 -- the fields after the tag and the flag byte, from their parts
-module _ (top before : ℕ) (c : Cache) (index known hk : ℕ) (sh : Shape) (s : List ℕ) (at : ℕ) where
+module _ (top before : ℕ) (c : Cache) (origin : Origin) (known hk : ℕ) (sh : Shape) (s : List ℕ) (at : ℕ) where
   pub fields-whole : (v : Front) (m : Middle) (name : Text) (n : ℕ) (rs : List ℕ) (t : Tail) (p1 p2 p3 p4 p5 p6 : ℕ)
       → run (front top before sh) s at ≡ whole v p1
       → run (middle sh (hash-bytes hk)) s p1 ≡ whole m p2
@@ -130,7 +132,7 @@ module _ (top before : ℕ) (c : Cache) (index known hk : ℕ) (sh : Shape) (s :
       → run (link-count (sh .counted) (sh .count)) s p3 ≡ whole n p4
       → run (references (sh .link) (v .address) top n) s p4 ≡ whole rs p5
       → run (tail (sh .size) (sh .truelen) n) s p5 ≡ whole t p6
-      → found-of c (run (fields top before c index known hk sh) s at) ≡ recorded p6 p4 n t c index known hk sh v m name
+      → found-of c (run (fields top before c origin known hk sh) s at) ≡ recorded p6 p4 n t c origin known hk sh v m name
   unfolding fields linked links found-of recorded
   fields-whole v m name n rs t p1 p2 p3 p4 p5 p6 f g h i j k =
       rw (run-then, f, run-then, g, run-then, h, run-then, i, run-then, run-then, run-position, run-then, j, run-yield, run-then, k, run-yield)
@@ -142,22 +144,22 @@ unfolding moved-bit hashed-bit bit
 none-set true t l = rw (ne-eqb t 6 (λ e. omega arith))
 none-set false t l = refl
 
-module _ (h : Facts) (before : ℕ) (c : Cache) (index t : ℕ) (s : List ℕ) (at : ℕ) where
+module _ (h : Facts) (before : ℕ) (c : Cache) (origin : Origin) (t : ℕ) (s : List ℕ) (at : ℕ) where
   no-flags : 0x20 ≤ t → at ≤ length s → run (flag-byte h t) s at ≡ whole 0 at
   unfolding flag-byte
   no-flags l i = rw (le-ltb t 0x20 l, run-then, run-none s at i, run-then, run-check, none-set (h .hashed) t l, run-yield)
 
   pub unflagged : (fm : Form) (known : ℕ) → 0x20 ≤ t → at ≤ length s → tagged t ≡ Begins fm → known-class c t ≡ Just known
-      → run (record-of h before c index t) s at
-      ≡ run (fields (highest (h .word)) before c index known (hash-kind h t 0) (shape (h .word / 8) fm t 0)) s at
+      → run (record-of h before c origin t) s at
+      ≡ run (fields (highest (h .word)) before c origin known (hash-kind h t 0) (shape (h .word / 8) fm t 0)) s at
   unfolding record-of formed
   unflagged fm known l i f k = rw (run-then, f, run-yield, run-then, run-need, k, run-then, no-flags l i)
 
-  -- the tag, and then the record behind it
-  pub entry-behind : at + 1 ≤ length s → t ≡ value (take 1 (drop at s)) → (t ≡ 3 → ⊥)
-      → run (entry h before c index) s at ≡ run (record-of h before c index t) s (at + 1)
-  unfolding entry
-  entry-behind l e n = rw (run-then, run-field 1 s at l, ← e, ne-eqb t 3 n)
+-- the tag, and then the record behind it
+pub entry-behind : (h : Facts) (before : ℕ) (c : Cache) (index t : ℕ) (s : List ℕ) (at : ℕ) → at + 1 ≤ length s → t ≡ value (take 1 (drop at s)) → (t ≡ 3 → ⊥)
+    → run (entry h before c index) s at ≡ run (record-of h before c (record { offset = at; index = index }) t) s (at + 1)
+unfolding from-tag
+entry-behind h before c index t s at l e n = rw (entry-at, run-then, run-field 1 s at l, ← e, ne-eqb t 3 n)
 
 -- where nothing is taken, nothing is said
 pub nothing : (c : Cache) (o : Outcome Item) (took : Bool) (f : Found) → took ≡ false → Taken c o took f
@@ -238,7 +240,7 @@ unfolding known-class
 none-known c t l = rw (lt-leb 0x80 t l)
 
 -- What is found of an object, where the code's numbers are what the layout says of them.
-module _ (top before : ℕ) (c : Cache) (index known hk hb : ℕ) (sh : Shape) (s : List ℕ) (at a word from hash place end : ℕ) (ob : Object sh)
+module _ (top before : ℕ) (c : Cache) (origin : Origin) (known hk hb : ℕ) (sh : Shape) (s : List ℕ) (at a word from hash place end : ℕ) (ob : Object sh)
     (hbs : hb ≡ hash-bytes hk)
     (gap : moved top before (signed (sh .gap) (value (take (sh .gap) (drop at s)))) ≡ Just a)
     (wd : word ≡ value (take (sh .word) (drop (at + sh .gap) s)))
@@ -272,11 +274,11 @@ module _ (top before : ℕ) (c : Cache) (index known hk hb : ℕ) (sh : Shape) (
       (lacks-field s end (sh .size) (ob .size) i)
       (lacks-length s end (sh .truelen) (ob .truelen) (sh .count))
 
-  object-fields : found-of c (run (fields top before c index known hk sh) s at)
-      ≡ recorded end place (sh .count) (record { size = 0; truelen = 0 }) c index known hk sh (record { address = a; word = word; len = 0 })
+  object-fields : found-of c (run (fields top before c origin known hk sh) s at)
+      ≡ recorded end place (sh .count) (record { size = 0; truelen = 0 }) c origin known hk sh (record { address = a; word = word; len = 0 })
       (record { inst = 0; hash = hash; superclass = 0 }) no-text
   object-fields =
-      fields-whole top before c index known hk sh s at _ _ _ _ (object-links .0) _ from place place place end end
+      fields-whole top before c origin known hk sh s at _ _ _ _ (object-links .0) _ from place place place end end
       object-front
       object-middle
       (lacks-name s place (sh .name) (ob .name))
@@ -287,8 +289,8 @@ module _ (top before : ℕ) (c : Cache) (index known hk hb : ℕ) (sh : Shape) (
   pub object-found : (h : Facts) (t : ℕ) (fm : Form) (name : Text)
       → top ≡ highest (h .word) → hk ≡ hash-kind h t 0 → sh ≡ shape (h .word / 8) fm t 0 → name ≡ no-text
       → 0x20 ≤ t → tagged t ≡ Begins fm → known-class c t ≡ Just known
-      → recorded end place (sh .count) (record { size = 0; truelen = 0 }) c index known hk sh (record { address = a; word = word; len = 0 })
+      → recorded end place (sh .count) (record { size = 0; truelen = 0 }) c origin known hk sh (record { address = a; word = word; len = 0 })
       (record { inst = 0; hash = hash; superclass = 0 }) name
-      ≡ found-of c (run (record-of h before c index t) s at)
+      ≡ found-of c (run (record-of h before c origin t) s at)
   object-found h t fm name tt hh ss nn l g k =
-      rw (nn, unflagged h before c index t s at fm known l (omega arith) g k, ← tt, ← hh, ← ss) (sym object-fields)
+      rw (nn, unflagged h before c origin t s at fm known l (omega arith) g k, ← tt, ← hh, ← ss) (sym object-fields)

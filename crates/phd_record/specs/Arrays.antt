@@ -3,6 +3,7 @@ use mathlib.Core.Path.{_≡_}
 use Prim.Native.Nat.{ℕ}
 use Rattle.layout.specs.Layout.{Layout, _>>=_}
 use Rattle.phd.specs.Phd.{Item, hash-bytes, middle, class-name, linked}
+use Rattle.phd.specs.declared.Origin.{Origin}
 use Rattle.phd.specs.declared.Shape.{Shape}
 use Rattle.phd.specs.declared.Front.{Front}
 use Rattle.phd.specs.declared.classes.Cache.{Cache}
@@ -17,8 +18,8 @@ pub record ArrayShape (sh : Shape) : Type 0 where
   pub truelen : sh .truelen ≡ 4
 
 -- the fields of a record, as `fields` of phd has them, from behind the front v on
-unfoldable pub behind : ℕ → Cache → ℕ → ℕ → Shape → Front → Layout Item
-behind top c index hk sh v = do
+unfoldable pub behind : ℕ → Cache → Origin → ℕ → Shape → Front → Layout Item
+behind top c origin hk sh v = do
   m ← middle sh (hash-bytes hk)
   name ← class-name (sh .name)
-  linked top c index 0 hk sh v m name
+  linked top c origin 0 hk sh v m name

@@ -10,6 +10,7 @@ use Rattle.layout.specs.declared.Stop.{Stop}
 use Rattle.layout.specs.Numbers.{pick}
 use Rattle.layout.specs.declared.Text.{Text}
 use Rattle.phd.specs.Phd.{Item, over, item, Links, row-width, row, put}
+use Rattle.phd.specs.declared.Origin.{Origin}
 use Rattle.phd.specs.declared.Shape.{Shape}
 use Rattle.phd.specs.declared.classes.Cache.{Cache}
 use Rattle.phd.specs.declared.Front.{Front}
@@ -55,10 +56,10 @@ found-of c (whole (item r ls a k) n) = record { what = Record n; row = r; span =
 found-of c (stops w) = halted (Stops w) c
 
 -- a record whole, whose n references stand at a place
-unfoldable pub recorded : ℕ → ℕ → ℕ → Tail → Cache → ℕ → ℕ → ℕ → Shape → Front → Middle → Text → Found
-recorded next place n t c index known hk sh v m name = record {
+unfoldable pub recorded : ℕ → ℕ → ℕ → Tail → Cache → Origin → ℕ → ℕ → Shape → Front → Middle → Text → Found
+recorded next place n t c origin known hk sh v m name = record {
   what = Record next;
-  row = row index hk known sh v m name n t;
+  row = row origin hk known sh v m name n t;
   span = record { place = place; width = sh .link; count = n };
   address = v .address;
   cache = pick (sh .cached) (put c (v .word)) c;

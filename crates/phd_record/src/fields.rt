@@ -19,6 +19,7 @@ use layout::TextRead;
 use phd::Cache;
 use phd::Front;
 use phd::Middle;
+use phd::Origin;
 use phd::Shape;
 use phd::Span;
 use phd::Tail;
@@ -30,7 +31,7 @@ pub fn recorded(
     n: u64,
     t: Tail,
     cache: Cache,
-    index: u64,
+    origin: Origin,
     known: u64,
     hk: u64,
     sh: Shape,
@@ -38,9 +39,9 @@ pub fn recorded(
     m: Middle,
     name: Text,
 ) -> Found
-    ensures { λ r. ⌜ r ≡ recordedBy next place n t cache index known hk sh v m name ⌝ }
+    ensures { λ r. ⌜ r ≡ recordedBy next place n t cache origin known hk sh v m name ⌝ }
 {
-    let row = super::parts::make_row(index, hk, known, sh, v, m, name, n, t);
+    let row = super::parts::make_row(origin, hk, known, sh, v, m, name, n, t);
     let after = cache.after(sh.cached, v.word);
     Found {
         what: What::Record(next),
@@ -61,7 +62,7 @@ fn read_linked(
     at: usize,
     top: u64,
     cache: Cache,
-    index: u64,
+    origin: Origin,
     known: u64,
     hk: u64,
     sh: Shape,
@@ -70,7 +71,7 @@ fn read_linked(
     name: Text,
 ) -> Found
     requires { ⌜ (at ≤ length (now s)) × Narrow sh ⌝ }
-    ensures { λ r. ⌜ r ≡ found-of cache (run (linked top cache index known hk sh v m name) (now (s .entry)) at) ⌝ }
+    ensures { λ r. ⌜ r ≡ found-of cache (run (linked top cache origin known hk sh v m name) (now (s .entry)) at) ⌝ }
 {
     let place: usize;
     let n = match super::parts::link_count(s, at, sh.counted, sh.count) {
@@ -86,7 +87,7 @@ fn read_linked(
     };
     match super::parts::read_tail(s, end, sh.size, sh.truelen, n) {
         TailRead::Is(t, next) => {
-            recorded(next, place, n, t, cache, index, known, hk, sh, v, m, name)
+            recorded(next, place, n, t, cache, origin, known, hk, sh, v, m, name)
         }
         TailRead::Stops(w) => halted(What::Stops(w), cache),
     }
@@ -99,13 +100,13 @@ pub fn read_fields(
     top: u64,
     before: u64,
     cache: Cache,
-    index: u64,
+    origin: Origin,
     known: u64,
     hk: u64,
     sh: Shape,
 ) -> Found
     requires { ⌜ (at ≤ length (now s)) × Narrow sh ⌝ }
-    ensures { λ r. ⌜ r ≡ found-of cache (run (fields top before cache index known hk sh) (now (s .entry)) at) ⌝ }
+    ensures { λ r. ⌜ r ≡ found-of cache (run (fields top before cache origin known hk sh) (now (s .entry)) at) ⌝ }
 {
     let mut here = at;
     let v = match super::parts::read_front(s, here, top, before, sh) {
@@ -124,7 +125,9 @@ pub fn read_fields(
         MiddleRead::Stops(w) => return halted(What::Stops(w), cache),
     };
     match super::parts::class_name(s, here, sh.name) {
-        TextRead::Is(name, n) => { read_linked(s, n, top, cache, index, known, hk, sh, v, m, name) }
+        TextRead::Is(name, n) => {
+            read_linked(s, n, top, cache, origin, known, hk, sh, v, m, name)
+        }
         TextRead::Stops(w) => halted(What::Stops(w), cache),
     }
 }

@@ -12,6 +12,7 @@ use layout::Piece;
 use layout::Stop;
 use phd::Cache;
 use phd::Facts;
+use phd::Origin;
 use phd::Span;
 use phd::Tagged;
 
@@ -60,11 +61,11 @@ fn behind_tag(
     facts: Facts,
     before: u64,
     cache: Cache,
-    index: u64,
+    origin: Origin,
     tag: u64,
 ) -> Found
     requires { ⌜ (at ≤ length (now s)) × Word (facts .word) ⌝ }
-    ensures { λ r. ⌜ r ≡ found-of cache (run (record-of facts before cache index tag) (now (s .entry)) at) ⌝ }
+    ensures { λ r. ⌜ r ≡ found-of cache (run (record-of facts before cache origin tag) (now (s .entry)) at) ⌝ }
 {
     let Tagged::Begins(form) = phd::forms::tagged(tag) else {
         return halted(What::Stops(Stop::Refused(6)), cache);
@@ -78,7 +79,7 @@ fn behind_tag(
             let top = phd::forms::highest_of(facts.word);
             let word = (facts.word / 8) as usize;
             let sh = phd::forms::shape_of(word, form, tag, f);
-            fields::read_fields(s, next, top, before, cache, index, class, hk, sh)
+            fields::read_fields(s, next, top, before, cache, origin, class, hk, sh)
         }
         Piece::Stops(w) => halted(What::Stops(w), cache),
     }
@@ -107,7 +108,8 @@ pub fn read_record(
             if tag == 3 {
                 return halted(What::Over(next), cache);
             }
-            behind_tag(s, next, facts, before, cache, index, tag)
+            let origin = Origin { offset: at, index };
+            behind_tag(s, next, facts, before, cache, origin, tag)
         }
         Piece::Stops(w) => halted(What::Stops(w), cache),
     }

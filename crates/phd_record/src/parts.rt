@@ -13,6 +13,7 @@ use layout::Text;
 use layout::TextRead;
 use phd::Front;
 use phd::Middle;
+use phd::Origin;
 use phd::Shape;
 use phd::Tail;
 
@@ -166,7 +167,7 @@ pub fn read_tail(s: &[u8], at: usize, size: usize, truelen: usize, count: u64) -
 
 // The row of a record: `known` is the class of a short one.
 pub fn make_row(
-    index: u64,
+    origin: Origin,
     hk: u64,
     known: u64,
     sh: Shape,
@@ -176,7 +177,7 @@ pub fn make_row(
     n: u64,
     t: Tail,
 ) -> [u64; phd::ROW]
-    ensures { λ r. ⌜ r ≡ row index hk known sh v m name n t ⌝ }
+    ensures { λ r. ⌜ r ≡ row origin hk known sh v m name n t ⌝ }
 {
     let upper = phd::forms::there(sh.superclass, m.superclass, known);
     let class = phd::forms::there(sh.word, v.word, upper);
@@ -184,18 +185,20 @@ pub fn make_row(
     let len = phd::forms::there(sh.truelen, t.truelen, v.len);
     let place = name.place as u64;
     let chars = name.len as u64;
+    let offset = origin.offset as u64;
     [
         sh.kind,
         v.address,
         class,
         hk,
         m.hash,
-        index,
+        origin.index,
         n,
         size,
         len,
         place,
         chars,
         sh.prim,
+        offset,
     ]
 }

@@ -26,6 +26,7 @@ use phd::Facts;
 use phd::Form;
 use phd::Front;
 use phd::Middle;
+use phd::Origin;
 use phd::Shape;
 use phd::Tail;
 
@@ -136,11 +137,11 @@ fn object(
     facts: Facts,
     before: u64,
     cache: Cache,
-    index: u64,
+    origin: Origin,
     tag: u64,
 ) -> Quick
     requires { ⌜ (at + 90 ≤ length (now s)) × Word (facts .word) × (0x40 ≤ tag) ⌝ }
-    ensures { λ r. ⌜ Taken cache (run (record-of facts before cache index tag) (now (s .entry)) at) (r .took) (r .found) ⌝ }
+    ensures { λ r. ⌜ Taken cache (run (record-of facts before cache origin tag) (now (s .entry)) at) (r .took) (r .found) ⌝ }
 {
     let top = phd::forms::highest_of(facts.word);
     let hk = phd::forms::hash_kind_of(facts, tag, 0);
@@ -180,7 +181,7 @@ fn object(
         sh.count,
         tail,
         cache,
-        index,
+        origin,
         known,
         hk,
         sh,
@@ -197,11 +198,11 @@ fn primitive(
     facts: Facts,
     before: u64,
     cache: Cache,
-    index: u64,
+    origin: Origin,
     tag: u64,
 ) -> Quick
     requires { ⌜ (at + 90 ≤ length (now s)) × Word (facts .word) × (0x20 ≤ tag) × (tag < 0x40) ⌝ }
-    ensures { λ r. ⌜ Taken cache (run (record-of facts before cache index tag) (now (s .entry)) at) (r .took) (r .found) ⌝ }
+    ensures { λ r. ⌜ Taken cache (run (record-of facts before cache origin tag) (now (s .entry)) at) (r .took) (r .found) ⌝ }
 {
     let top = phd::forms::highest_of(facts.word);
     let hk = phd::forms::hash_kind_of(facts, tag, 0);
@@ -237,7 +238,7 @@ fn primitive(
         0,
         tail,
         cache,
-        index,
+        origin,
         0,
         hk,
         sh,
@@ -248,9 +249,9 @@ fn primitive(
 }
 
 // An object array behind its tag.
-fn array(s: &[u8], at: usize, facts: Facts, before: u64, cache: Cache, index: u64) -> Quick
+fn array(s: &[u8], at: usize, facts: Facts, before: u64, cache: Cache, origin: Origin) -> Quick
     requires { ⌜ (at + 90 ≤ length (now s)) × Word (facts .word) ⌝ }
-    ensures { λ r. ⌜ Taken cache (run (record-of facts before cache index 8) (now (s .entry)) at) (r .took) (r .found) ⌝ }
+    ensures { λ r. ⌜ Taken cache (run (record-of facts before cache origin 8) (now (s .entry)) at) (r .took) (r .found) ⌝ }
 {
     let Piece::Is(flags, gap) = phd::forms::flags(s, at, facts, 8) else {
         return none(cache);
@@ -272,7 +273,7 @@ fn array(s: &[u8], at: usize, facts: Facts, before: u64, cache: Cache, index: u6
         word: word(s, gap + sh.gap, sh.word),
         len: 0,
     };
-    linked(s, gap + sh.gap + sh.word, cache, index, hk, sh, front, top)
+    linked(s, gap + sh.gap + sh.word, cache, origin, hk, sh, front, top)
 }
 
 // The fields of an object array from the hash on.
@@ -280,14 +281,14 @@ fn linked(
     s: &[u8],
     at: usize,
     cache: Cache,
-    index: u64,
+    origin: Origin,
     hk: u64,
     sh: Shape,
     front: Front,
     top: u64,
 ) -> Quick
     requires { ⌜ (at + 70 ≤ length (now s)) × ArrayShape sh × (clear (sh .link) (front .address) top ≡ true) ⌝ }
-    ensures { λ r. ⌜ Taken cache (run (behind top cache index hk sh front) (now (s .entry)) at) (r .took) (r .found) ⌝ }
+    ensures { λ r. ⌜ Taken cache (run (behind top cache origin hk sh front) (now (s .entry)) at) (r .took) (r .found) ⌝ }
 {
     let hb = phd::forms::hash_bytes_of(hk);
     let middle = Middle {
@@ -319,7 +320,7 @@ fn linked(
         n,
         tail,
         cache,
-        index,
+        origin,
         0,
         hk,
         sh,
@@ -335,14 +336,15 @@ pub fn record(s: &[u8], at: usize, facts: Facts, before: u64, cache: Cache, inde
     ensures { λ r. ⌜ Taken cache (run (entry facts before cache index) (now (s .entry)) at) (r .took) (r .found) ⌝ }
 {
     let tag = layout_quick::of4(s, at, 1);
+    let origin = Origin { offset: at, index };
     if 0x40 <= tag {
-        return object(s, at + 1, facts, before, cache, index, tag);
+        return object(s, at + 1, facts, before, cache, origin, tag);
     }
     if 0x20 <= tag {
-        return primitive(s, at + 1, facts, before, cache, index, tag);
+        return primitive(s, at + 1, facts, before, cache, origin, tag);
     }
     if tag == 8 {
-        return array(s, at + 1, facts, before, cache, index);
+        return array(s, at + 1, facts, before, cache, origin);
     }
     none(cache)
 }

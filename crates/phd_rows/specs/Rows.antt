@@ -7,6 +7,7 @@ use lib.Dec.{eqb}
 use lib.ListN.{length, getD, take, drop}
 use Rattle.layout.specs.declared.Text.{Text}
 use Rattle.phd.specs.Phd.{row-width}
+use Rattle.phd.specs.declared.Origin.{Origin}
 use Rattle.phd_rows.specs.declared.Row.{Row}
 
 -- the row number i, from 0
@@ -60,7 +61,7 @@ bare r = record {
   prim = r .prim;
 }
 
--- A record: all numbers of its row but the name's place, its references as a list, and its name as bytes.
+-- A record: all numbers of its row but the name's place and the offset, its references as a list, and its name as bytes.
 pub record Rec : Type 0 where
   pub row : Row
   pub refs : List ℕ
@@ -69,11 +70,12 @@ pub record Rec : Type 0 where
 unfoldable pub rec-of : List ℕ → List ℕ → Row → Rec
 rec-of names refs r = record { row = bare r; refs = refs-of refs r; name = name-of names r }
 
--- the numbers of a record's row, its name standing at a place
-unfoldable pub numbers : ℕ → Rec → List ℕ
-numbers place r =
+-- the numbers of a record's row, its name standing at a place and the record itself at its origin
+unfoldable pub numbers : ℕ → Origin → Rec → List ℕ
+numbers place origin r =
     let n = r .row in
-    n .kind ∷ n .address ∷ n .word ∷ n .hashkind ∷ n .hash ∷ n .first ∷ n .count ∷ n .size ∷ n .len ∷ place ∷ n .namelen ∷ n .prim ∷ []
+    n .kind ∷ n .address ∷ n .word ∷ n .hashkind ∷ n .hash ∷ n .first ∷ n .count ∷ n .size ∷ n .len ∷ place ∷ n .namelen ∷ n .prim
+    ∷ origin .offset ∷ []
 
 -- n records of a table, from the row number i on
 unfoldable pub recs-from : List ℕ → List ℕ → List ℕ → ℕ → ℕ → List Rec

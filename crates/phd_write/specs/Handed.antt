@@ -9,45 +9,42 @@ use native.Mathlib.Omega.{arith}
 use native.Mathlib.Decide.{decLe}
 use borrow.Author.Tests.{le-leb, lt-leb}
 use Rattle.layout.specs.Numbers.{pick}
-use Rattle.layout.specs.Layout.{whole, stops, field, reply-of, missing-of}
+use Rattle.layout.specs.Layout.{whole, stops, position, field, reply-of, missing-of}
 use Rattle.layout.specs.Cuts.{fits, stops-short}
 use Rattle.layout.specs.declared.Stop.the-variants.{Cut}
 use Rattle.layout_put.specs.Put.{be}
-use Rattle.layout_put.specs.Reads.{Reads, reads-end, reads-yield, reads-field}
-use Rattle.phd.specs.Phd.{row-width, highest, Links, Item, over, item, entry, State, Result, go, ended, step, records}
+use Rattle.layout_put.specs.Reads.{Reads, reads-end, reads-skip, reads-yield, reads-field, reads-position}
+use Rattle.phd.specs.Phd.{row-width, highest, Links, Item, over, item, from-tag, entry, State, Result, go, ended, step, records}
 use Rattle.phd.specs.Shapes.{Word}
 use Rattle.phd.specs.declared.classes.Cache.{Cache}
 use Rattle.phd.specs.declared.Facts.{Facts}
 use Rattle.phd_read.specs.Steps.{found, onto, step-end, step-stop, step-item, records-go, records-halt}
-use Rattle.phd_rows.specs.Rows.{Rec, numbers}
+use Rattle.phd_rows.specs.Rows.{Rec}
 use Rattle.phd_put.specs.Record.{put-record, cache-after}
 use Rattle.phd_write.specs.Write.{put-records}
 use Rattle.phd_write.specs.Terms.{all-refs, within-cut}
 use Rattle.phd_write.specs.Within.{AllGood}
-use Rattle.phd_put.specs.Back.{name-place, refs-place, record-back}
-
--- a row has as many numbers as every row
-pub length-numbers : (place : ℕ) (r : Rec) → length (numbers place r) ≡ row-width
-unfolding numbers
-length-numbers place r = refl
+use Rattle.phd_put.specs.Back.{refs-place, row-back, length-row, record-back}
 
 -- the end tag is read as the end
 end-back : (h : Facts) (before : ℕ) (c : Cache) (index p : ℕ) → Reads p (entry h before c index) (be 1 3) over
-unfolding entry
-end-back h before c index p = reads-end p (field 1) _ (be 1 3) 3 over (reads-field p 1 3 (lit< tt)) (reads-yield _ over)
+unfolding entry from-tag
+end-back h before c index p =
+    reads-skip p position _ _ p _ (reads-position p)
+    (reads-end p (field 1) _ (be 1 3) 3 over (reads-field p 1 3 (lit< tt)) (reads-yield _ over))
 
 -- the rows of records, the first being put at p
 unfoldable pub rows-of : Facts → ℕ → ℕ → Cache → List Rec → List ℕ
 rows-of h p before c [] = []
 rows-of h p before c (r ∷ rs) =
-    numbers (name-place h p before c r) r ++ rows-of h (p + length (put-record h before c r)) (r .row .address) (cache-after h before c r) rs
+    row-back h p before c r ++ rows-of h (p + length (put-record h before c r)) (r .row .address) (cache-after h before c r) rs
 
 pub length-rows : (h : Facts) (p before : ℕ) (c : Cache) (rs : List Rec) → length (rows-of h p before c rs) ≡ row-width * length rs
 unfolding rows-of
 length-rows h p before c [] = refl
 length-rows h p before c (r ∷ rs) =
     let k = length-rows h (p + length (put-record h before c r)) (r .row .address) (cache-after h before c r) rs in
-    let n = length-numbers (name-place h p before c r) r in
+    let n = length-row h p before c r in
     simp length-append (omega arith)
 
 -- the reading of a cut at m of a dump of `total` bytes: what it holds after the state st, the records rs being still to come
@@ -63,7 +60,7 @@ abbrev links-at : Facts → State → Rec → Links
 links-at h st r = record { span = refs-place h (st .at) (st .address) (st .cache) r; list = r .refs }
 
 abbrev row-read : Facts → State → Rec → List ℕ
-row-read h st r = numbers (name-place h (st .at) (st .address) (st .cache) r) r
+row-read h st r = row-back h (st .at) (st .address) (st .cache) r
 
 abbrev size : Facts → State → Rec → ℕ
 size h st r = length (put-record h (st .address) (st .cache) r)
@@ -118,7 +115,7 @@ coming-on h R F f st r rs k =
     let a = length-append (st .rows) (row-read h st r) in
     let b : length (st .refs ++ r .refs) ≡ length (st .refs) + length (r .refs) = length-append (st .refs) (r .refs) in
     let c = length-append (r .refs) (all-refs rs) in
-    let d = length-numbers (name-place h (st .at) (st .address) (st .cache) r) r in
+    let d = length-row h (st .at) (st .address) (st .cache) r in
     let e : length (st .refs ++ r .refs) ≡ length (st .refs) + r .row .count = rw (b, k .good .0 .good .count) in
     record {
       word = k .word;

@@ -19,6 +19,7 @@ use Rattle.phd_rows.specs.Rows.{Rec, vm-text, recs-from, row-count, recs}
 use Rattle.phd_rows.specs.Good.{good-vm, good-header, bad-of}
 use Rattle.phd_rows.specs.Judged.{Outcome, done, AllRight, Exact as ByTests}
 use Rattle.phd_rows.specs.Asked.{Split}
+use Rattle.phd_rows.specs.Alike.{Alike}
 use Rattle.phd_rows.specs.declared.Found.the-variants.{At, Nowhere}
 use Rattle.phd_rows.specs.declared.Written.{Written}
 use Rattle.phd_write.specs.Write.{put-header, put-records, put-dump, has-room, writing, write-sizing}
@@ -26,7 +27,7 @@ use Rattle.phd_write.specs.Terms.{dump-of, TooLong, Ends, all-refs, kept
 use Rattle.phd_write.specs.Within.{within-all, ends-behind, records-end}
 use Rattle.phd_write.specs.HeaderBack.{written-facts, vm-kept, vm-stands}
 use Rattle.phd_write.specs.Whole.{ReadsCut, reads-cut, kept-count, kept-records}
-use Rattle.phd_write.specs.Ways.{length-recs, rows-enough, refs-lent, has, lacks, has-it, lacks-it, by-tests, said-0, good-dump, as-written, asked-split}
+use Rattle.phd_write.specs.Ways.{length-recs, rows-enough, refs-lent, has, lacks, has-it, lacks-it, by-tests, said-0, good-dump, as-written, asked-split, same-writing, same-sizing}
 
 -- ---- each reply exactly in its case
 
@@ -121,6 +122,13 @@ unfolding done
 just-enough h names refs rows out z l =
     let d = split h names refs rows (length out) .done .1 (z, omega arith) in
     rw (said-0 h names refs rows (length out) d .3) (stored-all out (dump-of h names refs rows) (l ∙ asks h names refs rows .count z))
+
+-- ---- the offsets of the rows lent
+
+-- Any numbers may stand there: tables that differ in them alone, or behind their last whole row, are written and sized alike.
+pub any-offsets : (h : Facts) (names refs : List ℕ) {rows rows′ : List ℕ} (room : ℕ) → Alike rows rows′
+    → (writing h names refs rows room ≡ writing h names refs rows′ room) × (write-sizing h names refs rows ≡ write-sizing h names refs rows′)
+any-offsets h names refs room a = (same-writing a h names refs room, same-sizing a h names refs)
 
 -- ---- what a writing with reply 0 wrote
 

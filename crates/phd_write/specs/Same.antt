@@ -13,13 +13,14 @@ use Rattle.phd.specs.Phd.{row-width, highest}
 use Rattle.phd.specs.Shapes.{Word}
 use Rattle.phd.specs.declared.classes.Cache.{Cache}
 use Rattle.phd.specs.declared.Facts.{Facts}
+use Rattle.phd.specs.declared.Origin.{Origin}
 use Rattle.phd_rows.specs.Rows.{Rec, row-at, refs-of, name-of, bare, rec-of, numbers, recs-from}
 use Rattle.phd_put.specs.Record.{put-record, cache-after}
 use Rattle.phd_write.specs.Write.{put-records}
 use Rattle.phd_write.specs.Terms.{all-refs, within-cut}
 use Rattle.phd_write.specs.Within.{AllGood}
-use Rattle.phd_write.specs.Handed.{length-numbers, rows-of}
-use Rattle.phd_put.specs.Back.{name-place, name-back}
+use Rattle.phd_write.specs.Handed.{rows-of}
+use Rattle.phd_put.specs.Back.{name-place, row-back, length-row, name-back}
 
 -- ---- rows behind a first one
 
@@ -52,10 +53,10 @@ module _ (row rows : List ℕ) (l : length row ≡ row-width) where
   recs-behind names refs (suc n) i = rw (row-behind i, recs-behind names refs n (suc i))
 
 -- a row made of a record is that record again, if its references and its name are where the row says
-rec-back : (names refs rows : List ℕ) (place : ℕ) (r : Rec) → r .row .place ≡ 0 → take (r .row .count) (drop (r .row .first) refs) ≡ r .refs
-    → take (r .row .namelen) (drop place names) ≡ r .name → rec-of names refs (row-at (numbers place r ++ rows) 0) ≡ r
+rec-back : (names refs rows : List ℕ) (place : ℕ) (origin : Origin) (r : Rec) → r .row .place ≡ 0 → take (r .row .count) (drop (r .row .first) refs) ≡ r .refs
+    → take (r .row .namelen) (drop place names) ≡ r .name → rec-of names refs (row-at (numbers place origin r ++ rows) 0) ≡ r
 unfolding rec-of row-at numbers bare refs-of name-of
-rec-back names refs rows place r z p q = λ j. record {
+rec-back names refs rows place origin r z p q = λ j. record {
   row = record {
     kind = r .row .kind;
     address = r .row .address;
@@ -74,12 +75,18 @@ rec-back names refs rows place r z p q = λ j. record {
   name = q j;
 }
 
+-- so it is of the row that a record is read as
+row-same : (h : Facts) (p before : ℕ) (c : Cache) (names refs rows : List ℕ) (r : Rec) → r .row .place ≡ 0
+    → take (r .row .count) (drop (r .row .first) refs) ≡ r .refs → take (r .row .namelen) (drop (name-place h p before c r) names) ≡ r .name
+    → rec-of names refs (row-at (row-back h p before c r ++ rows) 0) ≡ r
+unfolding row-back
+row-same h p before c names refs rows r z = rec-back names refs rows (name-place h p before c r) _ r z
+
 -- one row first
-recs-cons : (n : ℕ) (names refs : List ℕ) (place : ℕ) (r : Rec) (rows : List ℕ) (rs : List Rec) → rec-of names refs (row-at (numbers place r ++ rows) 0) ≡ r
-    → recs-from names refs rows 0 n ≡ rs → recs-from names refs (numbers place r ++ rows) 0 (suc n) ≡ r ∷ rs
+recs-cons : (n : ℕ) (names refs row rows : List ℕ) (r : Rec) (rs : List Rec) → length row ≡ row-width → rec-of names refs (row-at (row ++ rows) 0) ≡ r
+    → recs-from names refs rows 0 n ≡ rs → recs-from names refs (row ++ rows) 0 (suc n) ≡ r ∷ rs
 unfolding recs-from
-recs-cons n names refs place r rows rs p q =
-    rw (p, recs-behind (numbers place r) rows (length-numbers place r) names refs n 0, q)
+recs-cons n names refs row rows r rs l p q = rw (p, recs-behind row rows l names refs n 0, q)
 
 take-over : (xs ys : List ℕ) (j : ℕ) → length xs ≤ j → take j (xs ++ ys) ≡ xs ++ take (j - length xs) ys
 take-over xs ys j l = let e : length xs + (j - length xs) ≡ j = omega arith in rw e at (take-append-add xs ys (j - length xs))
@@ -128,9 +135,9 @@ decodes-on h r rs j more-rows more-refs ih before c p pre refs g e =
     let others : recs-from s links (rows ++ more-rows) 0 (length kept) ≡ kept =
     rw (append-assoc pre bs (take j (put-records h (r .row .address) c′ rs)), append-assoc refs (r .refs) (all-refs kept ++ more-refs)) at
     (ih (r .row .address) c′ (p + length bs) (pre ++ bs) (refs ++ r .refs) (put-on h before refs r rs g) e′) in
-    let this = rec-back s links (rows ++ more-rows) (name-place h p before c r) r (g .good .0 .no-place) there name in
-    rw (append-assoc (r .refs) (all-refs kept) more-refs, append-assoc (numbers (name-place h p before c r) r) rows more-rows)
-    (recs-cons (length kept) s links (name-place h p before c r) r (rows ++ more-rows) kept this others)
+    let this = row-same h p before c s links (rows ++ more-rows) r (g .good .0 .no-place) there name in
+    rw (append-assoc (r .refs) (all-refs kept) more-refs, append-assoc (row-back h p before c r) rows more-rows)
+    (recs-cons (length kept) s links (row-back h p before c r) (rows ++ more-rows) r kept (length-row h p before c r) this others)
 
 decodes-cons : (h : Facts) (r : Rec) (rs : List Rec) (j : ℕ) (more-rows more-refs : List ℕ) → ((i : ℕ) → Decodes h i more-rows more-refs rs)
     → Decodes h j more-rows more-refs (r ∷ rs)

@@ -17,10 +17,11 @@ use Rattle.phd_rows.specs.Rows.{bare, refs-of, rec-of, row-at, recs-from, row-c
 use Rattle.phd_rows.specs.Good.{good-header, first-bad, bad-of}
 use Rattle.phd_rows.specs.Judged.{Outcome, done, judged, checked, AllRight, Exact, exact}
 use Rattle.phd_rows.specs.Asked.{Split, asked-checked, asked-counts, asked-over, asked-split as by-asked}
+use Rattle.phd_rows.specs.Alike.{Alike, same-recs, same-judged}
 use Rattle.phd_rows.specs.Kept.{good-of, lent-of, none-bad, word-of, vm-of}
 use Rattle.phd_rows.specs.declared.Found.the-variants.{Nowhere}
 use Rattle.phd_rows.specs.declared.Written.{Written}
-use Rattle.phd_write.specs.Write.{has-room, writing, write-sizing}
+use Rattle.phd_write.specs.Write.{put-dump, has-room, writing, write-sizing}
 use Rattle.phd_write.specs.Terms.{dump-of, TooLong, all-refs}
 use Rattle.phd_write.specs.Within.{AllGood}
 use Rattle.phd_write.specs.Whole.{GoodDump}
@@ -162,3 +163,15 @@ module _ (h : Facts) (names refs rows : List ℕ) where
   pub asked-split : (w : Written) (room : ℕ) → w ≡ write-sizing h names refs rows → Split w room (writing h names refs rows room)
   unfolding writing write-sizing has-room
   asked-split w room e = by-asked _ _ _ _ _ w room e
+
+-- ---- tables that differ in their rows' offsets alone
+
+module _ {rows rows′ : List ℕ} (a : Alike rows rows′) (h : Facts) (names refs : List ℕ) where
+  pub same-writing : (room : ℕ) → writing h names refs rows room ≡ writing h names refs rows′ room
+  unfolding writing
+  same-writing room = same-judged a h names refs (has-room room) refl (ap (put-dump names h) (same-recs a names refs))
+
+  pub same-sizing : write-sizing h names refs rows ≡ write-sizing h names refs rows′
+  unfolding write-sizing
+  same-sizing =
+      ap (λ (o : Outcome). o .answer) (same-judged a h names refs (λ dump. leb (length dump) limit) refl (ap (put-dump names h) (same-recs a names refs)))

@@ -26,8 +26,8 @@ use samples_say::written;
 ghost use mathlib.Core.Path.{_≡_};
 ghost use lib.ListN.{length};
 
-// Room for 128 rows, with eleven numbers too few for one more, and for 160 references.
-const ROWS: usize = 128 * phd::ROW + 11;
+// Room for 128 rows, with one number too few for another, and for 160 references.
+const ROWS: usize = 129 * phd::ROW - 1;
 
 const REFS: usize = 160;
 

@@ -87,7 +87,7 @@ impl Heap {
             self.refs.push(OBJECTS + 8 * numbers.below(1000));
         }
         let upper = if i == 0 { 0 } else { CLASSES };
-        self.row([
+        self.row(&[
             1,
             address,
             upper,
@@ -117,14 +117,15 @@ impl Heap {
             };
             self.refs.push(to);
         }
-        self.row([
+        self.row(&[
             r.kind, address, r.class, 0, 0, first, r.count, r.size, r.len, 0, 0, r.prim,
         ]);
     }
 
-    fn row(&mut self, numbers: [u64; 12]) {
+    /// A row of these numbers; those behind them are 0.
+    fn row(&mut self, numbers: &[u64]) {
         let at = self.rows.len();
-        self.rows.extend_from_slice(&numbers);
+        self.rows.extend_from_slice(numbers);
         self.rows.resize(at + ROW, 0);
     }
 }

@@ -8,6 +8,7 @@ pub const HELP: &str = "\
 phd reads heap dumps (PHD) of OpenJ9 Java machines: whole, cut off or damaged.
 
   phd info FILE..           say whether a dump is whole, and what is in it
+  phd info --rows FILE..    list its rows too, with the offset of each record
   phd text FILE [-o OUT]    write it as classic text, to standard output or to OUT
   phd copy FILE OUT         read it and write it anew, as a whole dump
   phd --help                print this help; also -h, and phd help
@@ -28,7 +29,7 @@ wrong, or a file cannot be read or written.
 pub enum Request {
     Help,
     Version,
-    Info(Vec<Source>),
+    Info { sources: Vec<Source>, rows: bool },
     Text(Source, Target),
     Copy(Source, Target),
 }
@@ -37,6 +38,7 @@ pub enum Request {
 struct Sorted {
     plain: Vec<OsString>,
     output: Option<OsString>,
+    rows: bool,
 }
 
 /// What the words ask for, or what is wrong with them.
@@ -45,11 +47,13 @@ pub fn parse(words: impl Iterator<Item = OsString>) -> Result<Request, String> {
     let mut sorted = Sorted {
         plain: Vec::new(),
         output: None,
+        rows: false,
     };
     while let Some(word) = words.next() {
         match word.to_str() {
             Some("-h" | "--help") => return Ok(Request::Help),
             Some("--version") => return Ok(Request::Version),
+            Some("--rows") => sorted.rows = true,
             Some("-o") => take_output(&mut sorted, words.next())?,
             Some("--") => sorted.plain.extend(words.by_ref()),
             _ if is_option(&word) => {
@@ -74,32 +78,38 @@ fn take_output(sorted: &mut Sorted, value: Option<OsString>) -> Result<(), Strin
 }
 
 fn request(sorted: Sorted) -> Result<Request, String> {
-    let Sorted { plain, output } = sorted;
+    let Sorted {
+        plain,
+        output,
+        rows,
+    } = sorted;
     let mut plain = plain.into_iter();
     let command = plain.next().ok_or("no command is given")?;
     let files: Vec<OsString> = plain.collect();
     if output.is_some() && command != "text" {
         return Err("-o belongs to 'text' alone".into());
     }
+    if rows && command != "info" {
+        return Err("--rows belongs to 'info' alone".into());
+    }
     match command.to_str() {
         Some("help") => Ok(Request::Help),
-        Some("info") => info(files),
+        Some("info") => info(files, rows),
         Some("text") => text(files, output),
         Some("copy") => copy(files),
         _ => Err(format!("unknown command '{}'", command.to_string_lossy())),
     }
 }
 
-fn info(files: Vec<OsString>) -> Result<Request, String> {
+fn info(files: Vec<OsString>, rows: bool) -> Result<Request, String> {
     if files.is_empty() {
         return Err("info wants one FILE or more".into());
     }
     if files.iter().filter(|file| *file == "-").count() > 1 {
         return Err("standard input, -, can be read only once".into());
     }
-    Ok(Request::Info(
-        files.into_iter().map(Source::named).collect(),
-    ))
+    let sources = files.into_iter().map(Source::named).collect();
+    Ok(Request::Info { sources, rows })
 }
 
 fn text(files: Vec<OsString>, output: Option<OsString>) -> Result<Request, String> {

@@ -3,11 +3,12 @@
 use crate::input::Source;
 use crate::output::{self, Sent};
 use crate::reading::{self, Reading, Tally};
+use crate::rows;
 use crate::say::{Status, Trouble};
 use crate::words;
 
-/// Tells of each file, and gives the worst status.
-pub fn run(sources: &[Source]) -> Result<Status, Trouble> {
+/// Tells of each file, with its rows if they are asked for, and gives the worst status.
+pub fn run(sources: &[Source], with_rows: bool) -> Result<Status, Trouble> {
     let mut worst = Status::Done;
     let mut first = true;
     for source in sources {
@@ -16,7 +17,10 @@ pub fn run(sources: &[Source]) -> Result<Status, Trouble> {
             Ok(reading) => {
                 let gap = if first { "" } else { "\n" };
                 first = false;
-                let sent = output::print(&format!("{gap}{}", report(&reading)))?;
+                let mut sent = output::print(&format!("{gap}{}", report(&reading)))?;
+                if with_rows && sent == Sent::Whole {
+                    sent = rows::print(&reading)?;
+                }
                 if sent == Sent::NoReader {
                     return Ok(worst);
                 }

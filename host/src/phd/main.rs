@@ -8,6 +8,7 @@ mod output;
 mod progress;
 mod reading;
 mod room;
+mod rows;
 mod say;
 mod words;
 
@@ -34,7 +35,7 @@ fn run(request: Request) -> Result<Status, Trouble> {
             let version = concat!("phd ", env!("CARGO_PKG_VERSION"), "\n");
             output::print(version).map(|_| Status::Done)
         }
-        Request::Info(sources) => info::run(&sources),
+        Request::Info { sources, rows } => info::run(&sources, rows),
         Request::Text(source, target) => convert::run(&source, &target, Form::Text),
         Request::Copy(source, target) => convert::run(&source, &target, Form::Dump),
     }

@@ -4,14 +4,7 @@ use crate::input::{self, Source, LIMIT};
 use crate::progress;
 use crate::room::{self, NoMemory};
 use crate::say::Trouble;
-use phd_host::library::{self, Facts, Header, ROW};
-
-/// Where a row has its kind, its address, its class word, its count of references and its length.
-const KIND: usize = 0;
-const ADDRESS: usize = 1;
-const CLASS: usize = 2;
-const REFERENCES: usize = 6;
-const LENGTH: usize = 8;
+use phd_host::library::{self, Facts, Header, ADDRESS, CLASS, COUNT, KIND, LENGTH, ROW};
 
 /// The kind of an object array.
 const OBJECT_ARRAY: u64 = 3;
@@ -40,7 +33,7 @@ pub struct Tally {
 /// A row's nulls: of an object array its length less its references. It is proved that no reading stores more references than that.
 fn nulls(row: &[u64]) -> u64 {
     if row[KIND] == OBJECT_ARRAY {
-        row[LENGTH] - row[REFERENCES]
+        row[LENGTH] - row[COUNT]
     } else {
         0
     }
@@ -80,9 +73,13 @@ impl Reading {
 
     /// The VM version, where the header has one.
     pub fn vm(&self) -> Option<String> {
-        let from = self.facts[8] as usize;
-        let bytes = self.dump.get(from..from + self.facts[9] as usize)?;
-        (self.facts[7] != 0).then(|| String::from_utf8_lossy(bytes).into_owned())
+        (self.facts[7] != 0).then(|| self.text(self.facts[8], self.facts[9]))
+    }
+
+    /// A string that was read, by its place and its length.
+    pub fn text(&self, place: u64, length: u64) -> String {
+        let bytes = &self.dump[place as usize..][..length as usize];
+        String::from_utf8_lossy(bytes).into_owned()
     }
 
     /// The header as `write` and `text` want it, its VM version being in the dump.
@@ -116,7 +113,7 @@ impl Reading {
         for row in self.rows().chunks_exact(ROW) {
             let kind = &mut kinds[row[KIND] as usize - 1];
             kind.records += 1;
-            kind.references += row[REFERENCES];
+            kind.references += row[COUNT];
             kind.nulls += nulls(row);
         }
         kinds

@@ -12,7 +12,7 @@ use lent::Lent;
 use std::ops::Range;
 
 /// How many numbers make a row.
-pub const ROW: usize = 12;
+pub const ROW: usize = 13;
 
 /// The most bytes a dump may have.
 const DUMP_LIMIT: usize = 1 << 30;
@@ -229,7 +229,7 @@ impl Cache {
     }
 }
 
-/// The numbers of a row by name.
+/// The numbers of a row by name, but for the offset: what is lent to the writer or the text has any there.
 struct Row {
     kind: u64,
     address: u64,

@@ -113,6 +113,8 @@ fn read_header(cursor: &mut Cursor) -> Result<Header, Reply> {
 /// A record as read. Its references stay as bytes, judged but not yet stored.
 #[derive(Default)]
 struct Record<'a> {
+    /// Where its tag stands.
+    offset: usize,
     kind: u64,
     /// The address, counted in fours of bytes as the gaps are.
     address: i64,
@@ -155,6 +157,7 @@ impl<'a> Body<'a> {
 
     /// Reads the next record, or nothing at the end tag.
     fn record(&mut self) -> Result<Option<Record<'a>>, Reply> {
+        let offset = self.cursor.at;
         let tag = self.cursor.byte()?;
         let record = match tag {
             0x80..=0xFF => self.short_object(tag)?,
@@ -167,7 +170,7 @@ impl<'a> Body<'a> {
             8 => self.object_array()?,
             _ => return Err(Reply::WrongTag),
         };
-        Ok(Some(record))
+        Ok(Some(Record { offset, ..record }))
     }
 
     /// Reads a short object behind its tag.
@@ -373,6 +376,7 @@ impl<'t> Tables<'t> {
             record.name_place,
             record.name_length,
             record.primitive,
+            record.offset as u64,
         ];
         self.row_count += 1;
         self.ref_count += record.ref_count;

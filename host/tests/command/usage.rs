@@ -10,6 +10,7 @@ fn help_and_version() {
         assert_eq!(folder.phd(words).ended(0).quiet().out(), help.out());
     }
     help.prints("phd info FILE..")
+        .prints("phd info --rows FILE..")
         .prints("phd text FILE [-o OUT]")
         .prints("phd copy FILE OUT")
         .prints("Exit status: 0 done; 1 ");
@@ -24,7 +25,7 @@ fn help_and_version() {
 fn wrong_command_lines() {
     let folder = Folder::new("usage-wrong");
     folder.put("a", &example());
-    let wrong: [(&[&str], &str); 13] = [
+    let wrong: [(&[&str], &str); 16] = [
         (&[], "no command is given"),
         (&["--"], "no command is given"),
         (&["look", "a"], "unknown command 'look'"),
@@ -38,6 +39,12 @@ fn wrong_command_lines() {
         (&["text", "a", "-o", "b", "-o", "c"], "-o is given twice"),
         (&["copy", "a"], "copy wants one FILE and one OUT"),
         (&["copy", "a", "-o", "b"], "-o belongs to 'text' alone"),
+        (&["info", "--rows"], "info wants one FILE or more"),
+        (&["text", "--rows", "a"], "--rows belongs to 'info' alone"),
+        (
+            &["copy", "a", "b", "--rows"],
+            "--rows belongs to 'info' alone",
+        ),
     ];
     for (words, complaint) in wrong {
         let ran = folder.phd(words).ended(2).prints_nothing().says(complaint);

@@ -28,6 +28,8 @@ int main(void) {
         header[i] = facts[PHD_W + i];
     size_t numbers = facts[PHD_ROWS] * PHD_ROW;
     size_t links = facts[PHD_REFERENCES];
+    for (size_t i = 0; i < numbers; i += PHD_ROW)
+        printf("row at %llu\n", (unsigned long long)rows[i + PHD_OFFSET]);
     say("write size", phd_write_size(header, rows, numbers, refs, links, dump, size, facts));
     if (facts[PHD_REPLY] != PHD_DONE || facts[PHD_PLACE] > ROOM)
         return 3;

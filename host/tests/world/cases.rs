@@ -96,7 +96,7 @@ impl Case<'_> {
         Ok(read)
     }
 
-    /// Asks for the size; writes or tells with room enough, and then with some other room.
+    /// Asks for the size; writes or tells with room enough, and then with some other room and other offsets, which say nothing.
     fn make_twice(&mut self, job: &Job, lent: &Tables, room: usize) -> Result<Outcome, String> {
         let asked = compare::ask(job, lent, self.dice.any())?;
         self.tally.count(job.size_name, asked.reply as i64);
@@ -113,9 +113,11 @@ impl Case<'_> {
             4 => 0,
             _ => self.dice.index(size + 1),
         };
-        let again = self.make(job, lent, other)?;
+        let elsewhere = lent.with_offsets(|| self.dice.any());
+        let again = self.make(job, &elsewhere, other)?;
         foretold(&asked, &made, enough)
             .and_then(|()| foretold(&asked, &again, other))
+            .and_then(|()| same_bytes(&made, &again))
             .map_err(|what| of_tables(&format!("{} {what}", job.name), lent))?;
         Ok(made)
     }
@@ -142,6 +144,15 @@ impl Case<'_> {
 }
 
 /// Room for so many rows: exact, too small by a row or by a number, with numbers left over, more, or none.
+/// Two makings that are both done give the same bytes.
+fn same_bytes(one: &Outcome, two: &Outcome) -> Result<(), String> {
+    let bytes = |made: &Outcome| made.out[..made.place()].to_vec();
+    if one.reply == 0 && two.reply == 0 && bytes(one) != bytes(two) {
+        return Err("gives other bytes with other offsets".to_string());
+    }
+    Ok(())
+}
+
 fn row_room(dice: &mut Dice, rows: usize) -> usize {
     let exact = rows * ROW;
     match dice.below(9) {

@@ -120,7 +120,7 @@ pub fn read(dump: &[u8], rooms: (usize, usize), salt: u64) -> Result<Outcome, St
     let plain = guarded(|| read_by(plain::read, dump, rooms, salt));
     let judged = plain.and_then(|plain| {
         alike(&library, &plain)?;
-        read_rules(&library, salt)
+        read_rules(&library, dump, salt)
     });
     match judged {
         Ok(()) => Ok(library),
@@ -232,8 +232,8 @@ fn first_difference<T: PartialEq>(left: &[T], right: &[T]) -> Option<usize> {
     Some(at.unwrap_or(left.len().min(right.len())))
 }
 
-/// What holds of every reading: its facts, and that nothing behind what it stored has changed.
-pub fn read_rules(read: &Outcome, salt: u64) -> Result<(), String> {
+/// What holds of every reading: its facts, that nothing behind what it stored has changed, and its rows' offsets.
+pub fn read_rules(read: &Outcome, dump: &[u8], salt: u64) -> Result<(), String> {
     facts_rules(read, 11)?;
     if (read.missing() != 0) != (read.reply == 1) {
         return Err(format!("reply {} lacks {}", read.reply, read.missing()));
@@ -248,6 +248,21 @@ pub fn read_rules(read: &Outcome, salt: u64) -> Result<(), String> {
     }
     if refs[ref_end..] != pattern(!salt, refs.len())[ref_end..] {
         return Err("a reference behind the stored ones has changed".to_string());
+    }
+    offset_rules(&rows[..row_end], dump)
+}
+
+/// The offsets of rows are the places of records' tags, and grow.
+fn offset_rules(rows: &[u64], dump: &[u8]) -> Result<(), String> {
+    let mut from = 0;
+    for (index, row) in rows.chunks_exact(ROW).enumerate() {
+        let offset = row[OFFSET];
+        let tag = dump.get(offset as usize);
+        let begins = tag.is_some_and(|tag| matches!(tag, 4 | 6..=8 | 0x20..));
+        if offset < from || !begins {
+            return Err(format!("row {index} has the offset {offset}"));
+        }
+        from = offset + 1;
     }
     Ok(())
 }

@@ -7,7 +7,7 @@ use crate::damage;
 use crate::encode::{self, Encoded};
 use crate::good;
 use crate::run::{run, Case, Kind};
-use crate::same::same_records;
+use crate::same::{same_offsets, same_records};
 use crate::tables::*;
 use phd_host::library;
 
@@ -59,7 +59,7 @@ impl Case<'_> {
         let salt = self.dice.any();
         let read = read_by(library::read, &dump[..cut], rooms, salt);
         self.tally.count("read", read.reply as i64);
-        match read_rules(&read, salt) {
+        match read_rules(&read, &dump[..cut], salt) {
             Ok(()) => Ok(read),
             Err(what) => Err(of_dump(
                 &format!("cut {cut}, rooms {rooms:?}: {what}"),
@@ -247,7 +247,7 @@ fn handed(case: &mut Case, lent: &Tables, made: &Encoded, cut: usize) -> Result<
             "reply {other} at {there} lacks {lacks}, not {reply} at {place} and {missing}"
         ))
     } else if opened {
-        same_records(&lent.first_rows(whole), dump, &read)
+        same_records(&lent.first_rows(whole), dump, &read).and_then(|()| same_offsets(made, &read))
     } else if read.facts[2..10] == [0; 8] {
         Ok(())
     } else {

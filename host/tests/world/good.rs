@@ -123,7 +123,8 @@ impl<'a> Maker<'a> {
             let to = self.near(row[ADDRESS]);
             self.made.refs.push(if to == 0 { 4 } else { to });
         }
-        row[TYPE + 1..].fill_with(|| self.dice.any());
+        let any = self.dice.any();
+        row[OFFSET] = self.dice.pick(&[0, 1, u64::MAX, any]);
         self.before = row[ADDRESS];
         self.made.rows.extend(row);
     }

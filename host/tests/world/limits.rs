@@ -21,7 +21,7 @@ fn dump_over_the_limit() {
             assert_eq!(library.reply, reply, "{size} bytes");
             let place = if reply == 0 { EMPTY.len() } else { 0 };
             assert_eq!(library.place(), place, "{size} bytes");
-            compare::read_rules(&library, 7).expect("rules of a reading");
+            compare::read_rules(&library, &dump[..size], 7).expect("rules of a reading");
             alike(&library, &plain).expect("both sides alike");
         }
     }

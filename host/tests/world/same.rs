@@ -1,5 +1,5 @@
 //! Whether what was read is what was written or encoded: records are the same when all numbers are equal, but names are compared
-//! as bytes and references as lists.
+//! as bytes and references as lists, and offsets not at all.
 
 use crate::compare::Outcome;
 use crate::encode::Encoded;
@@ -25,7 +25,7 @@ pub fn same_records(lent: &Tables, dump: &[u8], read: &Outcome) -> Result<(), St
     }
     for index in 0..got.count() {
         let (row, wanted) = (got.row(index), lent.row(index));
-        let numbers = SAME.iter().all(|at| row[*at] == wanted[*at]);
+        let numbers = (0..ROW).all(|at| row[at] == wanted[at] || ELSEWHERE.contains(&at));
         let named = row[KIND] != IS_CLASS || got.name_of(index) == lent.name_of(index);
         if !numbers || !named || got.refs_of(index) != lent.refs_of(index) {
             return Err(format!("row {index} is read as {row:X?}"));
@@ -48,6 +48,17 @@ pub fn same_places(encoded: &Encoded, read: &Outcome) -> Result<(), String> {
     for (row, name) in read.tables[0].chunks_exact(ROW).zip(&encoded.names) {
         if row[NAME] != *name {
             return Err(format!("a name at {name} is read as {row:X?}"));
+        }
+    }
+    same_offsets(encoded, read)
+}
+
+/// Whether each row that was read has the offset at which the encoder put its record.
+pub fn same_offsets(encoded: &Encoded, read: &Outcome) -> Result<(), String> {
+    let rows = read.tables[0].chunks_exact(ROW);
+    for (row, start) in rows.take(read.facts[2] as usize).zip(&encoded.starts) {
+        if row[OFFSET] != *start as u64 {
+            return Err(format!("a record at {start} is read as {row:X?}"));
         }
     }
     Ok(())

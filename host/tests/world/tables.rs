@@ -1,35 +1,13 @@
-//! Tables as they are lent to a writer, and the names of a row's numbers.
+//! Tables as they are lent to a writer.
 
-pub use phd_host::library::{Facts, Header, ROW};
+pub use phd_host::library::{
+    Facts, Header, ADDRESS, CLASS, COUNT, FIRST, HASH, HASH_KIND, KIND, LENGTH, NAME, NAME_LENGTH,
+    OFFSET, ROW, SIZE, TYPE,
+};
 use std::fmt::Write;
 
-pub const KIND: usize = 0;
-pub const ADDRESS: usize = 1;
-pub const CLASS: usize = 2;
-pub const HASH_KIND: usize = 3;
-pub const HASH: usize = 4;
-pub const FIRST: usize = 5;
-pub const COUNT: usize = 6;
-pub const SIZE: usize = 7;
-pub const LENGTH: usize = 8;
-pub const NAME: usize = 9;
-pub const NAME_LENGTH: usize = 10;
-pub const TYPE: usize = 11;
-
-/// The numbers that two rows of the same record have alike; of a name only its bytes count.
-pub const SAME: [usize; 11] = [
-    KIND,
-    ADDRESS,
-    CLASS,
-    HASH_KIND,
-    HASH,
-    FIRST,
-    COUNT,
-    SIZE,
-    LENGTH,
-    NAME_LENGTH,
-    TYPE,
-];
+/// The numbers that two rows of the same record need not have alike: of a name only its bytes count.
+pub const ELSEWHERE: [usize; 2] = [NAME, OFFSET];
 
 pub const IS_CLASS: u64 = 1;
 pub const IS_OBJECT: u64 = 2;
@@ -100,6 +78,15 @@ impl Tables {
         let mut first = self.clone();
         first.rows.truncate(count * ROW);
         first
+    }
+
+    /// The same with other offsets in the rows.
+    pub fn with_offsets(&self, mut offset: impl FnMut() -> u64) -> Tables {
+        let mut other = self.clone();
+        for row in other.rows.chunks_exact_mut(ROW) {
+            row[OFFSET] = offset();
+        }
+        other
     }
 
     /// How many bytes the text of good rows has at most.

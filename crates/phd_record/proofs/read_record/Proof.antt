@@ -7,7 +7,8 @@ use lib.ListN.{length}
 use borrow.Author.Tests.{eq-eqb, ne-eqb}
 use Rattle.layout.specs.Layout.{whole, run, inside, field, run-then, run-yield}
 use Rattle.layout.specs.Fields.{outcome}
-use Rattle.phd.specs.Phd.{entry}
+use Rattle.phd.specs.Phd.{from-tag}
+use Rattle.phd.specs.Origins.{entry-at}
 use Rattle.phd_record.specs.Found.{found-of}
 use Rattle.phd_record.proofs.read_record.Statement.{statement}
 use Rattle.phd_record.proofs.read_record.Tie as tie
@@ -43,10 +44,10 @@ halted-requires : tie.Need-halted-requires
 halted-requires c κs = search needs
 
 returns-2 : tie.Need-returns-2
-unfolding entry found-of
+unfolding from-tag found-of
 returns-2 c =
     let w = c .before .before .before in
-    rw (c .halted .ensures, run-then, got-tag w, eq-eqb _ _ (c .before .if3 .taken), run-yield)
+    rw (c .halted .ensures, entry-at, run-then, got-tag w, eq-eqb _ _ (c .before .if3 .taken), run-yield)
 
 behind-tag-requires : tie.Need-behind-tag-requires
 behind-tag-requires c κs =
@@ -60,16 +61,16 @@ halted-requires-2 : tie.Need-halted-requires-2
 halted-requires-2 c κs = search needs
 
 returns-3 : tie.Need-returns-3
-unfolding entry found-of
+unfolding from-tag found-of
 returns-3 c =
     let w = c .before .before .before in
-    rw (c .behind-tag .ensures, run-then, got-tag w, ne-eqb _ _ (c .before .if3 .left))
+    rw (c .behind-tag .ensures, entry-at, run-then, got-tag w, ne-eqb _ _ (c .before .if3 .left))
 
 returns-4 : tie.Need-returns-4
-unfolding entry found-of
+unfolding from-tag found-of
 returns-4 c =
     let d = c .before .before .before .before in
-    rw (c .halted2 .ensures, run-then, ← d .field .ensures .0, c .before .before .w .given .1)
+    rw (c .halted2 .ensures, entry-at, run-then, ← d .field .ensures .0, c .before .before .w .given .1)
 
 pub read-record-spec : {M : Type 1} → statement M
 read-record-spec =

@@ -136,7 +136,7 @@ returns-5 c =
     λ t. c .linked .ensures t
     ∙ ap (found-of (a .cache))
     (sym
-    (array-front (a .facts) (a .before) (a .cache) (a .index) (a .s .now) (a .at) (e .before .before .highest-of .result) (e .before .before .before .hash-kind-of .result) (y .shape-of .result)
+    (array-front (a .facts) (a .before) (a .cache) (a .origin) (a .s .now) (a .at) (e .before .before .highest-of .result) (e .before .before .before .hash-kind-of .result) (y .shape-of .result)
     (f .flags2 .given .0 .0) (f .flags2 .given .0 .1 .0) (d .address .given .0 .0) (v .word .result) (got-flags f)
     (e .before .before .highest-of .ensures) (e .before .before .before .hash-kind-of .ensures) (y .shape-of .ensures)
     (omega (arith, room e)) (sym (d .before .before .moved .ensures) ∙ d .address .given .1) (v .word .ensures)))

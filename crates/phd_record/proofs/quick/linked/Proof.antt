@@ -125,7 +125,7 @@ returns-5 c =
     let a = b .before .before .args in
     λ _. c .took .ensures .1 ∙ c .before .recorded .ensures
     ∙ sym
-    (array-behind (a .top) (a .cache) (a .index) (a .hk) (a .sh) (a .front) (a .s .now) (a .at) (b .hash-bytes-of .result) (h .hash-at .result)
+    (array-behind (a .top) (a .cache) (a .origin) (a .hk) (a .sh) (a .front) (a .s .now) (a .at) (b .hash-bytes-of .result) (h .hash-at .result)
     (n .n .given .0 .0) (z .be4 .result) (t .truelen .given .0 .0) (k .no-name .result) (b .before .before .pre .1) (b .hash-bytes-of .ensures) (b .before .before .pre .2)
     (h .hash-at .ensures) (sym (n .before .before .amount .ensures) ∙ n .n .given .1) (i .if1 .left) (z .be4 .ensures .0)
     (sym (t .before .before .amount2 .ensures) ∙ t .truelen .given .1) (o .if2 .left) (k .no-name .ensures))

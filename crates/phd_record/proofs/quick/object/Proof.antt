@@ -151,7 +151,7 @@ returns-4 c =
     let from = a .at + sh .gap + sh .word in
     let place = from + hb in
     λ x. c .took .ensures .1 ∙ c .before .recorded .ensures
-    ∙ object-found (kind .before .highest-of .result) (a .before) (a .cache) (a .index) (t .before .known2 .given .0 .0)
+    ∙ object-found (kind .before .highest-of .result) (a .before) (a .cache) (a .origin) (t .before .known2 .given .0 .0)
     (kind .hash-kind-of .result) hb sh (a .s .now) (a .at) (e .before .before .before .address .given .0 .0) (w .word .result) from
     (hashed .hash-at .result) place (place + sh .count * sh .link) (object d)
     (bytes-at d .hash-bytes-of .ensures)

@@ -135,7 +135,7 @@ returns-4 c =
     let w = hash-of e in
     λ _. c .took .ensures .1 ∙ c .before .recorded .ensures
     ∙ sym
-    (primitive-whole (a .facts) (a .before) (a .cache) (a .index) (a .s .now) (a .at) (w .before .before .highest-of .result) (w .before .hash-kind-of .result) (y .shape-of .result)
+    (primitive-whole (a .facts) (a .before) (a .cache) (a .origin) (a .s .now) (a .at) (w .before .before .highest-of .result) (w .before .hash-kind-of .result) (y .shape-of .result)
     (a .tag) (w .hash-bytes-of .result) (d .address .given .0 .0) (n .len .given .0 .0) (q .hash-at .result) (z .be4 .result) (k .no-name .result)
     (start e .pre .2) (start e .pre .3) (w .before .before .highest-of .ensures) (w .before .hash-kind-of .ensures) (y .shape-of .ensures) (w .hash-bytes-of .ensures)
     (omega (arith, room e)) (sym (d .before .before .moved .ensures) ∙ d .address .given .1) (sym (n .before .before .amount .ensures) ∙ n .len .given .1)

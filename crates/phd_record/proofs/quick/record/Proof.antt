@@ -4,6 +4,7 @@ use mathlib.Core.Path.{_≡_, sym, ap, _∙_}
 use Prim.Native.Nat.{ℕ, _+_}
 use native.Mathlib.Omega.{arith}
 use Rattle.phd.specs.Phd.{entry, record-of}
+use Rattle.phd.specs.declared.Origin.{Origin}
 use Rattle.layout.specs.Layout.{run}
 use Rattle.phd_record.specs.Found.{found-of}
 use Rattle.phd_record.proofs.QuickLaws.{entry-behind, nothing}
@@ -13,10 +14,14 @@ use Rattle.phd_record.proofs.quick.record.Tie as tie
 abbrev start : tie.After-of4 → tie.Start
 start c = c .before .before
 
+-- where the record stands
+abbrev stands : tie.After-of4 → Origin
+stands c = let a = start c .args in record { offset = a .at; index = a .index }
+
 -- what stands behind the tag
 behind : (c : tie.After-of4) → (c .of4 .result ≡ 3 → ⊥) → let a = start c .args in
     run (entry (a .facts) (a .before) (a .cache) (a .index)) (a .s .now) (a .at)
-    ≡ run (record-of (a .facts) (a .before) (a .cache) (a .index) (c .of4 .result)) (a .s .now) (a .at + 1)
+    ≡ run (record-of (a .facts) (a .before) (a .cache) (stands c) (c .of4 .result)) (a .s .now) (a .at + 1)
 behind c n =
     let a = start c .args in
     entry-behind (a .facts) (a .before) (a .cache) (a .index) (c .of4 .result) (a .s .now) (a .at) (omega arith) (c .of4 .ensures .0) n
@@ -55,7 +60,7 @@ returns-3 c =
     let a = start d .args in
     let t : d .of4 .result ≡ 8 = omega arith in
     λ x. c .array .ensures x
-    ∙ ap (λ (n : ℕ). found-of (a .cache) (run (record-of (a .facts) (a .before) (a .cache) (a .index) n) (a .s .now) (a .at + 1))) (sym t)
+    ∙ ap (λ (n : ℕ). found-of (a .cache) (run (record-of (a .facts) (a .before) (a .cache) (stands d) n) (a .s .now) (a .at + 1))) (sym t)
     ∙ ap (found-of (a .cache)) (sym (behind d (λ e. omega arith)))
 
 none-requires : tie.Need-none-requires
