@@ -1,7 +1,7 @@
 -- A good record that is put at any place of a dump is read there as it was, whatever stands before and after it; and its name
 -- stands where the row that is read says.
 -- Assumes nothing.
-use mathlib.Core.Path.{_≡_, refl}
+use mathlib.Core.Path.{_≡_, refl, ap}
 use Prim.Native.Nat.{ℕ, _%_, _≤_}
 use mathlib.Core.List.{List, _++_}
 use lib.ListN.{length, take, drop}
@@ -30,6 +30,11 @@ refs-place h p before c r = span-at p (plan-of h before c r) (r .row)
 unfoldable pub row-back : Facts → ℕ → ℕ → Cache → Rec → List ℕ
 row-back h p before c r = numbers (name-place h p before c r) (record { offset = p; index = r .row .first }) r
 
+row-there : (h : Facts) (p before : ℕ) (c : Cache) (r : Rec) (index : ℕ) → r .row .first ≡ index
+    → row-back h p before c r ≡ numbers (name-place h p before c r) (record { offset = p; index = index }) r
+unfolding row-back
+row-there h p before c r index e = ap (λ (k : ℕ). numbers (name-place h p before c r) (record { offset = p; index = k }) r) e
+
 pub length-row : (h : Facts) (p before : ℕ) (c : Cache) (r : Rec) → length (row-back h p before c r) ≡ row-width
 unfolding row-back numbers
 length-row h p before c r = refl
@@ -39,8 +44,10 @@ module _ (h : Facts) (before : ℕ) (c : Cache) (index : ℕ) (r : Rec) (p : ℕ
   where
     pub record-back : Reads p (entry h before c index) (put-record h before c r)
         (item (row-back h p before c r) (record { span = refs-place h p before c r; list = r .refs }) (r .row .address) (cache-after h before c r))
-    unfolding row-back numbers name-place refs-place plan-of planned put-record cache-after
-    record-back = let s = form-sound h c before index r w g bf bl in entry-back h c before index r _ _ _ (s .0) p (s .1) (g .first)
+    unfolding name-place refs-place plan-of planned put-record cache-after
+    record-back =
+        let s = form-sound h c before index r w g bf bl in
+        rw (row-there h p before c r index (g .first)) (entry-back h c before index r _ _ _ (s .0) p (s .1) (g .first))
 
     pub name-back : (pre post : List ℕ) → length pre ≡ p
         → take (r .row .namelen) (drop (name-place h p before c r) (pre ++ (put-record h before c r ++ post))) ≡ r .name
