@@ -8,6 +8,7 @@ use lib.ListN.{length, take, drop}
 use Rattle.layout_put.specs.Reads.{Reads}
 use Rattle.phd.specs.Phd.{row-width, highest, item, entry}
 use Rattle.phd.specs.Shapes.{Word}
+use Rattle.phd.specs.Origins.{at-place}
 use Rattle.phd.specs.declared.classes.Cache.{Cache}
 use Rattle.phd.specs.declared.Facts.{Facts}
 use Rattle.phd.specs.declared.Span.{Span}
@@ -28,12 +29,12 @@ refs-place h p before c r = span-at p (plan-of h before c r) (r .row)
 
 -- the row that it is read as
 unfoldable pub row-back : Facts → ℕ → ℕ → Cache → Rec → List ℕ
-row-back h p before c r = numbers (name-place h p before c r) (record { offset = p; index = r .row .first }) r
+row-back h p before c r = numbers (name-place h p before c r) (at-place p (r .row .first)) r
 
 row-there : (h : Facts) (p before : ℕ) (c : Cache) (r : Rec) (index : ℕ) → r .row .first ≡ index
-    → row-back h p before c r ≡ numbers (name-place h p before c r) (record { offset = p; index = index }) r
+    → row-back h p before c r ≡ numbers (name-place h p before c r) (at-place p index) r
 unfolding row-back
-row-there h p before c r index e = ap (λ (k : ℕ). numbers (name-place h p before c r) (record { offset = p; index = k }) r) e
+row-there h p before c r index e = ap (λ (k : ℕ). numbers (name-place h p before c r) (at-place p k) r) e
 
 pub length-row : (h : Facts) (p before : ℕ) (c : Cache) (r : Rec) → length (row-back h p before c r) ≡ row-width
 unfolding row-back numbers

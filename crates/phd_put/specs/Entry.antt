@@ -17,6 +17,7 @@ use Rattle.layout_put.specs.Put.{join, be, links as put-all}
 use Rattle.layout_put.specs.Bytes.{length-be}
 use Rattle.layout_put.specs.Reads.{Reads, reads-then, reads-end, reads-skip, reads-yield, reads-field, reads-position, reads-check, reads-need}
 use Rattle.phd.specs.Phd.{highest, put, tagged, formed, moved-bit, hashed-bit, flag-byte, hash-bytes, shape, row, Item, item, linked, fields, record-of, from-tag, entry}
+use Rattle.phd.specs.Origins.{at-place}
 use Rattle.phd.specs.declared.classes.Cache.{Cache}
 use Rattle.phd.specs.declared.Facts.{Facts}
 use Rattle.phd.specs.declared.Form.{Form}
@@ -158,6 +159,12 @@ name-behind before pl r p n pre post e d =
 
 -- ---- the tag and the flag byte
 
+-- what is read from the tag on is read at its place
+pub reads-entry : (h : Facts) (before : ℕ) (c : Cache) (index p : ℕ) {bs : List ℕ} {i : Item} → Reads p (from-tag h before c (at-place p index)) bs i
+    → Reads p (entry h before c index) bs i
+unfolding entry
+reads-entry h before c index p r = reads-skip p position _ _ p _ (reads-position p) r
+
 formed-reads : (p t : ℕ) (fm : Form) → tagged t ≡ Begins fm → Reads p (formed (tagged t)) [] fm
 unfolding formed
 formed-reads p t fm e = rw e (reads-yield p fm)
@@ -173,22 +180,21 @@ module _ (h : Facts) (c : Cache) (before index : ℕ) (r : Rec) (fm : Form) (t f
   pub entry-back : r .row .first ≡ index
       → let pl : Plan = record { tag = t; flags = f; shape = shape (h .word / 8) fm t f } in
       Reads p (entry h before c index) (put-planned before pl (r .row) (r .refs) (r .name))
-      (item (numbers (name-at p pl (r .row)) (record { offset = p; index = index }) r) (record { span = span-at p pl (r .row); list = r .refs })
+      (item (numbers (name-at p pl (r .row)) (at-place p index) r) (record { span = span-at p pl (r .row); list = r .refs })
       (r .row .address) (pick (pl .shape .cached) (put c (r .row .word)) c))
-  unfolding entry from-tag record-of put-planned put-tag name-at span-at
+  unfolding from-tag record-of put-planned put-tag name-at span-at
   entry-back e =
       let sh : Shape = shape (h .word / 8) fm t f in
       let w : ℕ = pick (ltb t 0x20) 1 0 in
       let body : List ℕ = put-fields before sh (r .row) (r .refs) (r .name) in
-      let origin : Origin = record { offset = p; index = index } in
-      rw (append-assoc (be 1 t) (be w f))
-      (reads-skip p position _ _ p _ (reads-position p)
+      reads-entry h before c index p
+      (rw (append-assoc (be 1 t) (be w f))
       (reads-then p _ _ (be 1 t) _ t _ (reads-field p 1 t (s .byte))
       (rw (s .goes-on, length-be 1 t)
       (reads-skip (p + 1) _ _ _ fm _ (formed-reads (p + 1) t fm (s .formed))
       (reads-skip (p + 1) _ _ _ known _ (reads-need (p + 1) 10 _ known (s .from-slot))
       (reads-then (p + 1) _ _ (be w f) body f _ (flag-reads (p + 1))
-      (rw (length-be w f, s .hash) (fields-read (highest (h .word)) before known origin c sh r (s .fit) (p + 1 + w) (s .says) e))))))))
+      (rw (length-be w f, s .hash) (fields-read (highest (h .word)) before known (at-place p index) c sh r (s .fit) (p + 1 + w) (s .says) e))))))))
 
   -- Its name stands where its row says.
   pub name-stands : (pre post : List ℕ) → length pre ≡ p

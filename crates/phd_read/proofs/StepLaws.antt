@@ -8,6 +8,7 @@ use lib.Seq.{sets, length-take-le, length-sets}
 use Rattle.layout.specs.Layout.{Outcome, whole, stops, run, reply-of, missing-of}
 use Rattle.layout.specs.declared.Stop.{Stop}
 use Rattle.phd.specs.Phd.{row-width, highest, references, Links, Item, over, item, entry, go, step}
+use Rattle.phd.specs.Origins.{at-place}
 use Rattle.phd.specs.declared.Facts.{Facts}
 use Rattle.phd_record.specs.Found.{found-of, found-item}
 use Rattle.phd_record.specs.declared.Found.{Found}
@@ -54,7 +55,7 @@ module _ (h : Facts) {s rows refs : List ℕ} {k : Cursor} (fits : Fits s rows r
     abbrev its : (ls : Links) × (there ≡ whole (item (f .row) ls (f .address) (f .cache)) n) × (ls .span ≡ f .span)
     its = found-item (k .cache) there f is n what
 
-    pub stands : Stands h s (record { offset = k .at; index = k .refs }) (f .row) (its .0) (f .address)
+    pub stands : Stands h s (at-place (k .at) (k .refs)) (f .row) (its .0) (f .address)
     stands = links-stand h s (k .address) (k .cache) (k .refs) (k .at) (f .row) (its .0) (f .address) (f .cache) n (its .1)
 
     -- what is known of its references, by its span

@@ -10,6 +10,7 @@ use lib.Dec.{eqb}
 use borrow.Author.Tests.{leb-true}
 use Rattle.layout.specs.Values.{Gives, pick-either, gives-yield, gives-then, gives-last, gives-pick, gives-by, gives-check, gives-count}
 use Rattle.phd.specs.Phd.{row-width, shape, front, true-length, tail, there, row, Item, over, item, linked, fields, record-of, from-tag, entry, reading}
+use Rattle.phd.specs.Origins.{entry-gives}
 use Rattle.phd.specs.declared.classes.Cache.{Cache}
 use Rattle.phd.specs.declared.Facts.{Facts}
 use Rattle.phd.specs.declared.Form.{Form}
@@ -76,10 +77,10 @@ array-long w Primitive t f e = absurd (omega arith)
 array-long w LongPrimitive t f e = absurd (omega arith)
 
 gives-entry : {s : List ℕ} (h : Facts) (before : ℕ) (c : Cache) (index : ℕ) → Gives s Measures (entry h before c index)
-unfolding entry from-tag record-of
-gives-entry h before c index =
-    gives-last _ _ (λ at. gives-last _ _ (λ t. gives-pick (eqb t 3) _ _ (gives-yield over tt) (gives-last _ _ (λ fm. gives-last _ _ (λ known. gives-last _ _ (λ f.
-    gives-fields _ before c _ known _ _ (array-long _ fm t f)))))))
+unfolding from-tag record-of
+gives-entry h before c index = entry-gives h before c index (λ origin.
+    gives-last _ _ (λ t. gives-pick (eqb t 3) _ _ (gives-yield over tt) (gives-last _ _ (λ fm. gives-last _ _ (λ known. gives-last _ _ (λ f.
+    gives-fields _ before c origin known _ _ (array-long _ fm t f)))))))
 
 -- ---- the tables of a reading
 

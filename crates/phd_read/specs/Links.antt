@@ -13,7 +13,7 @@ use Rattle.layout.specs.Layout.{yield, whole, stops, run, run-then, run-positio
 use Rattle.layout.specs.declared.Stop.the-variants.{Refused}
 use Rattle.layout.specs.Values.{Gives, gives-yield, gives-then, gives-last, gives-pick, gives-address, gives-reference}
 use Rattle.phd.specs.Phd.{row-width, offset-number, highest, tagged, formed, references, Links, links, front, row, Item, over, item, linked, fields, record-of, from-tag, entry}
-use Rattle.phd.specs.Origins.{entry-at}
+use Rattle.phd.specs.Origins.{at-place, entry-at}
 use Rattle.phd.specs.Shapes.{link-narrow}
 use Rattle.phd.specs.declared.classes.Cache.{Cache}
 use Rattle.phd.specs.declared.Facts.{Facts}
@@ -121,14 +121,14 @@ pub tag-stands : (h : Facts) (s : List ℕ) (before : ℕ) (c : Cache) (index at
 unfolding from-tag
 tag-stands h s before c index at r ls a k n e =
     let f = entry-forth h before c index s at (item r ls a k) n e in
-    begins-record h s before c (record { offset = at; index = index }) (value (take 1 (drop at s))) (at + 1) r ls a k n
+    begins-record h s before c (at-place at index) (value (take 1 (drop at s))) (at + 1) r ls a k n
     (rw (entry-at, run-then, run-field 1 s at (omega arith)) at e)
 
 -- ---- a record that was read stands in the dump
 
 pub links-stand : (h : Facts) (s : List ℕ) (before : ℕ) (c : Cache) (index at : ℕ) (r : List ℕ) (ls : Links) (a : ℕ) (k : Cache) (n : ℕ)
-    → run (entry h before c index) s at ≡ whole (item r ls a k) n → Stands h s (record { offset = at; index = index }) r ls a
+    → run (entry h before c index) s at ≡ whole (item r ls a k) n → Stands h s (at-place at index) r ls a
 links-stand h s before c index at r ls a k n e =
     let f = entry-forth h before c index s at (item r ls a k) n e in
     let l : at ≤ length s = omega arith in
-    gives-tagged h s before c (record { offset = at; index = index }) .each at (item r ls a k) n l (rw entry-at at e)
+    gives-tagged h s before c (at-place at index) .each at (item r ls a k) n l (rw entry-at at e)

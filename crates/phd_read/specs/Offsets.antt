@@ -10,6 +10,7 @@ use lib.Seq.{take-append-le, take-at}
 use Rattle.layout.specs.Numbers.{value}
 use Rattle.layout.specs.Layout.{whole, run, inside}
 use Rattle.phd.specs.Phd.{row-width, offset-number, header, tagged, Links, item, State, Result, go, ended, step, first, nothing, reading}
+use Rattle.phd.specs.Origins.{at-place}
 use Rattle.phd.specs.declared.classes.Cache.{Cache}
 use Rattle.phd.specs.declared.Facts.{Facts}
 use Rattle.phd.specs.declared.Form.{Form}
@@ -97,7 +98,7 @@ module _ (h : Facts) (s : List ℕ) (R F : ℕ) where
     w : length rows % row-width ≡ 0
     w = g .whole-rows
 
-    stands : Stands h s (record { offset = st .at; index = length (st .refs) }) r ls a
+    stands : Stands h s (at-place (st .at) (length (st .refs))) r ls a
     stands = links-stand h s (st .address) (st .cache) (length (st .refs)) (st .at) r ls a c n e
 
     l : length r ≡ row-width

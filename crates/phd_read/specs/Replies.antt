@@ -15,6 +15,7 @@ use Rattle.layout.specs.Values.{both-left, both-right, Refuses, refuses-yield, 
 use Rattle.layout.specs.declared.Stop.{Stop}
 use Rattle.layout.specs.declared.Stop.the-variants.{Cut, Refused}
 use Rattle.phd.specs.Phd.{opening-bytes, preamble, after-vm, header-records, header, formed, flag-byte, front, middle, class-name, link-count, references, links, true-length, tail, over, linked, fields, record-of, from-tag, entry, ended, nothing, reading}
+use Rattle.phd.specs.Origins.{entry-refuses}
 use Rattle.phd.specs.declared.classes.Cache.{Cache}
 use Rattle.phd.specs.declared.Facts.{Facts}
 use Rattle.phd.specs.declared.Origin.{Origin}
@@ -120,11 +121,11 @@ fields-fine top before c origin known hk sh =
     refuses-then _ _ (tail-fine (sh .size) (sh .truelen) n) (λ t. refuses-yield _))))))
 
 pub entry-fine : (h : Facts) (before : ℕ) (c : Cache) (index : ℕ) → Fine (entry h before c index)
-unfolding entry from-tag record-of
-entry-fine h before c index =
-    refuses-then _ _ refuses-position (λ at. refuses-then _ _ (refuses-field 1) (λ t. refuses-pick (eqb t 3) _ _ (refuses-yield over)
+unfolding from-tag record-of
+entry-fine h before c index = entry-refuses h before c index (λ origin.
+    refuses-then _ _ (refuses-field 1) (λ t. refuses-pick (eqb t 3) _ _ (refuses-yield over)
     (refuses-then _ _ (formed-fine _) (λ fm. refuses-then _ _ (refuses-need 10 _ refl) (λ known.
-    refuses-then _ _ (flag-byte-fine h t) (λ f. fields-fine _ before c _ known _ _))))))
+    refuses-then _ _ (flag-byte-fine h t) (λ f. fields-fine _ before c origin known _ _))))))
 
 -- ---- the reading
 

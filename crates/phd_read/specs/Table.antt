@@ -1,6 +1,6 @@
 -- The rows of a table, by their number from 0, and what one row more leaves of them.
 -- A reader must believe `rows-in`, `row-of` and `number`.
-use mathlib.Core.Path.{_≡_, _∙_}
+use mathlib.Core.Path.{_≡_}
 use Prim.Native.Nat.{ℕ, _+_, _*_, _/_, _%_, _<_}
 use native.Mathlib.Nat.{eq-or-lt-of-le}
 use native.Mathlib.Omega.{arith}

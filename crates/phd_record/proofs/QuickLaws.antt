@@ -16,7 +16,7 @@ use Rattle.layout.specs.declared.Maybe.the-variants.{Just}
 use Rattle.layout.specs.declared.Text.{Text}
 use Rattle.layout_quick.specs.Quick.{clear, target, clear-reference}
 use Rattle.phd.specs.Phd.{Item, highest, bit, width, tagged, formed, known-class, moved-bit, hashed-bit, flag-byte, hash-kind, hash-bytes, shape, front, middle, class-name, link-count, references, links, true-length, tail, linked, fields, record-of, from-tag, entry}
-use Rattle.phd.specs.Origins.{entry-at}
+use Rattle.phd.specs.Origins.{at-place, entry-at}
 use Rattle.phd.specs.References.{in-front, references-none, references-more}
 use Rattle.phd.specs.Shapes.{Word, width-grows}
 use Rattle.phd.specs.declared.classes.Cache.{Cache}
@@ -157,7 +157,7 @@ module _ (h : Facts) (before : ℕ) (c : Cache) (origin : Origin) (t : ℕ) (s :
 
 -- the tag, and then the record behind it
 pub entry-behind : (h : Facts) (before : ℕ) (c : Cache) (index t : ℕ) (s : List ℕ) (at : ℕ) → at + 1 ≤ length s → t ≡ value (take 1 (drop at s)) → (t ≡ 3 → ⊥)
-    → run (entry h before c index) s at ≡ run (record-of h before c (record { offset = at; index = index }) t) s (at + 1)
+    → run (entry h before c index) s at ≡ run (record-of h before c (at-place at index) t) s (at + 1)
 unfolding from-tag
 entry-behind h before c index t s at l e n = rw (entry-at, run-then, run-field 1 s at l, ← e, ne-eqb t 3 n)
 

@@ -26,20 +26,21 @@ module _ {rows rows′ : List ℕ} (a : Alike rows rows′) where
   pub same-row : (i : ℕ) → i < row-count rows → row-at rows i ≡ row-at rows′ i
   unfolding row-at
   same-row i l =
-      let n : (k : ℕ) → k < row-width → (k ≡ offset-number → ⊥) → getD rows (i * row-width + k) 0 ≡ getD rows′ (i * row-width + k) 0 = λ k. a .numbers i k l in
+      let n : (k : ℕ) → k < offset-number → getD rows (i * row-width + k) 0 ≡ getD rows′ (i * row-width + k) 0 =
+      λ k b. a .numbers i k l (omega arith) (λ e. omega arith) in
       λ j. record {
-        kind = n 0 (omega arith) (λ e. omega arith) j;
-        address = n 1 (omega arith) (λ e. omega arith) j;
-        word = n 2 (omega arith) (λ e. omega arith) j;
-        hashkind = n 3 (omega arith) (λ e. omega arith) j;
-        hash = n 4 (omega arith) (λ e. omega arith) j;
-        first = n 5 (omega arith) (λ e. omega arith) j;
-        count = n 6 (omega arith) (λ e. omega arith) j;
-        size = n 7 (omega arith) (λ e. omega arith) j;
-        len = n 8 (omega arith) (λ e. omega arith) j;
-        place = n 9 (omega arith) (λ e. omega arith) j;
-        namelen = n 10 (omega arith) (λ e. omega arith) j;
-        prim = n 11 (omega arith) (λ e. omega arith) j;
+        kind = n 0 (omega arith) j;
+        address = n 1 (omega arith) j;
+        word = n 2 (omega arith) j;
+        hashkind = n 3 (omega arith) j;
+        hash = n 4 (omega arith) j;
+        first = n 5 (omega arith) j;
+        count = n 6 (omega arith) j;
+        size = n 7 (omega arith) j;
+        len = n 8 (omega arith) j;
+        place = n 9 (omega arith) j;
+        namelen = n 10 (omega arith) j;
+        prim = n 11 (omega arith) j;
       }
 
   -- the records

@@ -9,11 +9,11 @@ use native.Mathlib.Omega.{arith}
 use native.Mathlib.Decide.{decLe}
 use borrow.Author.Tests.{le-leb, lt-leb}
 use Rattle.layout.specs.Numbers.{pick}
-use Rattle.layout.specs.Layout.{whole, stops, position, field, reply-of, missing-of}
+use Rattle.layout.specs.Layout.{whole, stops, field, reply-of, missing-of}
 use Rattle.layout.specs.Cuts.{fits, stops-short}
 use Rattle.layout.specs.declared.Stop.the-variants.{Cut}
 use Rattle.layout_put.specs.Put.{be}
-use Rattle.layout_put.specs.Reads.{Reads, reads-end, reads-skip, reads-yield, reads-field, reads-position}
+use Rattle.layout_put.specs.Reads.{Reads, reads-end, reads-yield, reads-field}
 use Rattle.phd.specs.Phd.{row-width, highest, Links, Item, over, item, from-tag, entry, State, Result, go, ended, step, records}
 use Rattle.phd.specs.Shapes.{Word}
 use Rattle.phd.specs.declared.classes.Cache.{Cache}
@@ -21,6 +21,7 @@ use Rattle.phd.specs.declared.Facts.{Facts}
 use Rattle.phd_read.specs.Steps.{found, onto, step-end, step-stop, step-item, records-go, records-halt}
 use Rattle.phd_rows.specs.Rows.{Rec}
 use Rattle.phd_put.specs.Record.{put-record, cache-after}
+use Rattle.phd_put.specs.Entry.{reads-entry}
 use Rattle.phd_write.specs.Write.{put-records}
 use Rattle.phd_write.specs.Terms.{all-refs, within-cut}
 use Rattle.phd_write.specs.Within.{AllGood}
@@ -28,9 +29,9 @@ use Rattle.phd_put.specs.Back.{refs-place, row-back, length-row, record-back}
 
 -- the end tag is read as the end
 end-back : (h : Facts) (before : ℕ) (c : Cache) (index p : ℕ) → Reads p (entry h before c index) (be 1 3) over
-unfolding entry from-tag
+unfolding from-tag
 end-back h before c index p =
-    reads-skip p position _ _ p _ (reads-position p)
+    reads-entry h before c index p
     (reads-end p (field 1) _ (be 1 3) 3 over (reads-field p 1 3 (lit< tt)) (reads-yield _ over))
 
 -- the rows of records, the first being put at p

@@ -4,6 +4,7 @@ use mathlib.Core.Path.{_≡_, sym, ap, _∙_}
 use Prim.Native.Nat.{ℕ, _+_}
 use native.Mathlib.Omega.{arith}
 use Rattle.phd.specs.Phd.{entry, record-of}
+use Rattle.phd.specs.Origins.{at-place}
 use Rattle.phd.specs.declared.Origin.{Origin}
 use Rattle.layout.specs.Layout.{run}
 use Rattle.phd_record.specs.Found.{found-of}
@@ -16,7 +17,7 @@ start c = c .before .before
 
 -- where the record stands
 abbrev stands : tie.After-of4 → Origin
-stands c = let a = start c .args in record { offset = a .at; index = a .index }
+stands c = let a = start c .args in at-place (a .at) (a .index)
 
 -- what stands behind the tag
 behind : (c : tie.After-of4) → (c .of4 .result ≡ 3 → ⊥) → let a = start c .args in
