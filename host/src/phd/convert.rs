@@ -8,7 +8,7 @@ use crate::reading::{self, Reading};
 use crate::room;
 use crate::say::{self, Status, Trouble};
 use crate::words;
-use phd_host::library::{self, Facts};
+use phd_host::library::{self, Facts, ADDRESS, CLASS, OFFSET};
 
 /// What is made of the records.
 #[derive(Clone, Copy)]
@@ -105,7 +105,7 @@ fn unwritten(reading: &Reading, form: Form, reply: u64, place: u64) -> Trouble {
     };
     let why = match reply {
         15 => "the header cannot be written, or there are too many records".into(),
-        16 => format!("{} cannot be written", record(place)),
+        16 => format!("{} cannot be written", record(reading, place)),
         17 => format!("it would have more than {}", words::count(LIMIT, "byte")),
         18 => no_class(reading, place),
         _ => "the records were refused".into(),
@@ -114,16 +114,22 @@ fn unwritten(reading: &Reading, form: Form, reply: u64, place: u64) -> Trouble {
     Trouble::refused(&reading.name, words)
 }
 
-fn record(index: u64) -> String {
-    format!("record {} (counted from 0)", words::grouped(index))
+/// A record by its number, and by where it stands in the file.
+fn record(reading: &Reading, index: u64) -> String {
+    let number = format!("record {} (counted from 0)", words::grouped(index));
+    match reading.row(index) {
+        Some(row) => format!("{number}, which begins at {},", words::at(row[OFFSET])),
+        None => number,
+    }
 }
 
 fn no_class(reading: &Reading, index: u64) -> String {
-    let record = record(index);
-    let Some((address, class)) = reading.address_and_class(index) else {
+    let record = record(reading, index);
+    let Some(row) = reading.row(index) else {
         return format!("the class of {record} was not read");
     };
-    let why = format!("{record}, at address 0x{address:X}, is of the class at 0x{class:X}");
+    let (address, class) = (row[ADDRESS], row[CLASS]);
+    let why = format!("{record} has the address 0x{address:X} and the class at 0x{class:X}");
     let hint = match reading.reply() {
         0 => "",
         _ => "; it may stand after that place ('phd copy' needs no classes)",

@@ -4,7 +4,7 @@ use crate::input::{self, Source, LIMIT};
 use crate::progress;
 use crate::room::{self, NoMemory};
 use crate::say::Trouble;
-use phd_host::library::{self, Facts, Header, ADDRESS, CLASS, COUNT, KIND, LENGTH, ROW};
+use phd_host::library::{self, Facts, Header, COUNT, KIND, LENGTH, ROW};
 
 /// The kind of an object array.
 const OBJECT_ARRAY: u64 = 3;
@@ -119,10 +119,9 @@ impl Reading {
         kinds
     }
 
-    /// The address and the class word of a record, where there is such a one.
-    pub fn address_and_class(&self, index: u64) -> Option<(u64, u64)> {
-        let row = self.rows().chunks_exact(ROW).nth(index as usize)?;
-        Some((row[ADDRESS], row[CLASS]))
+    /// The row of a record, where there is such a one.
+    pub fn row(&self, index: u64) -> Option<&[u64]> {
+        self.rows().chunks_exact(ROW).nth(index as usize)
     }
 }
 

@@ -119,8 +119,8 @@ fn text_wants_the_class() {
         .put("whole", &[&dump[..], b"\x03"].concat());
     let ran = folder.phd(&["text", "whole", "-o", "out"]).ended(1);
     let said = "phd: whole: no text can be written of it (reply 18): \
-                record 0 (counted from 0), at address 0x10, is of the class at 0x1000, \
-                and no such class was read\n";
+                record 0 (counted from 0), which begins at byte 38 (0x26), has the address 0x10 and \
+                the class at 0x1000, and no such class was read\n";
     assert_eq!(ran.err, said);
     let ran = folder.phd(&["text", "cut"]).ended(1).prints_nothing();
     ran.says("it may stand after that place");
