@@ -9,7 +9,7 @@ use lib.ListN.{length, take, drop}
 use lib.Seq.{take-append-le, take-at}
 use Rattle.layout.specs.Numbers.{value}
 use Rattle.layout.specs.Layout.{whole, run, inside}
-use Rattle.phd.specs.Phd.{row-width, offset-number, header, tagged, Links, item, State, Result, go, ended, step, first, nothing, reading}
+use Rattle.phd.specs.Phd.{row-width, offset-number, header, tagged, Links, Item, item, State, Result, Next, go, halt, ended, step, first, nothing, reading}
 use Rattle.phd.specs.Origins.{at-place}
 use Rattle.phd.specs.declared.classes.Cache.{Cache}
 use Rattle.phd.specs.declared.Facts.{Facts}
@@ -192,3 +192,41 @@ reading-traced s R F =
     (ends h s R F st 14 (st .at) 0 g)
     (λ w e. ends h s R F st _ (st .at) _ g))
     (λ h st g. ends h s R F st 0 (st .at) 0 g)
+
+-- ---- records stand one behind the other
+
+module _ (h : Facts) (s : List ℕ) (R F : ℕ) where
+  -- the steps lead to one state
+  one-state : (n i : ℕ) (a b : State) → Reached h s R F n i a → Reached h s R F n i b → a ≡ b
+  one-state n zero a b p q = p ∙ sym q
+  one-state n (suc i) a b p q =
+      let e : p .0 ≡ q .0 = one-state n i (p .0) (q .0) (p .1) (q .1) in
+      let g : step h s R F (q .0) ≡ go a = rw e at (p .2) in
+      let y : go a ≡ go b = sym g ∙ q .2 in
+      cc
+
+  -- a step on leads behind the record that was found
+  module _ (st : State) (i : Item) (n : ℕ) (e : found h s st ≡ whole i n) where
+    abbrev Behind : Next → Type 0
+    Behind (go st′) = st′ .at ≡ n
+    Behind (halt r) = Unit {0}
+
+    behind : Behind (step h s R F st)
+    behind =
+        step-by Behind h s R F st (λ m g. tt)
+        (λ r ls a c m g _ _. let y : whole (item r ls a c) m ≡ whole i n = sym g ∙ e in let x : m ≡ n = cc in x)
+        tt tt (λ w g. tt)
+
+    step-behind : (st′ : State) → step h s R F st ≡ go st′ → st′ .at ≡ n
+    step-behind st′ g = rw g at behind
+
+-- A record reaches to the offset of the next row.
+pub next-behind : (h : Facts) (s : List ℕ) (R F : ℕ) (rows refs : List ℕ) (i : ℕ) (x : CameFrom h s R F rows refs i)
+    → CameFrom h s R F rows refs (suc i) → offset-of rows (suc i) ≡ x .end
+next-behind h s R F rows refs i x y =
+    let u : whole h (y .start) ≡ whole h (x .start) = sym (y .opens) ∙ x .opens in
+    let m : y .start ≡ x .start = cc in
+    let p = y .reached in
+    let e : p .0 ≡ x .before = one-state h s R F (x .start) i (p .0) (x .before) (rw m at (p .1)) (x .reached) in
+    let g : step h s R F (x .before) ≡ go (y .before) = rw e at (p .2) in
+    y .offset ∙ step-behind h s R F (x .before) _ (x .end) (x .gives) (y .before) g

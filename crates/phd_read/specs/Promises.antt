@@ -1,7 +1,7 @@
 -- The promises about reading, of `reading` and of what a caller sees of it, in reading order.
 -- A reader must believe the statements and their records. Assumes nothing.
 use mathlib.Core.Path.{_≡_, ap, _∙_}
-use Prim.Native.Nat.{ℕ, _+_, _*_, _≤_, _<_}
+use Prim.Native.Nat.{ℕ, suc, _+_, _*_, _≤_, _<_}
 use mathlib.Core.Bool.{true}
 use mathlib.Core.List.{List, _∷_, _++_, map, append-assoc}
 use lib.ListN.{length, take, drop, length-append, length-drop}
@@ -17,9 +17,10 @@ use Rattle.phd_read.specs.Cut.{Begins, Final, Agree, more-agree, cuts-ag
 use Rattle.phd_read.specs.Ranges.{addresses, reading-ranged}
 use Rattle.phd_read.specs.Lengths.{AllMeasured, reading-measured}
 use Rattle.phd_read.specs.Missing.{MissingOf, less-missing, reading-missing, reading-waits, reading-needs}
-use Rattle.phd_read.specs.Offsets.{Traced, reading-traced}
+use Rattle.phd_read.specs.Offsets.{offset-of, Traced, reading-traced, next-behind}
 use Rattle.phd_read.specs.Replies.{reading-answers}
 use Rattle.phd_read.specs.Rooms.{reading-keeps, counts}
+use Rattle.phd_read.specs.Table.{rows-in}
 
 -- ---- demand 1, of reading
 
@@ -116,6 +117,11 @@ cuts-seen b m n rows rows′ refs refs′ h l p q =
 -- row; and the offsets grow strictly. (Two cuts of the same bytes agree in the offsets as in every number of a row: above.)
 pub came-from : (s : List ℕ) (R F : ℕ) → Traced s R F (reading s R F)
 came-from = reading-traced
+
+-- A record reaches to the offset of the next row: nothing stands between them.
+pub one-by-one : (s : List ℕ) (R F i : ℕ) (l : i < rows-in (reading s R F .rows)) → suc i < rows-in (reading s R F .rows)
+    → offset-of (reading s R F .rows) (suc i) ≡ came-from s R F .each i l .end
+one-by-one s R F i l k = next-behind _ s R F _ _ i (came-from s R F .each i l) (came-from s R F .each (suc i) k)
 
 -- ---- how much is missing
 
