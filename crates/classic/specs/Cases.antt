@@ -9,7 +9,8 @@ use Rattle.phd.specs.Phd.{row-width, limit, bit, highest, same, hash-bytes, Res
 use Rattle.phd.specs.Cases.{dump, computing as reads-computing}
 use Rattle.layout.specs.Numbers.{within}
 use Rattle.layout.specs.Fields.{no-text}
-use Rattle.phd_rows.specs.Rows.{row-at, refs-of, name-of, row-count}
+use Rattle.phd.specs.Table.{row-count}
+use Rattle.phd_rows.specs.Rows.{row-at, refs-of, name-of}
 use Rattle.phd_rows.specs.Good.{every, good-vm, good-header, good-hash, good-class, no-name, good-object, good-array, good-primitive, good-kind, good-place, good-span, good-numbers, good-ref, good-refs, good-row, first-bad}
 use Rattle.phd_rows.specs.Judged.{refused, done, judged}
 use Rattle.phd_counts.specs.Cases.{row-of}

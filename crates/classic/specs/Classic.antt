@@ -14,7 +14,8 @@ use Rattle.layout.specs.declared.Text.{Text}
 use Rattle.layout_put.specs.Put.{join}
 use Rattle.phd.specs.Phd.{same}
 use Rattle.phd.specs.declared.Facts.{Facts}
-use Rattle.phd_rows.specs.Rows.{row-at, of-kind, refs-of, name-of, vm-text, row-count}
+use Rattle.phd.specs.Table.{row-count}
+use Rattle.phd_rows.specs.Rows.{row-at, of-kind, refs-of, name-of, vm-text}
 use Rattle.phd_rows.specs.Good.{good-header, bad-of}
 use Rattle.phd_rows.specs.Judged.{Outcome, judged}
 use Rattle.phd_rows.specs.declared.Row.{Row}

@@ -7,7 +7,8 @@ use mathlib.Core.Bool.{true}
 use mathlib.Core.List.{List}
 use lib.ListN.{length}
 use Rattle.phd.specs.declared.Facts.{Facts}
-use Rattle.phd_rows.specs.Rows.{row-at, bare, rec-of, row-count}
+use Rattle.phd.specs.Table.{row-count}
+use Rattle.phd_rows.specs.Rows.{row-at, bare, rec-of}
 use Rattle.phd_rows.specs.Good.{good-row}
 use Rattle.phd_rows.specs.Kept.{Kinded, a-class, an-object, an-array, a-primitive, lent-of, good-of, each-row}
 use Rattle.phd_rows.specs.Judged.{AllRight}

@@ -8,7 +8,8 @@ use native.Mathlib.Numerals.{add-one}
 use native.Mathlib.Omega.{arith}
 use mathlib.Core.List.{List}
 use Rattle.layout.specs.Numbers.{pick}
-use Rattle.phd_rows.specs.Rows.{row-at, row-count}
+use Rattle.phd.specs.Table.{row-count}
+use Rattle.phd_rows.specs.Rows.{row-at}
 use Rattle.phd_rows.specs.declared.Row.{Row}
 use Rattle.phd_rows.specs.declared.Found.the-variants.{At, Nowhere}
 use Rattle.classic.specs.Classic.{first-from, first-row}

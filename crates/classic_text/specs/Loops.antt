@@ -8,7 +8,8 @@ use native.Mathlib.Omega.{arith}
 use mathlib.Core.List.{List, [], _++_}
 use lib.ListN.{length}
 use Rattle.layout_put.specs.Puts.{Puts, Room, Rest, room-first, rest-begins, rest-next, rest-room, rest-ends}
-use Rattle.phd_rows.specs.Rows.{row-at, row-count}
+use Rattle.phd.specs.Table.{row-count}
+use Rattle.phd_rows.specs.Rows.{row-at}
 use Rattle.phd_rows.specs.declared.Row.{Row}
 use Rattle.phd_counts.specs.Counting.{left, sum-next, sum-done}
 use Rattle.classic.specs.Classic.{row-lines, ended}

@@ -6,7 +6,7 @@ use mathlib.Core.List.{List, [], _∷_, _++_, append-assoc}
 use Rattle.layout.specs.declared.Text.{Text}
 use Rattle.layout_put.specs.Put.{join}
 use Rattle.phd.specs.declared.Facts.{Facts}
-use Rattle.phd_rows.specs.Rows.{row-count}
+use Rattle.phd.specs.Table.{row-count}
 use Rattle.phd_counts.specs.Counts.{sum, tally-of}
 use Rattle.phd_counts.specs.declared.Tally.{Tally}
 use Rattle.classic.specs.Classic.{ascii, figure, row-lines, version, breakdown, totals, ended, lines, text-of}

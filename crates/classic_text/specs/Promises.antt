@@ -12,7 +12,7 @@ use borrow.Author.Tests.{le-leb, lt-leb, leb-true, leb-false}
 use Rattle.layout.specs.Lent.{stored, stored-all}
 use Rattle.layout_put.specs.Put.{join}
 use Rattle.phd.specs.declared.Facts.{Facts}
-use Rattle.phd_rows.specs.Rows.{row-count}
+use Rattle.phd.specs.Table.{row-count}
 use Rattle.phd_rows.specs.Good.{good-header, bad-of}
 use Rattle.phd_rows.specs.Judged.{Outcome, done, AllRight, Exact as ByTests}
 use Rattle.phd_rows.specs.Asked.{Split}
@@ -23,7 +23,7 @@ use Rattle.phd_counts.specs.Counts.{sum, nulls, tally-of}
 use Rattle.phd_counts.specs.Exact.{with-nulls, exact as all-exact}
 use Rattle.classic.specs.Classic.{ascii, figure, first-row, is-class-at, class-at, is-lost, row-lines, totals, lines, text-of, texting, text-sizing}
 use Rattle.classic.specs.Fine.{all-linked}
-use Rattle.classic.specs.Same.{same-texting, same-sizing}
+use Rattle.classic.specs.Alike.{same-texting, same-sizing}
 use Rattle.classic_text.specs.Parts.{version-text, rows-size, trailers-by, text-parts}
 use Rattle.classic_text.specs.Sizes.{rows-long}
 use Rattle.classic.specs.Firsts.{First, None, ClassRow, Classless, first-is, none-is, class-row-is, classless-is}

@@ -9,7 +9,8 @@ use lib.ListN.{length, length-append}
 use Rattle.layout.specs.Numbers.{pick}
 use Rattle.layout.specs.declared.Text.{Text}
 use Rattle.phd.specs.Shapes.{Word}
-use Rattle.phd_rows.specs.Rows.{vm-text, row-at, row-count}
+use Rattle.phd.specs.Table.{row-count}
+use Rattle.phd_rows.specs.Rows.{vm-text, row-at}
 use Rattle.phd_rows.specs.Kept.{Vm, length-text}
 use Rattle.phd_counts.specs.Counts.{one-of, count-of, sum-from, sum, nulls, tally-of}
 use Rattle.phd_counts.specs.Counting.{Few, sum-most}

@@ -5,7 +5,8 @@ use Prim.Native.Nat.{ℕ}
 use mathlib.Core.List.{List, [], _∷_, _++_, map}
 use lib.ListN.{take}
 use Rattle.phd.specs.Phd.{row-width}
-use Rattle.phd_rows.specs.Rows.{row-at, row-count}
+use Rattle.phd.specs.Table.{row-count}
+use Rattle.phd_rows.specs.Rows.{row-at}
 use Rattle.phd_counts.specs.Counts.{nulls-of, sum-from, nulls}
 
 -- a row of these numbers, in 01's order; those behind them are 0

@@ -8,7 +8,8 @@ use native.Mathlib.Numerals.{add-one}
 use native.Mathlib.Omega.{arith}
 use mathlib.Core.List.{List}
 use Rattle.layout.specs.Values.{one-most}
-use Rattle.phd_rows.specs.Rows.{row-at, of-kind, row-count}
+use Rattle.phd.specs.Table.{row-count}
+use Rattle.phd_rows.specs.Rows.{row-at, of-kind}
 use Rattle.phd_rows.specs.declared.Row.{Row}
 use Rattle.phd_counts.specs.Counts.{one-of, count-of, nulls-of, sum-from, sum, nulls, tally-of, counted}
 use Rattle.phd_counts.specs.declared.Tally.{Tally}

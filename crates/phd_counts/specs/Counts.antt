@@ -3,7 +3,8 @@
 use Prim.Native.Nat.{ℕ, zero, suc, _+_, _-_}
 use mathlib.Core.List.{List}
 use Rattle.layout.specs.Numbers.{pick}
-use Rattle.phd_rows.specs.Rows.{row-at, of-kind, row-count}
+use Rattle.phd.specs.Table.{row-count}
+use Rattle.phd_rows.specs.Rows.{row-at, of-kind}
 use Rattle.phd_rows.specs.declared.Row.{Row}
 use Rattle.phd_counts.specs.declared.Tally.{Tally}
 

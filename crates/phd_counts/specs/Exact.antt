@@ -10,7 +10,8 @@ use lib.ListN.{length}
 use borrow.Author.Tests.{eq-eqb, ne-eqb}
 use Rattle.layout.specs.Numbers.{pick}
 use Rattle.phd.specs.declared.Facts.{Facts}
-use Rattle.phd_rows.specs.Rows.{row-at, of-kind, bare, rec-of, row-count}
+use Rattle.phd.specs.Table.{row-count}
+use Rattle.phd_rows.specs.Rows.{row-at, of-kind, bare, rec-of}
 use Rattle.phd_rows.specs.Good.{good-row, first-bad}
 use Rattle.phd_rows.specs.Judged.{AllRight}
 use Rattle.phd_rows.specs.Kept.{Kinded, a-class, an-object, an-array, a-primitive, none-bad, lent-of, good-of, each-row, few-rows, few-refs}

@@ -6,6 +6,7 @@ use native.Mathlib.Omega.{arith}
 use lib.ListN.{length, take, drop}
 use lib.Seq.{length-take-le, drop-drop}
 use Rattle.phd.specs.Phd.{limit, row-width, empty, Result, go, halt, ended, step, records, first}
+use Rattle.phd.specs.Table.{row-count}
 use Rattle.phd.specs.declared.Facts.{Facts}
 use Rattle.layout.specs.Lent.{stored}
 use Rattle.phd_read.specs.Answer.{answer}
@@ -67,7 +68,7 @@ module _ {h : Facts} {s : List ℕ} {at : ℕ} where
       is = sym (w .left) ∙ records-halt limit h s (length rows₀) (length refs₀) (state-of k rows refs) _ halts
 
       pub answers : record { reply = reply; place = place; missing = missing; rows = k′ .rows; refs = k′ .refs; facts = h } ≡ answer result
-      unfolding answer ended
+      unfolding answer ended row-count
       answers =
           let l : length (take (k .rows * row-width) rows) ≡ k .rows * row-width = length-take-le (k .rows * row-width) rows (w .fits .rows-in) in
           let e : length (take (k .rows * row-width) rows) / row-width ≡ k .rows = omega arith in

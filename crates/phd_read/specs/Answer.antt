@@ -1,10 +1,10 @@
 -- What a caller gets of a reading: the answer.
 -- A reader must believe these lines.
-use Prim.Native.Nat.{_/_}
 use lib.ListN.{length}
-use Rattle.phd.specs.Phd.{Result, row-width}
+use Rattle.phd.specs.Phd.{Result}
+use Rattle.phd.specs.Table.{row-count}
 use Rattle.phd_read.specs.declared.Reading.{Reading}
 
 -- the answer: reply, place, missing bytes, how many rows and references were stored, header facts
 unfoldable pub answer : Result → Reading
-answer r = record { reply = r .reply; place = r .place; missing = r .missing; rows = length (r .rows) / row-width; refs = length (r .refs); facts = r .facts }
+answer r = record { reply = r .reply; place = r .place; missing = r .missing; rows = row-count (r .rows); refs = length (r .refs); facts = r .facts }

@@ -1,15 +1,16 @@
 -- In every stored row the length is below 2^31, and an object array has no more references than its true length.
 -- A reader must believe `Measured` and `AllMeasured`.
 use mathlib.Core.Path.{_≡_, refl}
-use Prim.Native.Nat.{ℕ, _%_, _^_, _≤_, _<_}
+use Prim.Native.Nat.{ℕ, _^_, _≤_, _<_}
 use native.Mathlib.Omega.{arith}
 use mathlib.Core.Bool.{false}
-use mathlib.Core.List.{List, _++_}
+use mathlib.Core.List.{List}
 use lib.ListN.{length, getD}
 use lib.Dec.{eqb}
 use borrow.Author.Tests.{leb-true}
 use Rattle.layout.specs.Values.{Gives, pick-either, gives-yield, gives-then, gives-last, gives-pick, gives-by, gives-check, gives-count}
-use Rattle.phd.specs.Phd.{row-width, shape, front, true-length, tail, there, row, Item, over, item, linked, fields, record-of, from-tag, entry, reading}
+use Rattle.phd.specs.Phd.{shape, front, true-length, tail, there, row, Item, over, item, linked, fields, record-of, from-tag, entry, State, reading}
+use Rattle.phd.specs.Table.{row-count, row-of, number, number-in}
 use Rattle.phd.specs.Origins.{entry-gives}
 use Rattle.phd.specs.declared.classes.Cache.{Cache}
 use Rattle.phd.specs.declared.Facts.{Facts}
@@ -19,9 +20,8 @@ use Rattle.phd.specs.declared.Front.{Front}
 use Rattle.phd.specs.declared.Origin.{Origin}
 use Rattle.phd.specs.declared.Shape.{Shape}
 use Rattle.phd.specs.declared.Tail.{Tail}
-use Rattle.phd_read.specs.Links.{links-stand}
-use Rattle.phd_read.specs.Steps.{tables-hold, entry-forth}
-use Rattle.phd_read.specs.Table.{rows-in, number, whole-more, number-before, number-last, every-row}
+use Rattle.phd_read.specs.Steps.{entry-forth}
+use Rattle.phd_read.specs.Offsets.{reading-traced}
 
 -- What holds of a row's kind, count of references and length.
 pub record Measured (kind refs len : ℕ) : Type 0 where
@@ -85,28 +85,16 @@ gives-entry h before c index = entry-gives h before c index (λ origin.
 -- ---- the tables of a reading
 
 -- of whole rows: a row's number 0 is its kind, 6 its count of references, 8 its length
-pub record AllMeasured (rows : List ℕ) : Type 0 where
-  pub whole-rows : length rows % row-width ≡ 0
-  pub each : (i : ℕ) → i < rows-in rows → Measured (number rows i 0) (number rows i 6) (number rows i 8)
-
--- one row more
-measured-more : (rows r : List ℕ) → length r ≡ row-width → AllMeasured rows → Measured (getD r 0 0) (getD r 6 0) (getD r 8 0) → AllMeasured (rows ++ r)
-measured-more rows r w t m =
-    let e : length rows % row-width ≡ 0 = t .whole-rows in
-    record {
-      whole-rows = whole-more rows r e w;
-      each = every-row rows r e w (λ i. Measured (number (rows ++ r) i 0) (number (rows ++ r) i 6) (number (rows ++ r) i 8))
-          (λ i l. rw (number-before rows r e w i 0 l (omega arith), number-before rows r e w i 6 l (omega arith), number-before rows r e w i 8 l (omega arith)) (t .each i l))
-          (rw (number-last rows r e w 0, number-last rows r e w 6, number-last rows r e w 8) m);
-    }
+abbrev pub AllMeasured : List ℕ → Type 0
+AllMeasured rows = (i : ℕ) → i < row-count rows → Measured (number rows i 0) (number rows i 6) (number rows i 8)
 
 -- So it is of any bytes, and any tables.
 pub reading-measured : (s : List ℕ) (R F : ℕ) → AllMeasured (reading s R F .rows)
-reading-measured s R F =
-    tables-hold s R F (λ _ rows refs. AllMeasured rows)
-    (λ h rows refs before c at r ls a k n t e p q.
-    let f = entry-forth h before c (length refs) s at (item r ls a k) n e in
-    let l : at ≤ length s = omega arith in
-    let w : length r ≡ row-width = links-stand h s before c (length refs) at r ls a k n e .numbers in
-    measured-more rows r w t (gives-entry h before c (length refs) .each at (item r ls a k) n l e))
-    (λ h. record { whole-rows = refl; each = λ i l. absurd (omega arith) })
+reading-measured s R F i l =
+    let rows : List ℕ = reading s R F .rows in
+    let x = reading-traced s R F .each i l in
+    let st : State = x .before in
+    let f = entry-forth (reading s R F .facts) (st .address) (st .cache) (length (st .refs)) s (st .at) _ (x .end) (x .gives) in
+    let m : Measured (getD (row-of rows i) 0 0) (getD (row-of rows i) 6 0) (getD (row-of rows i) 8 0) =
+    gives-entry (reading s R F .facts) (st .address) (st .cache) (length (st .refs)) .each (st .at) _ (x .end) (omega (arith, f .0, f .1)) (x .gives) in
+    rw (number-in rows i 0 (omega arith), number-in rows i 6 (omega arith), number-in rows i 8 (omega arith)) m

@@ -1,6 +1,6 @@
 -- Where a stored row came from: its offset is the place of a record's tag, reading one record there, from the state before it,
 -- gives that row, and the offsets grow strictly.
--- A reader must believe `offset-of`, `Reached`, `CameFrom` and `Traced`.
+-- A reader must believe `offset-of`, `After`, `CameFrom` and `Traced`.
 use mathlib.Core.Path.{_≡_, refl, sym, _∙_}
 use Prim.Native.Nat.{ℕ, zero, suc, _+_, _*_, _%_, _≤_, _<_}
 use native.Mathlib.Omega.{arith}
@@ -10,6 +10,7 @@ use lib.Seq.{take-append-le, take-at}
 use Rattle.layout.specs.Numbers.{value}
 use Rattle.layout.specs.Layout.{whole, run, inside}
 use Rattle.phd.specs.Phd.{row-width, offset-number, header, tagged, Links, Item, item, State, Result, Next, go, halt, ended, step, first, nothing, reading}
+use Rattle.phd.specs.Table.{row-count, row-of, number, whole-more, one-more, seam, row-before, number-before, row-last, number-last, every-row}
 use Rattle.phd.specs.Origins.{at-place}
 use Rattle.phd.specs.declared.classes.Cache.{Cache}
 use Rattle.phd.specs.declared.Facts.{Facts}
@@ -18,16 +19,15 @@ use Rattle.phd.specs.declared.Tagged.the-variants.{Begins}
 use Rattle.phd_read.specs.Cut.{Begins as FirstOf, begins-more}
 use Rattle.phd_read.specs.Links.{Stands, links-stand, tag-stands}
 use Rattle.phd_read.specs.Steps.{found, entry-forth, onto, step-item, step-by, Either, reading-holds}
-use Rattle.phd_read.specs.Table.{rows-in, row-of, number, whole-more, one-more, row-before, number-before, row-last, number-last, every-row}
 
 -- the offset of the row number i
 abbrev pub offset-of : List ℕ → ℕ → ℕ
 offset-of rows i = number rows i offset-number
 
 -- the state after i records, the first record's tag standing at n
-abbrev pub Reached : Facts → List ℕ → (R F n i : ℕ) → State → Type 0
-Reached h s R F n zero st = st ≡ first n
-Reached h s R F n (suc i) st = (before : State) × (Reached h s R F n i before) × (step h s R F before ≡ go st)
+abbrev pub After : Facts → List ℕ → (R F n i : ℕ) → State → Type 0
+After h s R F n zero st = st ≡ first n
+After h s R F n (suc i) st = (before : State) × (After h s R F n i before) × (step h s R F before ≡ go st)
 
 -- Where the row number i came from, of tables that a reading of s fills, with R numbers of room for rows and F for references.
 pub record CameFrom (h : Facts) (s : List ℕ) (R F : ℕ) (rows refs : List ℕ) (i : ℕ) : Type 0 where
@@ -36,7 +36,7 @@ pub record CameFrom (h : Facts) (s : List ℕ) (R F : ℕ) (rows refs : List ℕ
   pub opens : run header s 0 ≡ whole h start
   -- the state before the row's record, after i records: the tables hold the rows before, and their references
   pub before : State
-  pub reached : Reached h s R F start i before
+  pub reached : After h s R F start i before
   pub rows-before : before .rows ≡ take (i * row-width) rows
   pub refs-before : FirstOf (before .refs) refs
   -- the offset is the place of a record's tag
@@ -52,10 +52,10 @@ pub record CameFrom (h : Facts) (s : List ℕ) (R F : ℕ) (rows refs : List ℕ
 
 -- What holds of the offsets that a reading of s stores.
 pub record Traced (s : List ℕ) (R F : ℕ) (r : Result) : Type 0 where
-  pub each : (i : ℕ) → i < rows-in (r .rows) → CameFrom (r .facts) s R F (r .rows) (r .refs) i
+  pub each : (i : ℕ) → i < row-count (r .rows) → CameFrom (r .facts) s R F (r .rows) (r .refs) i
   -- they lie within the dump, and grow strictly
-  pub inside : (i : ℕ) → i < rows-in (r .rows) → offset-of (r .rows) i < length s
-  pub grow : (i j : ℕ) → i < j → j < rows-in (r .rows) → offset-of (r .rows) i < offset-of (r .rows) j
+  pub inside : (i : ℕ) → i < row-count (r .rows) → offset-of (r .rows) i < length s
+  pub grow : (i j : ℕ) → i < j → j < row-count (r .rows) → offset-of (r .rows) i < offset-of (r .rows) j
 
 -- ---- one record more
 
@@ -64,15 +64,15 @@ module _ (h : Facts) (s : List ℕ) (R F : ℕ) where
   record Going (st : State) : Type 0 where
     pub start : ℕ
     pub opens : run header s 0 ≡ whole h start
-    pub here : Reached h s R F start (rows-in (st .rows)) st
+    pub here : After h s R F start (row-count (st .rows)) st
     pub whole-rows : length (st .rows) % row-width ≡ 0
     pub within : st .at ≤ length s
-    pub each : (i : ℕ) → i < rows-in (st .rows) → CameFrom h s R F (st .rows) (st .refs) i
-    pub behind : (i : ℕ) → i < rows-in (st .rows) → offset-of (st .rows) i < st .at
-    pub grow : (i j : ℕ) → i < j → j < rows-in (st .rows) → offset-of (st .rows) i < offset-of (st .rows) j
+    pub each : (i : ℕ) → i < row-count (st .rows) → CameFrom h s R F (st .rows) (st .refs) i
+    pub behind : (i : ℕ) → i < row-count (st .rows) → offset-of (st .rows) i < st .at
+    pub grow : (i j : ℕ) → i < j → j < row-count (st .rows) → offset-of (st .rows) i < offset-of (st .rows) j
 
   begun : (n : ℕ) → run header s 0 ≡ whole h n → Going (first n)
-  unfolding first
+  unfolding first row-count
   begun n e = record {
     start = n;
     opens = e;
@@ -110,14 +110,14 @@ module _ (h : Facts) (s : List ℕ) (R F : ℕ) where
     forth : (st .at < n) × (n ≤ length s)
     forth = entry-forth h (st .address) (st .cache) (length (st .refs)) s (st .at) _ n e
 
-    earlier : (i : ℕ) → i < rows-in rows → offset-of (rows ++ r) i ≡ offset-of rows i
+    earlier : (i : ℕ) → i < row-count rows → offset-of (rows ++ r) i ≡ offset-of rows i
     earlier i b = number-before rows r w l i offset-number b (omega arith)
 
-    here-is : offset-of (rows ++ r) (rows-in rows) ≡ st .at
+    here-is : offset-of (rows ++ r) (row-count rows) ≡ st .at
     here-is = number-last rows r w l offset-number ∙ stands .offset
 
     -- the rows before keep where they came from, and the last came from here
-    kept : (i : ℕ) → i < rows-in rows → CameFrom h s R F (rows ++ r) (st .refs ++ ls .list) i
+    kept : (i : ℕ) → i < row-count rows → CameFrom h s R F (rows ++ r) (st .refs ++ ls .list) i
     kept i b =
         let x = g .each i b in
         record {
@@ -125,7 +125,7 @@ module _ (h : Facts) (s : List ℕ) (R F : ℕ) where
           opens = x .opens;
           before = x .before;
           reached = x .reached;
-          rows-before = x .rows-before ∙ sym (take-append-le (i * row-width) rows r (omega (arith, w)));
+          rows-before = x .rows-before ∙ sym (take-append-le (i * row-width) rows r (omega (arith, seam rows r w l)));
           refs-before = begins-more (x .refs-before) (ls .list);
           offset = earlier i b ∙ x .offset;
           form = x .form;
@@ -137,13 +137,13 @@ module _ (h : Facts) (s : List ℕ) (R F : ℕ) where
           gives = rw (row-before rows r w l i b) (x .gives);
         }
 
-    last : CameFrom h s R F (rows ++ r) (st .refs ++ ls .list) (rows-in rows)
+    last : CameFrom h s R F (rows ++ r) (st .refs ++ ls .list) (row-count rows)
     last = record {
       start = g .start;
       opens = g .opens;
       before = st;
       reached = g .here;
-      rows-before = sym (take-at rows r (rows-in rows * row-width) (omega (arith, w)));
+      rows-before = sym (take-at rows r (row-count rows * row-width) (seam rows r w l));
       refs-before = record { more = ls .list; all = refl };
       offset = here-is;
       form = tag .0;
@@ -159,7 +159,7 @@ module _ (h : Facts) (s : List ℕ) (R F : ℕ) where
     going-on = record {
       start = g .start;
       opens = g .opens;
-      here = let m : rows-in (rows ++ r) ≡ suc (rows-in rows) = omega (arith, one-more rows r w l) in rw m (st, g .here, step-item h s R F st r ls a c n e p q);
+      here = rw (one-more rows r w l) (st, g .here, step-item h s R F st r ls a c n e p q);
       whole-rows = whole-more rows r w l;
       within = forth .1;
       each = every-row rows r w l (CameFrom h s R F (rows ++ r) (st .refs ++ ls .list)) kept last;
@@ -174,7 +174,7 @@ module _ (h : Facts) (s : List ℕ) (R F : ℕ) where
 -- ---- the whole reading
 
 traced-none : (s : List ℕ) (R F reply missing : ℕ) → Traced s R F (nothing reply missing)
-unfolding nothing
+unfolding nothing row-count
 traced-none s R F reply missing =
     record { each = λ i l. absurd (omega arith); inside = λ i l. absurd (omega arith); grow = λ i j l k. absurd (omega arith) }
 
@@ -197,7 +197,7 @@ reading-traced s R F =
 
 module _ (h : Facts) (s : List ℕ) (R F : ℕ) where
   -- the steps lead to one state
-  one-state : (n i : ℕ) (a b : State) → Reached h s R F n i a → Reached h s R F n i b → a ≡ b
+  one-state : (n i : ℕ) (a b : State) → After h s R F n i a → After h s R F n i b → a ≡ b
   one-state n zero a b p q = p ∙ sym q
   one-state n (suc i) a b p q =
       let e : p .0 ≡ q .0 = one-state n i (p .0) (q .0) (p .1) (q .1) in

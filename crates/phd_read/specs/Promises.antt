@@ -10,17 +10,17 @@ use native.Mathlib.Omega.{arith}
 use native.Mathlib.Decide.{decLe}
 use Rattle.layout.specs.Numbers.{within}
 use Rattle.phd.specs.Phd.{limit, row-width, highest, Result, reading}
+use Rattle.phd.specs.Table.{row-count, number}
 use Rattle.phd.specs.Cases.{computing, dump, its, table, case-f, cases, tried, as-said}
 use Rattle.layout.specs.Lent.{stored}
 use Rattle.phd_read.specs.Answer.{answer}
 use Rattle.phd_read.specs.Cut.{Begins, Final, Agree, more-agree, cuts-agree}
-use Rattle.phd_read.specs.Ranges.{addresses, reading-ranged}
+use Rattle.phd_read.specs.Ranges.{refs-within, addresses-within}
 use Rattle.phd_read.specs.Lengths.{AllMeasured, reading-measured}
 use Rattle.phd_read.specs.Missing.{MissingOf, less-missing, reading-missing, reading-waits, reading-needs}
 use Rattle.phd_read.specs.Offsets.{offset-of, Traced, reading-traced, next-behind}
 use Rattle.phd_read.specs.Replies.{reading-answers}
 use Rattle.phd_read.specs.Rooms.{reading-keeps, counts}
-use Rattle.phd_read.specs.Table.{rows-in}
 
 -- ---- demand 1, of reading
 
@@ -35,7 +35,7 @@ pub record Sound (r : Result) (R F : ℕ) : Type 0 where
   pub rows-counted : answer r .rows * row-width ≡ length (r .rows)
   pub refs-counted : answer r .refs ≡ length (r .refs)
   -- the address of each row lies in 0 to 2^W - 1, and each reference in 1 to 2^W - 1
-  pub rows-ranged : within 0 (highest (r .facts .word)) (addresses (r .rows)) ≡ true
+  pub rows-ranged : (i : ℕ) → i < row-count (r .rows) → number (r .rows) i 1 ≤ highest (r .facts .word)
   pub refs-ranged : within 1 (highest (r .facts .word)) (r .refs) ≡ true
   -- the length of each row is below 2^31, and an object array has no more references than its true length
   pub lengths : AllMeasured (r .rows)
@@ -48,8 +48,8 @@ sound s R F = record {
   refs-fit = reading-keeps s R F .refs-fit;
   rows-counted = counts s R F .0;
   refs-counted = counts s R F .1;
-  rows-ranged = reading-ranged s R F .rows-in;
-  refs-ranged = reading-ranged s R F .refs-in;
+  rows-ranged = addresses-within s R F;
+  refs-ranged = refs-within s R F;
   lengths = reading-measured s R F;
 }
 
@@ -91,7 +91,7 @@ begins-length : {xs ys : List ℕ} → Begins xs ys → length xs ≤ length ys
 begins-length {xs} {ys} b = omega (arith, simp length-append at (ap length (b .all)))
 
 seen : (r r′ : Result) (rows rows′ refs refs′ : List ℕ) → answer r .rows * row-width ≡ length (r .rows) → Agree r r′ → Seen r r′ rows rows′ refs refs′
-unfolding answer
+unfolding answer row-count
 seen r r′ rows rows′ refs refs′ e a =
     let p = begins-length (a .rows) in
     let q = begins-length (a .refs) in
@@ -119,7 +119,7 @@ pub came-from : (s : List ℕ) (R F : ℕ) → Traced s R F (reading s R F)
 came-from = reading-traced
 
 -- A record reaches to the offset of the next row: nothing stands between them.
-pub one-by-one : (s : List ℕ) (R F i : ℕ) (l : i < rows-in (reading s R F .rows)) → suc i < rows-in (reading s R F .rows)
+pub one-by-one : (s : List ℕ) (R F i : ℕ) (l : i < row-count (reading s R F .rows)) → suc i < row-count (reading s R F .rows)
     → offset-of (reading s R F .rows) (suc i) ≡ came-from s R F .each i l .end
 one-by-one s R F i l k = next-behind _ s R F _ _ i (came-from s R F .each i l) (came-from s R F .each (suc i) k)
 

@@ -6,6 +6,7 @@ use mathlib.Core.List.{List}
 use lib.ListN.{length, length-append}
 use native.Mathlib.Omega.{arith}
 use Rattle.phd.specs.Phd.{row-width, reading}
+use Rattle.phd.specs.Table.{row-count}
 use Rattle.phd_read.specs.Answer.{answer}
 use Rattle.phd_read.specs.Links.{links-stand}
 use Rattle.phd_read.specs.Steps.{tables-hold}
@@ -31,5 +32,5 @@ reading-keeps s R F =
 
 -- The counts that are handed out are those of what is stored.
 pub counts : (s : List ℕ) (R F : ℕ) → (answer (reading s R F) .rows * row-width ≡ length (reading s R F .rows)) × (answer (reading s R F) .refs ≡ length (reading s R F .refs))
-unfolding answer
+unfolding answer row-count
 counts s R F = let k = reading-keeps s R F in (omega arith, refl)

@@ -15,7 +15,8 @@ use Rattle.layout.specs.declared.Text.{Text}
 use Rattle.phd.specs.Phd.{highest, hash-bytes, row-width}
 use Rattle.phd.specs.declared.Facts.{Facts}
 use Rattle.layout.proofs.Laws.{part-cons}
-use Rattle.phd_rows.specs.Rows.{row-at, refs-of, name-of, row-count}
+use Rattle.phd.specs.Table.{row-count}
+use Rattle.phd_rows.specs.Rows.{row-at, refs-of, name-of}
 use Rattle.phd_rows.specs.Good.{every, good-vm, good-numbers, good-ref, good-refs, good-row, first-bad}
 use Rattle.phd_rows.specs.declared.Row.{Row}
 use Rattle.phd_rows.specs.declared.Found.the-variants.{At}

@@ -2,14 +2,14 @@
 -- the same of both, so that they ignore the offsets.
 -- A reader must believe `Alike`.
 use mathlib.Core.Path.{_≡_, refl}
-use Prim.Native.Nat.{ℕ, zero, suc, _+_, _*_, _≤_, _<_}
+use Prim.Native.Nat.{ℕ, zero, suc, _+_, _≤_, _<_}
 use native.Mathlib.Omega.{arith}
 use mathlib.Core.Bool.{Bool}
 use mathlib.Core.List.{List}
-use lib.ListN.{getD}
 use Rattle.phd.specs.Phd.{row-width, offset-number}
 use Rattle.phd.specs.declared.Facts.{Facts}
-use Rattle.phd_rows.specs.Rows.{row-at, recs-from, row-count, recs}
+use Rattle.phd.specs.Table.{row-count, number}
+use Rattle.phd_rows.specs.Rows.{row-at, recs-from, recs}
 use Rattle.phd_rows.specs.Good.{good-header, first-bad, bad-of}
 use Rattle.phd_rows.specs.Judged.{judged}
 use Rattle.phd_rows.specs.declared.Found.{Found}
@@ -19,15 +19,14 @@ pub record Alike (rows rows′ : List ℕ) : Type 0 where
   pub count : row-count rows ≡ row-count rows′
   -- every number of a row but its offset is the same
   pub numbers : (i k : ℕ) → i < row-count rows → k < row-width → (k ≡ offset-number → ⊥)
-      → getD rows (i * row-width + k) 0 ≡ getD rows′ (i * row-width + k) 0
+      → number rows i k ≡ number rows′ i k
 
 module _ {rows rows′ : List ℕ} (a : Alike rows rows′) where
   -- the row number i
   pub same-row : (i : ℕ) → i < row-count rows → row-at rows i ≡ row-at rows′ i
   unfolding row-at
   same-row i l =
-      let n : (k : ℕ) → k < offset-number → getD rows (i * row-width + k) 0 ≡ getD rows′ (i * row-width + k) 0 =
-      λ k b. a .numbers i k l (omega arith) (λ e. omega arith) in
+      let n : (k : ℕ) → k < offset-number → number rows i k ≡ number rows′ i k = λ k b. a .numbers i k l (omega arith) (λ e. omega arith) in
       λ j. record {
         kind = n 0 (omega arith) j;
         address = n 1 (omega arith) j;

@@ -9,7 +9,8 @@ use Rattle.layout.specs.Numbers.{pick, both, either, within}
 use Rattle.layout.specs.declared.Text.{Text}
 use Rattle.phd.specs.Phd.{highest, hash-bytes}
 use Rattle.phd.specs.declared.Facts.{Facts}
-use Rattle.phd_rows.specs.Rows.{row-at, refs-of, name-of, vm-text, row-count}
+use Rattle.phd.specs.Table.{row-count}
+use Rattle.phd_rows.specs.Rows.{row-at, refs-of, name-of, vm-text}
 use Rattle.phd_rows.specs.declared.Row.{Row}
 use Rattle.phd_rows.specs.declared.Found.{Found}
 use Rattle.phd_rows.specs.declared.Found.the-variants.{At, Nowhere}

@@ -17,7 +17,8 @@ use Rattle.layout.specs.declared.Text.{Text}
 use Rattle.phd.specs.Phd.{highest, hash-bytes}
 use Rattle.phd.specs.Shapes.{Word}
 use Rattle.phd.specs.declared.Facts.{Facts}
-use Rattle.phd_rows.specs.Rows.{Rec, row-at, refs-of, name-of, vm-text, bare, rec-of, row-count}
+use Rattle.phd.specs.Table.{row-count}
+use Rattle.phd_rows.specs.Rows.{Rec, row-at, refs-of, name-of, vm-text, bare, rec-of}
 use Rattle.phd_rows.specs.Good.{every, good-vm, good-header, good-hash, good-class, no-name, good-object, good-array, good-primitive, good-kind, good-place, good-span, good-numbers, good-ref, good-refs, good-row, first-bad, bad-of}
 use Rattle.phd_rows.specs.declared.Row.{Row}
 use Rattle.phd_rows.specs.declared.Found.{Found}

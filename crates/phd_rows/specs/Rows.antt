@@ -1,19 +1,19 @@
 -- The rows of a table that is lent, and the records that they are: 01's "The tables".
 -- A reader must believe that two records are the same, in 01's sense, exactly when their `Rec` are equal.
-use Prim.Native.Nat.{ℕ, zero, suc, _+_, _*_, _/_}
+use Prim.Native.Nat.{ℕ, zero, suc}
 use mathlib.Core.Bool.{Bool}
 use mathlib.Core.List.{List, [], _∷_}
 use lib.Dec.{eqb}
-use lib.ListN.{length, getD, take, drop}
+use lib.ListN.{take, drop}
 use Rattle.layout.specs.declared.Text.{Text}
-use Rattle.phd.specs.Phd.{row-width}
+use Rattle.phd.specs.Table.{row-count, number}
 use Rattle.phd.specs.declared.Origin.{Origin}
 use Rattle.phd_rows.specs.declared.Row.{Row}
 
 -- the row number i, from 0
 unfoldable pub row-at : List ℕ → ℕ → Row
 row-at rows i =
-    let n : ℕ → ℕ = λ k. getD rows (i * row-width + k) 0 in
+    let n : ℕ → ℕ = number rows i in
     record {
       kind = n 0;
       address = n 1;
@@ -82,10 +82,6 @@ unfoldable pub recs-from : List ℕ → List ℕ → List ℕ → ℕ → ℕ �
 recs-from names refs rows i zero = []
 recs-from names refs rows i (suc n) = rec-of names refs (row-at rows i) ∷ recs-from names refs rows (suc i) n
 
--- how many whole rows a table has
-unfoldable pub row-count : List ℕ → ℕ
-row-count rows = length rows / row-width
-
--- the records of every whole row; numbers at the end that are too few for a row are no row
+-- the records of every whole row
 unfoldable pub recs : List ℕ → List ℕ → List ℕ → List Rec
 recs names refs rows = recs-from names refs rows 0 (row-count rows)

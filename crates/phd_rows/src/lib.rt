@@ -3,7 +3,8 @@
 ghost use mathlib.Core.Path.{_≡_};
 ghost use Prim.Native.Nat.{_<_};
 ghost use Rattle.phd.specs.Shapes.{Word};
-ghost use Rattle.phd_rows.specs.Rows.{row-at, row-count};
+ghost use Rattle.phd.specs.Table.{row-count};
+ghost use Rattle.phd_rows.specs.Rows.{row-at};
 ghost use Rattle.phd_rows.specs.Good.{good-vm, good-header, first-bad, bad-of};
 ghost use Rattle.phd_rows.specs.Judged.{checked};
 use layout::Text;

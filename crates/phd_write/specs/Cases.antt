@@ -6,7 +6,8 @@ use Rattle.layout.specs.Numbers.{within}
 use Rattle.layout_put.specs.Put.{be, gap, complement, fits, code, widest, links}
 use Rattle.phd.specs.Phd.{limit, bit, highest, opening, empty, put, hash-bytes, width, shape}
 use Rattle.phd.specs.Cases.{dump, its, table}
-use Rattle.phd_rows.specs.Rows.{row-at, refs-of, name-of, bare, rec-of, recs-from, row-count, recs}
+use Rattle.phd.specs.Table.{row-count}
+use Rattle.phd_rows.specs.Rows.{row-at, refs-of, name-of, bare, rec-of, recs-from, recs}
 use Rattle.phd_rows.specs.Good.{every, good-vm, good-header, good-hash, good-class, no-name, good-object, good-array, good-primitive, good-kind, good-place, good-span, good-numbers, good-ref, good-refs, good-row, first-bad}
 use Rattle.phd_rows.specs.Judged.{refused, done, judged}
 use Rattle.phd_form.specs.Form.{holds, slot-of, measure, flagged, object-form, form-of, tag-of, hash-flags, class-flags, flags-of, planned}

@@ -16,7 +16,8 @@ use Rattle.phd.specs.Phd.{highest, empty, put}
 use Rattle.phd.specs.Shapes.{Word}
 use Rattle.phd.specs.declared.classes.Cache.{Cache}
 use Rattle.phd.specs.declared.Facts.{Facts}
-use Rattle.phd_rows.specs.Rows.{row-at, refs-of, name-of, recs, row-count}
+use Rattle.phd.specs.Table.{row-count}
+use Rattle.phd_rows.specs.Rows.{row-at, refs-of, name-of, recs}
 use Rattle.phd_rows.specs.Good.{first-bad}
 use Rattle.phd_rows.specs.declared.Found.the-variants.{Nowhere}
 use Rattle.phd_rows.specs.declared.Row.{Row}

@@ -15,7 +15,8 @@ use Rattle.phd.specs.Phd.{limit, row-width, empty, Result, reading}
 use Rattle.phd.specs.declared.Facts.{Facts}
 use Rattle.layout.specs.Lent.{stored, stored-all}
 use Rattle.phd_read.specs.Answer.{answer}
-use Rattle.phd_rows.specs.Rows.{Rec, vm-text, recs-from, row-count, recs}
+use Rattle.phd.specs.Table.{row-count}
+use Rattle.phd_rows.specs.Rows.{Rec, vm-text, recs-from, recs}
 use Rattle.phd_rows.specs.Good.{good-vm, good-header, bad-of}
 use Rattle.phd_rows.specs.Judged.{Outcome, done, AllRight, Exact as ByTests}
 use Rattle.phd_rows.specs.Asked.{Split}

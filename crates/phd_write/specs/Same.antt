@@ -2,14 +2,15 @@
 -- bytes, and references as lists.
 -- Assumes nothing.
 use mathlib.Core.Path.{_≡_, refl, sym}
-use Prim.Native.Nat.{ℕ, zero, suc, _+_, _-_, _*_, _%_, _≤_, _<_}
+use Prim.Native.Nat.{ℕ, zero, suc, _+_, _-_, _%_, _≤_, _<_}
 use mathlib.Core.List.{List, [], _∷_, _++_, append-assoc}
-use lib.ListN.{length, getD, take, drop, length-append}
-use lib.Seq.{take-at, drop-at, take-append-add, getD-append-add}
+use lib.ListN.{length, take, drop, length-append}
+use lib.Seq.{take-at, drop-at, take-append-add}
 use native.Mathlib.Omega.{arith}
 use native.Mathlib.Decide.{decLe}
 use borrow.Author.Tests.{le-leb, lt-leb}
 use Rattle.phd.specs.Phd.{row-width, highest}
+use Rattle.phd.specs.Table.{number-behind}
 use Rattle.phd.specs.Shapes.{Word}
 use Rattle.phd.specs.declared.classes.Cache.{Cache}
 use Rattle.phd.specs.declared.Facts.{Facts}
@@ -25,26 +26,21 @@ use Rattle.phd_put.specs.Back.{name-place, row-back, length-row, name-back}
 -- ---- rows behind a first one
 
 module _ (row rows : List ℕ) (l : length row ≡ row-width) where
-  number-behind : (i k : ℕ) → getD (row ++ rows) (suc i * row-width + k) 0 ≡ getD rows (i * row-width + k) 0
-  number-behind i k =
-      let e : suc i * row-width + k ≡ length row + (i * row-width + k) = omega arith in
-      rw (e, getD-append-add row rows (i * row-width + k) 0)
-
   row-behind : (i : ℕ) → row-at (row ++ rows) (suc i) ≡ row-at rows i
   unfolding row-at
   row-behind i = λ j. record {
-    kind = number-behind i 0 j;
-    address = number-behind i 1 j;
-    word = number-behind i 2 j;
-    hashkind = number-behind i 3 j;
-    hash = number-behind i 4 j;
-    first = number-behind i 5 j;
-    count = number-behind i 6 j;
-    size = number-behind i 7 j;
-    len = number-behind i 8 j;
-    place = number-behind i 9 j;
-    namelen = number-behind i 10 j;
-    prim = number-behind i 11 j;
+    kind = number-behind row rows l i 0 j;
+    address = number-behind row rows l i 1 j;
+    word = number-behind row rows l i 2 j;
+    hashkind = number-behind row rows l i 3 j;
+    hash = number-behind row rows l i 4 j;
+    first = number-behind row rows l i 5 j;
+    count = number-behind row rows l i 6 j;
+    size = number-behind row rows l i 7 j;
+    len = number-behind row rows l i 8 j;
+    place = number-behind row rows l i 9 j;
+    namelen = number-behind row rows l i 10 j;
+    prim = number-behind row rows l i 11 j;
   }
 
   recs-behind : (names refs : List ℕ) (n i : ℕ) → recs-from names refs (row ++ rows) (suc i) n ≡ recs-from names refs rows i n

@@ -11,7 +11,8 @@ use Rattle.phd.specs.Phd.{highest, put, shape}
 use Rattle.phd.specs.Shapes.{Word, Narrow, shape-narrow}
 use Rattle.phd.specs.declared.classes.Cache.{Cache}
 use Rattle.phd.specs.declared.Facts.{Facts}
-use Rattle.phd_rows.specs.Rows.{row-at, refs-of, name-of, bare, rec-of, recs-from, row-count}
+use Rattle.phd.specs.Table.{row-count}
+use Rattle.phd_rows.specs.Rows.{row-at, refs-of, name-of, bare, rec-of, recs-from}
 use Rattle.phd_rows.specs.Good.{first-bad}
 use Rattle.phd_rows.specs.Kept.{Good, Lent, lent-of, good-of, none-bad, length-refs-of, length-name-of}
 use Rattle.phd_rows.specs.declared.Found.the-variants.{Nowhere}

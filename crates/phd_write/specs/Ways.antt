@@ -13,7 +13,8 @@ use Rattle.layout.specs.Numbers.{both}
 use Rattle.layout.specs.Values.{both-left, both-right}
 use Rattle.phd.specs.Phd.{limit, row-width}
 use Rattle.phd.specs.declared.Facts.{Facts}
-use Rattle.phd_rows.specs.Rows.{bare, refs-of, rec-of, row-at, recs-from, row-count, recs}
+use Rattle.phd.specs.Table.{row-count}
+use Rattle.phd_rows.specs.Rows.{bare, refs-of, rec-of, row-at, recs-from, recs}
 use Rattle.phd_rows.specs.Good.{good-header, first-bad, bad-of}
 use Rattle.phd_rows.specs.Judged.{Outcome, done, judged, checked, AllRight, Exact, exact}
 use Rattle.phd_rows.specs.Asked.{Split, asked-checked, asked-counts, asked-over, asked-split as by-asked}

@@ -18,7 +18,8 @@ use Rattle.phd.specs.Phd.{limit, row-width, empty, header, Result, first, nothi
 use Rattle.phd.specs.Shapes.{Word}
 use Rattle.phd.specs.declared.Facts.{Facts}
 use Rattle.phd_read.specs.Steps.{reading-opens, reading-stops}
-use Rattle.phd_rows.specs.Rows.{Rec, recs-from, row-count}
+use Rattle.phd.specs.Table.{row-count}
+use Rattle.phd_rows.specs.Rows.{Rec, recs-from}
 use Rattle.phd_rows.specs.Good.{good-vm}
 use Rattle.phd_write.specs.Write.{put-header, put-records, put-dump}
 use Rattle.phd_write.specs.Terms.{all-refs, within-cut, kept}

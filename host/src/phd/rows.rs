@@ -8,7 +8,7 @@ use phd_host::library::{
     SIZE, TYPE,
 };
 
-/// The kind of a row, in the order of the numbers; what its last cell says of it.
+/// The kinds of rows, in the order of their numbers, and the two of which the last cell says something.
 const KINDS: [&str; 4] = ["class", "object", "object array", "primitive array"];
 const IS_CLASS: u64 = 1;
 const IS_PRIMITIVE: u64 = 4;

@@ -2,7 +2,7 @@
 
 use crate::trial::{edited, example, Folder, BEGINNINGS, HEADER};
 
-/// The example's rows, with its records at these offsets and addresses.
+/// The table's first line, and the lines of the example's rows.
 const HEADING: &str = "         row  offset      kind             address     class       hash             first        refs        size      length  name or type\n";
 const ROWS: [&str; 4] = [
     "           0  0x00000026  class            0x00001000  0x00000000  none                 0           0          16           0  A at 0x00000034\n",

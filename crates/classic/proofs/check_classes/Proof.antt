@@ -5,7 +5,7 @@ use mathlib.Core.Logic.{⊎-elim}
 use Prim.Native.Nat.{_-_}
 use native.Mathlib.Omega.{arith}
 use borrow.Author.Needs.{needs}
-use Rattle.phd_rows.specs.Rows.{row-count}
+use Rattle.phd.specs.Table.{row-count}
 use Rattle.phd_rows.specs.Judged.{refused, done, judged, classed}
 use Rattle.classic.specs.Classic.{nowhere, is-lost}
 use Rattle.classic.specs.Search.{Searched, search-begins, search-found, search-next, search-ends}

@@ -2,7 +2,7 @@
 use mathlib.Core.Path.{sym, _∙_}
 use Prim.Native.Nat.{_-_}
 use native.Mathlib.Omega.{arith}
-use Rattle.phd_rows.specs.Rows.{row-count}
+use Rattle.phd.specs.Table.{row-count}
 use Rattle.classic.specs.Classic.{signature, is-class-named}
 use Rattle.classic.specs.Search.{Searched, search-begins, search-found, search-next, search-ends}
 use Rattle.classic.proofs.class_named.Statement.{statement}

@@ -1,12 +1,13 @@
 -- `nothing` meets its contract.
 use mathlib.Core.Path.{refl}
 use Rattle.phd.specs.Phd.{nothing, no-facts}
+use Rattle.phd.specs.Table.{row-count}
 use Rattle.phd_read.specs.Answer.{answer}
 use Rattle.phd_read.proofs.nothing.Statement.{statement}
 use Rattle.phd_read.proofs.nothing.Tie as tie
 
 returns : tie.Need-returns
-unfolding answer nothing no-facts
+unfolding answer nothing no-facts row-count
 returns c = refl
 
 pub nothing-spec : {M : Type 1} → statement M

@@ -6,6 +6,7 @@ use native.Mathlib.Omega.{arith}
 use lib.ListN.{length}
 use Rattle.layout.specs.Layout.{whole, stops, run, inside}
 use Rattle.phd.specs.Phd.{limit, header, nothing}
+use Rattle.phd.specs.Table.{row-count}
 use Rattle.phd_header.specs.Header.{header-outcome, header-word}
 use Rattle.layout.specs.Lent.{stored}
 use Rattle.phd_read.specs.Answer.{answer}
@@ -72,7 +73,7 @@ returns-2 c =
     rw (reading-opens (a .dump .now) (length (a .rows .now)) (length (a .refs .now)) _ _ (within (d .before .before .before)) (opened d)) (r .0, (r .1 .0, r .1 .1))
 
 returns-3 : tie.Need-returns-3
-unfolding answer nothing stored
+unfolding answer nothing stored row-count
 returns-3 c =
     let d = c .before .before .before .before in
     let a = d .before .before .before .before .before .before .before .args in

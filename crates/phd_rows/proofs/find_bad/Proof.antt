@@ -9,7 +9,8 @@ use lib.ListN.{length, take, drop}
 use borrow.Author.Needs.{needs}
 use borrow.Author.Tests.{not-true, not-false}
 use Rattle.layout.specs.Numbers.{within}
-use Rattle.phd_rows.specs.Rows.{row-at, refs-of, name-of, row-count}
+use Rattle.phd.specs.Table.{row-count}
+use Rattle.phd_rows.specs.Rows.{row-at, refs-of, name-of}
 use Rattle.phd_rows.specs.Good.{good-numbers, good-refs, good-row, first-bad}
 use Rattle.phd_rows.specs.Kept.{Lent, first-by, lent-by}
 use Rattle.phd_rows.proofs.Laws.{fails-at, ref-bad, ref-good, byte-bad, byte-good, bad-here, bad-later, row-good, whole-refs, whole-name}

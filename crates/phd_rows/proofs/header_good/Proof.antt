@@ -1,7 +1,7 @@
 -- `header_good` meets its contract: its tests, joined.
 use lib.Dec.{eqb}
 use borrow.Author.Needs.{needs}
-use Rattle.phd_rows.specs.Rows.{row-count}
+use Rattle.phd.specs.Table.{row-count}
 use Rattle.phd_rows.specs.Good.{good-header}
 use Rattle.phd_rows.proofs.Laws.{joined, either-joined}
 use Rattle.phd_rows.proofs.header_good.Statement.{statement}

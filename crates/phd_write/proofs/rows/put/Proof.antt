@@ -4,7 +4,7 @@ use mathlib.Core.Path.{_∙_}
 use Prim.Native.Nat.{_-_, _≤_, _<_}
 use native.Mathlib.Omega.{arith}
 use Rattle.phd.specs.Shapes.{Word}
-use Rattle.phd_rows.specs.Rows.{row-count}
+use Rattle.phd.specs.Table.{row-count}
 use Rattle.phd_rows.specs.Kept.{word-of, few-rows}
 use Rattle.phd_write.specs.Turns.{Next, next}
 use Rattle.phd_write.specs.Loops.{Putting, putting-begins, putting-ends, row-lent, row-named, row-bound, putting-on, putting-fits}

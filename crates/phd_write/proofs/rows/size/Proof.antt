@@ -3,7 +3,8 @@ use borrow.Author.Needs.{needs}
 use Prim.Native.Nat.{_-_, _<_}
 use native.Mathlib.Omega.{arith}
 use Rattle.phd.specs.Shapes.{Word}
-use Rattle.phd_rows.specs.Rows.{row-at, row-count}
+use Rattle.phd.specs.Table.{row-count}
+use Rattle.phd_rows.specs.Rows.{row-at}
 use Rattle.phd_put.specs.Formed.{wide}
 use Rattle.phd_rows.specs.Kept.{word-of, few-rows, few-refs}
 use Rattle.phd_write.specs.Turns.{Next, next}

@@ -4,7 +4,7 @@ use mathlib.Core.Path.{_≡_, refl}
 use Prim.Native.Nat.{ℕ, zero, suc, _+_, _≤_}
 use native.Mathlib.Omega.{arith}
 use mathlib.Core.List.{List}
-use Rattle.phd_rows.specs.Rows.{row-count}
+use Rattle.phd.specs.Table.{row-count}
 use Rattle.phd_rows.specs.Alike.{Alike, same-row}
 use Rattle.phd_rows.specs.declared.Row.{Row}
 use Rattle.phd_counts.specs.Counts.{nulls-of, sum-from, sum, nulls}

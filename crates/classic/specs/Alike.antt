@@ -9,13 +9,14 @@ use lib.ListN.{length}
 use lib.Dec.{leb}
 use Rattle.layout.specs.Numbers.{pick}
 use Rattle.phd.specs.declared.Facts.{Facts}
-use Rattle.phd_rows.specs.Rows.{row-at, row-count}
+use Rattle.phd.specs.Table.{row-count}
+use Rattle.phd_rows.specs.Rows.{row-at}
 use Rattle.phd_rows.specs.Judged.{Outcome}
 use Rattle.phd_rows.specs.Alike.{Alike, same-row, same-judged}
 use Rattle.phd_rows.specs.declared.Row.{Row}
 use Rattle.phd_rows.specs.declared.Found.the-variants.{At}
 use Rattle.phd_counts.specs.Counts.{one-of, count-of}
-use Rattle.phd_counts.specs.Same.{same-sum, same-nulls}
+use Rattle.phd_counts.specs.Alike.{same-sum, same-nulls}
 use Rattle.classic.specs.Classic.{first-from, first-row, is-class-at, is-class-named, is-lost, found-row, signature, naming, type-of, bytes-of, word-of, first-line, second-line, row-lines, breakdown, totals, lines, text-of, texting, text-sizing}
 
 module _ {rows rows′ : List ℕ} (a : Alike rows rows′) where
