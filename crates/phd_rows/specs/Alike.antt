@@ -21,26 +21,30 @@ pub record Alike (rows rows′ : List ℕ) : Type 0 where
   pub numbers : (i k : ℕ) → i < row-count rows → k < row-width → (k ≡ offset-number → ⊥)
       → number rows i k ≡ number rows′ i k
 
+-- a row is what its numbers are, whatever its offset
+pub row-by : (rows rows′ : List ℕ) (i i′ : ℕ) → ((k : ℕ) → k < row-width → (k ≡ offset-number → ⊥) → number rows i k ≡ number rows′ i′ k) → row-at rows i ≡ row-at rows′ i′
+unfolding row-at
+row-by rows rows′ i i′ e =
+    let n : (k : ℕ) → k < offset-number → number rows i k ≡ number rows′ i′ k = λ k b. e k (omega arith) (λ z. omega arith) in
+    λ j. record {
+      kind = n 0 (omega arith) j;
+      address = n 1 (omega arith) j;
+      word = n 2 (omega arith) j;
+      hashkind = n 3 (omega arith) j;
+      hash = n 4 (omega arith) j;
+      first = n 5 (omega arith) j;
+      count = n 6 (omega arith) j;
+      size = n 7 (omega arith) j;
+      len = n 8 (omega arith) j;
+      place = n 9 (omega arith) j;
+      namelen = n 10 (omega arith) j;
+      prim = n 11 (omega arith) j;
+    }
+
 module _ {rows rows′ : List ℕ} (a : Alike rows rows′) where
   -- the row number i
   pub same-row : (i : ℕ) → i < row-count rows → row-at rows i ≡ row-at rows′ i
-  unfolding row-at
-  same-row i l =
-      let n : (k : ℕ) → k < offset-number → number rows i k ≡ number rows′ i k = λ k b. a .numbers i k l (omega arith) (λ e. omega arith) in
-      λ j. record {
-        kind = n 0 (omega arith) j;
-        address = n 1 (omega arith) j;
-        word = n 2 (omega arith) j;
-        hashkind = n 3 (omega arith) j;
-        hash = n 4 (omega arith) j;
-        first = n 5 (omega arith) j;
-        count = n 6 (omega arith) j;
-        size = n 7 (omega arith) j;
-        len = n 8 (omega arith) j;
-        place = n 9 (omega arith) j;
-        namelen = n 10 (omega arith) j;
-        prim = n 11 (omega arith) j;
-      }
+  same-row i l = row-by rows rows′ i i (λ k. a .numbers i k l)
 
   -- the records
   recs-on : (names refs : List ℕ) (n i : ℕ) → i + n ≤ row-count rows → recs-from names refs rows i n ≡ recs-from names refs rows′ i n

@@ -16,6 +16,7 @@ use Rattle.phd.specs.declared.classes.Cache.{Cache}
 use Rattle.phd.specs.declared.Facts.{Facts}
 use Rattle.phd.specs.declared.Origin.{Origin}
 use Rattle.phd_rows.specs.Rows.{Rec, row-at, refs-of, name-of, bare, rec-of, numbers, recs-from}
+use Rattle.phd_rows.specs.Alike.{row-by}
 use Rattle.phd_put.specs.Record.{put-record, cache-after}
 use Rattle.phd_write.specs.Write.{put-records}
 use Rattle.phd_write.specs.Terms.{all-refs, within-cut}
@@ -27,21 +28,7 @@ use Rattle.phd_put.specs.Back.{name-place, row-back, length-row, name-back}
 
 module _ (row rows : List ℕ) (l : length row ≡ row-width) where
   row-behind : (i : ℕ) → row-at (row ++ rows) (suc i) ≡ row-at rows i
-  unfolding row-at
-  row-behind i = λ j. record {
-    kind = number-behind row rows l i 0 j;
-    address = number-behind row rows l i 1 j;
-    word = number-behind row rows l i 2 j;
-    hashkind = number-behind row rows l i 3 j;
-    hash = number-behind row rows l i 4 j;
-    first = number-behind row rows l i 5 j;
-    count = number-behind row rows l i 6 j;
-    size = number-behind row rows l i 7 j;
-    len = number-behind row rows l i 8 j;
-    place = number-behind row rows l i 9 j;
-    namelen = number-behind row rows l i 10 j;
-    prim = number-behind row rows l i 11 j;
-  }
+  row-behind i = row-by (row ++ rows) rows (suc i) i (λ k _ _. number-behind row rows l i k)
 
   recs-behind : (names refs : List ℕ) (n i : ℕ) → recs-from names refs (row ++ rows) (suc i) n ≡ recs-from names refs rows i n
   unfolding recs-from
@@ -72,11 +59,11 @@ rec-back names refs rows place origin r z p q = λ j. record {
 }
 
 -- so it is of the row that a record is read as
-row-same : (h : Facts) (p before : ℕ) (c : Cache) (names refs rows : List ℕ) (r : Rec) → r .row .place ≡ 0
+row-decodes : (h : Facts) (p before : ℕ) (c : Cache) (names refs rows : List ℕ) (r : Rec) → r .row .place ≡ 0
     → take (r .row .count) (drop (r .row .first) refs) ≡ r .refs → take (r .row .namelen) (drop (name-place h p before c r) names) ≡ r .name
     → rec-of names refs (row-at (row-back h p before c r ++ rows) 0) ≡ r
 unfolding row-back
-row-same h p before c names refs rows r z = rec-back names refs rows (name-place h p before c r) _ r z
+row-decodes h p before c names refs rows r z = rec-back names refs rows (name-place h p before c r) _ r z
 
 -- one row first
 recs-cons : (n : ℕ) (names refs row rows : List ℕ) (r : Rec) (rs : List Rec) → length row ≡ row-width → rec-of names refs (row-at (row ++ rows) 0) ≡ r
@@ -131,7 +118,7 @@ decodes-on h r rs j more-rows more-refs ih before c p pre refs g e =
     let others : recs-from s links (rows ++ more-rows) 0 (length kept) ≡ kept =
     rw (append-assoc pre bs (take j (put-records h (r .row .address) c′ rs)), append-assoc refs (r .refs) (all-refs kept ++ more-refs)) at
     (ih (r .row .address) c′ (p + length bs) (pre ++ bs) (refs ++ r .refs) (put-on h before refs r rs g) e′) in
-    let this = row-same h p before c s links (rows ++ more-rows) r (g .good .0 .no-place) there name in
+    let this = row-decodes h p before c s links (rows ++ more-rows) r (g .good .0 .no-place) there name in
     rw (append-assoc (r .refs) (all-refs kept) more-refs, append-assoc (row-back h p before c r) rows more-rows)
     (recs-cons (length kept) s links (row-back h p before c r) (rows ++ more-rows) r kept (length-row h p before c r) this others)
 
