@@ -13,11 +13,11 @@ use Rattle.layout.specs.Numbers.{both}
 use Rattle.layout.specs.Values.{both-left, both-right}
 use Rattle.layout.proofs.Laws.{part-cons}
 use Rattle.phd.specs.Phd.{same}
-use Rattle.phd_rows.specs.Rows.{name-of}
+use Rattle.table.specs.Rows.{name-of}
 use Rattle.phd_rows.specs.Good.{every}
 use Rattle.phd_rows.specs.Kept.{length-name-of}
-use Rattle.phd_rows.specs.declared.Row.{Row}
-use Rattle.phd_rows.specs.declared.Found.{Found}
+use Rattle.table.specs.declared.Row.{Row}
+use Rattle.table.specs.declared.Search.{Search}
 use Rattle.phd_rows.proofs.Laws.{joined, both-joined, either-joined}
 use Rattle.classic.specs.Classic.{letters, signature, is-class-at, is-class-named, class-at, nowhere, is-lost}
 
@@ -76,7 +76,7 @@ module _ (names : List ℕ) (r : Row) (prim : ℕ) (room : r .place + r .namelen
 
 -- ---- an object or an object array, by its kind and by what the search for its class found
 
-pub lost-test : (rows : List ℕ) (r : Row) (found : Found) (t : Bool) → found ≡ class-at rows (r .word) → eqb (r .kind) 2 || eqb (r .kind) 3 ≡ t
+pub lost-test : (rows : List Row) (r : Row) (found : Search) (t : Bool) → found ≡ class-at rows (r .word) → eqb (r .kind) 2 || eqb (r .kind) 3 ≡ t
     → is-lost rows r ≡ both t (nowhere found)
 unfolding is-lost
 lost-test rows r found t f e = rw (f, ← e, either-joined (eqb (r .kind) 2) (eqb (r .kind) 3))

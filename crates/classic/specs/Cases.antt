@@ -5,22 +5,25 @@ use Prim.Native.Nat.{ℕ, _*_}
 use mathlib.Core.List.{List, [], _∷_, _++_, map}
 use mathlib.Core.Bool.{false}
 use Rattle.phd.specs.declared.Facts.{Facts}
-use Rattle.phd.specs.Phd.{row-width, limit, bit, highest, same, hash-bytes, Result, reading}
+use Rattle.table.specs.Table.{row-width, row-count}
+use Rattle.phd.specs.Phd.{limit, bit, highest, same, hash-bytes, Result, reading}
 use Rattle.phd.specs.Cases.{dump, computing as reads-computing}
 use Rattle.layout.specs.Numbers.{within}
 use Rattle.layout.specs.Fields.{no-text}
-use Rattle.phd.specs.Table.{row-count}
-use Rattle.phd_rows.specs.Rows.{row-at, refs-of, name-of}
+use Rattle.table.specs.Rows.{row-at, rows-from, rows-of, refs-of, name-of}
 use Rattle.phd_rows.specs.Good.{every, good-vm, good-header, good-hash, good-class, no-name, good-object, good-array, good-primitive, good-kind, good-place, good-span, good-numbers, good-ref, good-refs, good-row, first-bad}
-use Rattle.phd_rows.specs.Judged.{refused, done, judged}
+use Rattle.table.specs.CheckOrder.{refused, done, judged}
 use Rattle.phd_counts.specs.Cases.{row-of}
-use Rattle.phd_counts.specs.Counts.{nulls-of, sum-from, nulls}
-use Rattle.classic.specs.Classic.{ascii, places-in, places, decimal, capital, numeral, address, first-from, is-class-at, is-class-named, is-lost, found-row, letters, signature, array-type, naming, type-of, bytes-of, word-of, first-line, listed, second-line, row-lines, version, breakdown, totals, ended, lines, text-of, texting, text-sizing}
+use Rattle.table.specs.Sums.{sum}
+use Rattle.phd_counts.specs.Counts.{nulls-of, nulls}
+use Rattle.table.specs.Search.{first-from, found-row}
+use Rattle.digits.specs.Digits.{ascii, places-in, places, decimal, capital, numeral}
+use Rattle.classic.specs.Classic.{address, is-class-at, is-class-named, is-lost, letters, signature, array-type, naming, type-of, bytes-of, word-of, first-line, listed, second-line, row-lines, version, breakdown, totals, ended, lines, text-of, text-rows, text-rows-size, texting, text-sizing}
 use Prim.Native.String.{String}
 
 -- for a proof by computing: whoever unfolds this unfolds all that a text is made of
 unfoldable pub computing : Unit {0}
-unfolding within limit bit highest same hash-bytes row-at refs-of name-of row-count every good-vm good-header good-hash good-class no-name good-object good-array good-primitive good-kind good-place good-span good-numbers good-ref good-refs good-row first-bad refused done judged nulls-of sum-from nulls places-in places decimal capital numeral address first-from is-class-at is-class-named is-lost found-row letters signature array-type naming type-of bytes-of word-of first-line listed second-line row-lines version breakdown totals ended lines text-of texting text-sizing
+unfolding within limit bit highest same hash-bytes row-at rows-from rows-of refs-of name-of row-count every good-vm good-header good-hash good-class no-name good-object good-array good-primitive good-kind good-place good-span good-numbers good-ref good-refs good-row first-bad refused done judged nulls-of sum nulls places-in places decimal capital numeral address first-from is-class-at is-class-named is-lost found-row letters signature array-type naming type-of bytes-of word-of first-line listed second-line row-lines version breakdown totals ended lines text-of text-rows text-rows-size
 computing = tt
 
 -- 01's lines

@@ -7,13 +7,12 @@ use mathlib.Core.Bool.{true}
 use mathlib.Core.List.{List}
 use lib.ListN.{length}
 use Rattle.phd.specs.declared.Facts.{Facts}
-use Rattle.phd.specs.Table.{row-count}
-use Rattle.phd_rows.specs.Rows.{row-at, bare, rec-of}
-use Rattle.phd_rows.specs.Good.{good-row}
+use Rattle.table.specs.Rows.{All, bare, rec-of}
+use Rattle.phd_rows.specs.Good.{good-row, AllRight}
 use Rattle.phd_rows.specs.Kept.{Kinded, a-class, an-object, an-array, a-primitive, lent-of, good-of, each-row}
-use Rattle.phd_rows.specs.Judged.{AllRight}
-use Rattle.phd_rows.specs.declared.Row.{Row}
-use Rattle.phd_counts.specs.Counts.{count-of, sum}
+use Rattle.table.specs.Sums.{sum}
+use Rattle.table.specs.declared.Row.{Row}
+use Rattle.phd_counts.specs.Counts.{count-of}
 use Rattle.phd_counts.specs.Exact.{exact}
 
 -- a row's name lies in the name bytes, and its numbers are small
@@ -24,13 +23,17 @@ pub record Short (names : List ℕ) (r : Row) : Type 0 where
   pub few : r .count < 2 ^ 31
   pub type : r .prim < 8
 
--- so it is of all rows of a table
-pub record AllShort (names rows : List ℕ) : Type 0 where
-  pub row : (i : ℕ) → i < row-count rows → Short names (row-at rows i)
+-- so it is of all rows
+pub record AllShort (names : List ℕ) (rows : List Row) : Type 0 where
+  pub row : All (Short names) rows
 
--- each row's references lie in their table, and all of them are no more than it has
-pub record AllLinked (refs rows : List ℕ) : Type 0 where
-  pub span : (i : ℕ) → i < row-count rows → row-at rows i .first + row-at rows i .count ≤ length refs
+-- a row's references lie in their table
+abbrev pub Linked : List ℕ → Row → Type 0
+Linked refs r = r .first + r .count ≤ length refs
+
+-- so do those of all rows, and all of them are no more than it has
+pub record AllLinked (refs : List ℕ) (rows : List Row) : Type 0 where
+  pub span : All (Linked refs) rows
   pub all : sum count-of rows ≤ length refs
 
 -- ---- from the tests to the facts
@@ -43,7 +46,7 @@ small r name (an-object _ size _ prim _) = (omega arith, omega arith)
 small r name (an-array _ size _ _ prim _) = (omega arith, omega arith)
 small r name (a-primitive _ _ _ size _ prim _) = (omega arith, omega arith)
 
-module _ (h : Facts) (names refs rows : List ℕ) where
+module _ (h : Facts) (names refs : List ℕ) where
   short-of : (index : ℕ) (r : Row) → good-row h names refs index r ≡ true → Short names r
   unfolding rec-of
   short-of index r g =
@@ -51,11 +54,11 @@ module _ (h : Facts) (names refs rows : List ℕ) where
       let s = small r _ (good-of h names refs index r g .kinded) in
       record { named = l .named; short = l .short; size = s .0; few = l .few; type = s .1 }
 
-  pub all-short : AllRight h names refs rows → AllShort names rows
-  all-short a = record { row = each-row h names refs rows (Short names) short-of (a .1) }
+  pub all-short : (rows : List Row) → AllRight h names refs rows → AllShort names rows
+  all-short rows a = record { row = each-row h names refs (Short names) short-of rows (a .1) }
 
-  pub all-linked : AllRight h names refs rows → AllLinked refs rows
-  all-linked a = record {
-    span = each-row h names refs rows (λ r. r .first + r .count ≤ length refs) (λ index r g. lent-of h names refs index r g .span) (a .1);
+  pub all-linked : (rows : List Row) → AllRight h names refs rows → AllLinked refs rows
+  all-linked rows a = record {
+    span = each-row h names refs (Linked refs) (λ index r g. lent-of h names refs index r g .span) rows (a .1);
     all = exact h names refs rows a .lent;
   }

@@ -1,9 +1,6 @@
--- Classic (the text as a list of lines, and what a text gives), Cases (01's dump, as text) and Firsts (the first row of a table
--- that is so and so, which the class search gives). The rest is for proofs: Search (the search, row by row), Fine (what the
--- text asks of good rows, as facts) and Alike (tables that differ in their rows' offsets alone give the same text).
+-- Classic (the text as a list of lines, and what an operation that writes it gives), Cases (01's dump, as text) and ClassRows (class
+-- rows, and rows without their class). Fine is for proofs: what the text asks of good rows, as facts.
 pub mod Classic
 pub mod Cases
-pub mod Firsts
-pub mod Search
+pub mod ClassRows
 pub mod Fine
-pub mod Alike

@@ -3,12 +3,14 @@
 ghost use mathlib.Core.Path.{_≡_};
 ghost use Prim.Native.Nat.{_+_, _≤_, _<_};
 ghost use lib.ListN.{length, getD};
-ghost use Rattle.phd_rows.specs.Judged.{classed};
-ghost use Rattle.classic.specs.Classic.{letters, signature, first-row, is-class-named, is-lost, class-at, class-named, found-row};
+ghost use Rattle.table.specs.CheckOrder.{classed};
+ghost use Rattle.table.specs.Rows.{rows-of};
+ghost use Rattle.table.specs.Search.{first-row, found-row};
+ghost use Rattle.classic.specs.Classic.{letters, signature, is-class-named, is-lost, class-at, class-named};
 ghost use Rattle.classic.specs.Fine.{AllShort};
-use phd_rows::Found;
-use phd_rows::Row;
-use phd_rows::Written;
+use table::Answer;
+use table::Row;
+use table::Search;
 
 // The signature letters of the primitive types, by type.
 const LETTERS: [u8; 8] = [0x5A, 0x43, 0x46, 0x44, 0x42, 0x53, 0x49, 0x4A];
@@ -23,19 +25,19 @@ pub fn letter(prim: u64) -> u8
 }
 
 // The first class row with that address.
-pub fn class_at(rows: &[u64], address: u64) -> Found
-    ensures { λ r. ⌜ r ≡ class-at (now (rows .entry)) address ⌝ }
+pub fn class_at(rows: &[u64], address: u64) -> Search
+    ensures { λ r. ⌜ r ≡ class-at (rows-of (now (rows .entry))) address ⌝ }
 {
-    let n = rows.len() / phd::ROW;
+    let n = rows.len() / table::ROW;
     let mut i: usize = 0;
     while i < n {
-        let row = phd_rows::row_at(rows, i);
+        let row = table::row_at(rows, i);
         if (row.kind == 1) & (row.address == address) {
-            return Found::At(i);
+            return Search::At(i);
         }
         i += 1;
     }
-    Found::Nowhere
+    Search::NotFound
 }
 
 // Whether a row is a class row, named as an array of a primitive type is.
@@ -52,29 +54,29 @@ fn named(names: &[u8], row: Row, prim: u64) -> bool
 }
 
 // The first class row so named.
-pub fn class_named(names: &[u8], rows: &[u64], prim: u64) -> Found
+pub fn class_named(names: &[u8], rows: &[u64], prim: u64) -> Search
     requires { ⌜ prim < 8 ⌝ }
-    requires { ⌜ AllShort (now names) (now rows) ⌝ }
-    ensures { λ r. ⌜ r ≡ class-named (now (names .entry)) (now (rows .entry)) (signature prim) ⌝ }
+    requires { ⌜ AllShort (now names) (rows-of (now rows)) ⌝ }
+    ensures { λ r. ⌜ r ≡ class-named (now (names .entry)) (rows-of (now (rows .entry))) (signature prim) ⌝ }
 {
-    let n = rows.len() / phd::ROW;
+    let n = rows.len() / table::ROW;
     let mut i: usize = 0;
     while i < n {
-        let row = phd_rows::row_at(rows, i);
+        let row = table::row_at(rows, i);
         if named(names, row, prim) {
-            return Found::At(i);
+            return Search::At(i);
         }
         i += 1;
     }
-    Found::Nowhere
+    Search::NotFound
 }
 
 // The class row with that address; where there is none, a row of zeros.
 pub fn class_row(rows: &[u64], address: u64) -> Row
-    ensures { λ r. ⌜ r ≡ found-row (now (rows .entry)) (class-at (now (rows .entry)) address) ⌝ }
+    ensures { λ r. ⌜ r ≡ found-row (rows-of (now (rows .entry))) (class-at (rows-of (now (rows .entry))) address) ⌝ }
 {
     let found = class_at(rows, address);
-    let Found::At(i) = found else {
+    let Search::At(i) = found else {
         return Row {
             kind: 0,
             address: 0,
@@ -90,21 +92,21 @@ pub fn class_row(rows: &[u64], address: u64) -> Row
             prim: 0,
         };
     };
-    phd_rows::row_at(rows, i)
+    table::row_at(rows, i)
 }
 
 // 18 with the first object or object array for whose class word there is no class row; else 0.
-pub fn check_classes(rows: &[u64]) -> Written
-    ensures { λ r. ⌜ r ≡ classed (first-row (is-lost (now (rows .entry))) (now (rows .entry))) ⌝ }
+pub fn check_classes(rows: &[u64]) -> Answer
+    ensures { λ r. ⌜ r ≡ classed (first-row (is-lost (rows-of (now (rows .entry)))) (rows-of (now (rows .entry)))) ⌝ }
 {
-    let n = rows.len() / phd::ROW;
+    let n = rows.len() / table::ROW;
     let mut i: usize = 0;
     while i < n {
-        let row = phd_rows::row_at(rows, i);
+        let row = table::row_at(rows, i);
         if (row.kind == 2) | (row.kind == 3) {
             let found = class_at(rows, row.word);
-            let Found::At(_) = found else {
-                return Written {
+            let Search::At(_) = found else {
+                return Answer {
                     reply: 18,
                     place: i,
                 };
@@ -112,5 +114,5 @@ pub fn check_classes(rows: &[u64]) -> Written
         }
         i += 1;
     }
-    Written { reply: 0, place: 0 }
+    Answer { reply: 0, place: 0 }
 }

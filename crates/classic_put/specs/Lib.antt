@@ -1,2 +1,2 @@
--- Digits: how many digits and bytes the parts of a text are.
-pub mod Digits
+-- Lengths: how many bytes addresses and lists of references have.
+pub mod Lengths

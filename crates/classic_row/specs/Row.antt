@@ -11,19 +11,21 @@ use lib.Dec.{eqb}
 use Rattle.layout.specs.Numbers.{pick}
 use Rattle.layout_put.specs.Put.{join}
 use Rattle.phd.specs.Shapes.{Word}
-use Rattle.phd_rows.specs.Rows.{of-kind, name-of}
+use Rattle.table.specs.Rows.{of-kind, name-of, no-row, all-nth}
 use Rattle.phd_rows.specs.Kept.{length-refs-of, length-name-of}
-use Rattle.phd_rows.specs.declared.Row.{Row}
-use Rattle.phd_rows.specs.declared.Found.{Found}
-use Rattle.phd_rows.specs.declared.Found.the-variants.{At, Nowhere}
-use Rattle.classic.specs.Classic.{ascii, places, figure, address, class-at, no-row, found-row, signature, array-type, naming, type-of, bytes-of, first-line, second-line, ended}
-use Rattle.classic.specs.Search.{found-below}
+use Rattle.table.specs.Search.{found-row, found-below}
+use Rattle.table.specs.declared.Row.{Row}
+use Rattle.table.specs.declared.Search.the-variants.{At, NotFound}
+use Rattle.table.specs.declared.Search.{Search}
+use Rattle.digits.specs.Digits.{ascii, places, figure}
+use Rattle.classic.specs.Classic.{address, class-at, signature, array-type, naming, type-of, bytes-of, first-line, second-line, ended}
 use Rattle.classic.specs.Fine.{Short, AllShort}
-use Rattle.classic_put.specs.Digits.{length-decimal, places-most, length-address, length-listed}
+use Rattle.classic_put.specs.Lengths.{length-address, length-listed}
+use Rattle.digits.specs.Lengths.{length-decimal, places-most}
 use Rattle.classic_row.specs.declared.Entry.{Entry}
 
 -- what the first line says of a row beside its address
-unfoldable pub entry : List ℕ → Row → Entry
+unfoldable pub entry : List Row → Row → Entry
 entry rows r = record { bytes = bytes-of rows r; place = naming rows r .place; len = naming rows r .namelen }
 
 -- the name, the type, `CLS` or `OBJ` behind the bytes, and the first line, by an entry
@@ -41,11 +43,11 @@ entry-line word names r e = join (
     address word (r .address) ∷ figure " [" (e .bytes) ∷ mark (r .kind) ∷ entry-type names (r .kind) (r .prim) e ∷ [])
 
 -- a row's two lines, as bytes
-unfoldable pub row-text : ℕ → (names refs rows : List ℕ) → Row → List ℕ
+unfoldable pub row-text : ℕ → (names refs : List ℕ) → List Row → Row → List ℕ
 row-text word names refs rows r = ended (first-line word names rows r ∷ second-line word names refs rows r ∷ [])
 
 -- how many they are
-unfoldable pub row-size : ℕ → (names rows : List ℕ) → Row → ℕ
+unfoldable pub row-size : ℕ → (names : List ℕ) → List Row → Row → ℕ
 row-size word names rows r =
     let e : Entry = entry rows r in
     let one : ℕ = 2 + word / 4 in
@@ -53,30 +55,30 @@ row-size word names rows r =
 
 -- ---- the two say the same
 
-pub line-is : (word : ℕ) (names rows : List ℕ) (r : Row) → entry-line word names r (entry rows r) ≡ first-line word names rows r
+pub line-is : (word : ℕ) (names : List ℕ) (rows : List Row) (r : Row) → entry-line word names r (entry rows r) ≡ first-line word names rows r
 unfolding entry-line first-line entry entry-type type-of mark name-of
 line-is word names rows r = refl
 
 -- ---- how large the numbers are
 
 -- the class row that names a type lies in the name bytes, and its numbers are small, where so it is of all rows
-pub naming-short : (names rows : List ℕ) (r : Row) → AllShort names rows → Short names r → Short names (naming rows r)
+pub naming-short : (names : List ℕ) (rows : List Row) (r : Row) → AllShort names rows → Short names r → Short names (naming rows r)
 unfolding naming found-row
 naming-short names rows r a s = by-kind (of-kind 1 r) (of-kind 4 r)
   where
     none : Short names no-row
     none = record { named = omega arith; short = omega arith; size = omega arith; few = omega arith; type = omega arith }
 
-    found : (f : Found) → class-at rows (r .word) ≡ f → Short names (found-row rows f)
-    found (At i) e = a .row i (found-below _ rows i e)
-    found Nowhere e = none
+    found : (f : Search) → class-at rows (r .word) ≡ f → Short names (found-row rows f)
+    found (At i) e = all-nth _ rows i (a .row) (found-below _ rows i e)
+    found NotFound e = none
 
     by-kind : (b c : Bool) → Short names (pick b r (pick c no-row (found-row rows (class-at rows (r .word)))))
     by-kind true c = s
     by-kind false true = none
     by-kind false false = found _ refl
 
-pub bytes-small : (names rows : List ℕ) (r : Row) → AllShort names rows → Short names r → bytes-of rows r < 2 ^ 34
+pub bytes-small : (names : List ℕ) (rows : List Row) (r : Row) → AllShort names rows → Short names r → bytes-of rows r < 2 ^ 34
 unfolding bytes-of
 bytes-small names rows r a s = by-kind (of-kind 1 r) (of-kind 2 r)
   where
@@ -115,14 +117,14 @@ length-mark kind = by-kind (eqb kind 1)
     by-kind true = refl
     by-kind false = refl
 
-pub length-row : (word : ℕ) (names refs rows : List ℕ) (r : Row) → r .first + r .count ≤ length refs
+pub length-row : (word : ℕ) (names refs : List ℕ) (rows : List Row) (r : Row) → r .first + r .count ≤ length refs
     → length (row-text word names refs rows r) ≡ row-size word names rows r
 unfolding row-text ended row-size second-line entry-line
 length-row word names refs rows r l =
     rw (← line-is) (simp (length-append, length-address, length-decimal, length-listed, length-mark, length-type, length-refs-of) (omega arith))
 
 -- how many they are at most
-pub row-size-most : (word : ℕ) (names rows : List ℕ) (r : Row) → Word word → AllShort names rows → Short names r
+pub row-size-most : (word : ℕ) (names : List ℕ) (rows : List Row) (r : Row) → Word word → AllShort names rows → Short names r
     → row-size word names rows r ≤ 65700 + r .count * 19
 unfolding row-size entry name-of
 row-size-most word names rows r w a s =
@@ -133,11 +135,11 @@ row-size-most word names rows r w a s =
     let m = length-name-of names (naming rows r) (n .named) in
     ⊎-elim (λ e. rw e (omega arith)) (λ e. rw e (omega arith)) w
 
-pub row-parts : (word : ℕ) (names refs rows : List ℕ) (r : Row)
+pub row-parts : (word : ℕ) (names refs : List ℕ) (rows : List Row) (r : Row)
     → row-text word names refs rows r ≡ first-line word names rows r ++ ((0x0A ∷ []) ++ (second-line word names refs rows r ++ (0x0A ∷ [])))
 unfolding row-text ended
 row-parts word names refs rows r = refl
 
-pub entry-parts : (word : ℕ) (names refs rows : List ℕ) (r : Row)
+pub entry-parts : (word : ℕ) (names refs : List ℕ) (rows : List Row) (r : Row)
     → row-text word names refs rows r ≡ entry-line word names r (entry rows r) ++ ((0x0A ∷ []) ++ (second-line word names refs rows r ++ (0x0A ∷ [])))
 entry-parts word names refs rows r = rw line-is (row-parts word names refs rows r)

@@ -6,11 +6,11 @@ ghost use lib.ListN.{length, getD};
 ghost use lib.Dec.{eqb};
 ghost use Rattle.layout_put.specs.Puts.{Puts, Room};
 ghost use Rattle.phd.specs.Shapes.{Word};
-ghost use Rattle.phd_rows.specs.Rows.{refs-of};
+ghost use Rattle.table.specs.Rows.{refs-of};
 ghost use Rattle.classic.specs.Classic.{array-type, address, listed};
 ghost use Rattle.classic_row.specs.Row.{entry-name, entry-type, mark, entry-line};
 use super::Entry;
-use phd_rows::Row;
+use table::Row;
 
 // Whether a name begins with `[`.
 fn is_array(names: &[u8], e: Entry) -> bool
@@ -48,12 +48,12 @@ fn put_array(out: &mut [u8], at: usize, names: &[u8], e: Entry) -> usize
     ensures { λ r. ⌜ Puts (now (out .entry)) at (array-type (entry-name (now (names .entry)) e)) (now (out .exit)) r ⌝ }
 {
     if is_array(names, e) {
-        let inner = classic_put::put_all(out, at, b"[");
-        return classic_put::put_part(out, inner, names, e.place, e.len);
+        let inner = layout_put::put_all(out, at, b"[");
+        return layout_put::put_bytes(out, inner, names, e.place, e.len);
     }
-    let name = classic_put::put_all(out, at, b"[L");
-    let end = classic_put::put_part(out, name, names, e.place, e.len);
-    classic_put::put_all(out, end, b";")
+    let name = layout_put::put_all(out, at, b"[L");
+    let end = layout_put::put_bytes(out, name, names, e.place, e.len);
+    layout_put::put_all(out, end, b";")
 }
 
 // Puts the type.
@@ -64,13 +64,13 @@ fn put_type(out: &mut [u8], at: usize, names: &[u8], kind: u64, prim: u64, e: En
     ensures { λ r. ⌜ Puts (now (out .entry)) at (entry-type (now (names .entry)) kind prim e) (now (out .exit)) r ⌝ }
 {
     if kind == 4 {
-        let name = classic_put::put_all(out, at, b"[");
-        return classic_put::put_byte(out, name, classic::letter(prim));
+        let name = layout_put::put_all(out, at, b"[");
+        return layout_put::put_byte(out, name, classic::letter(prim));
     }
     if kind == 3 {
         return put_array(out, at, names, e);
     }
-    classic_put::put_part(out, at, names, e.place, e.len)
+    layout_put::put_bytes(out, at, names, e.place, e.len)
 }
 
 // Puts the end of the bytes, and `CLS` or `OBJ`.
@@ -79,9 +79,9 @@ fn put_mark(out: &mut [u8], at: usize, kind: u64) -> usize
     ensures { λ r. ⌜ Puts (now (out .entry)) at (mark kind) (now (out .exit)) r ⌝ }
 {
     if kind == 1 {
-        return classic_put::put_all(out, at, b"] CLS ");
+        return layout_put::put_all(out, at, b"] CLS ");
     }
-    classic_put::put_all(out, at, b"] OBJ ")
+    layout_put::put_all(out, at, b"] OBJ ")
 }
 
 // Puts the first line.
@@ -93,7 +93,7 @@ pub fn put_first(out: &mut [u8], at: usize, word: u64, names: &[u8], row: Row, e
     ensures { λ r. ⌜ Puts (now (out .entry)) at (entry-line word (now (names .entry)) row e) (now (out .exit)) r ⌝ }
 {
     let a = classic_put::put_address(out, at, word, row.address);
-    let b = classic_put::put_figure(out, a, b" [", e.bytes);
+    let b = digits::put_figure(out, a, b" [", e.bytes);
     let c = put_mark(out, b, row.kind);
     put_type(out, c, names, row.kind, row.prim, e)
 }

@@ -5,8 +5,9 @@ use Prim.Native.Nat.{ℕ}
 use Rattle.layout.specs.Numbers.{pick}
 use Rattle.layout.specs.declared.Text.{Text}
 use Rattle.layout_put.specs.Put.{join}
-use Rattle.phd_rows.specs.Rows.{vm-text}
-use Rattle.classic.specs.Classic.{ascii, version, ended}
+use Rattle.phd_rows.specs.Good.{vm-text}
+use Rattle.digits.specs.Digits.{ascii}
+use Rattle.classic.specs.Classic.{version, ended}
 use Rattle.classic_text.specs.Parts.{version-text}
 
 module _ (names : List ℕ) (t : Text) where

@@ -6,8 +6,9 @@ use mathlib.Core.List.{List, _++_}
 use lib.ListN.{length}
 use lib.Seq.{sets}
 use Rattle.layout_put.specs.Puts.{Puts, Room, puts-then, room-first, room-behind}
+use Rattle.table.specs.declared.Row.{Row}
 use Rattle.phd.specs.declared.Facts.{Facts}
-use Rattle.phd_rows.specs.Judged.{AllRight}
+use Rattle.phd_rows.specs.Good.{AllRight}
 use Rattle.phd_counts.specs.Counts.{tally-of}
 use Rattle.phd_counts.specs.Exact.{exact}
 use Rattle.phd_counts.specs.declared.Tally.{Tally}
@@ -17,7 +18,7 @@ use Rattle.classic_text.specs.Sizes.{tally-totalled, trailers-most}
 use Rattle.classic_text.specs.Ways.{rows-small}
 use Rattle.classic_text.specs.Promises.{sized}
 
-module _ (h : Facts) (names refs rows : List ℕ) (t : Tally) (e : t ≡ tally-of rows) where
+module _ (h : Facts) (names refs : List ℕ) (rows : List Row) (t : Tally) (e : t ≡ tally-of rows) where
   parts : text-of h names refs rows ≡ version-text names (h .vm) ++ (rows-text (h .word) names refs rows ++ trailers-by t)
   parts = rw e (text-parts h names refs rows)
 

@@ -5,11 +5,13 @@ use Prim.Native.Nat.{ℕ, _+_, _^_, _<_}
 use mathlib.Core.List.{List, [], _∷_, _++_, append-assoc}
 use Rattle.layout.specs.declared.Text.{Text}
 use Rattle.layout_put.specs.Put.{join}
+use Rattle.table.specs.declared.Row.{Row}
 use Rattle.phd.specs.declared.Facts.{Facts}
-use Rattle.phd.specs.Table.{row-count}
-use Rattle.phd_counts.specs.Counts.{sum, tally-of}
+use Rattle.table.specs.Sums.{sum}
+use Rattle.phd_counts.specs.Counts.{tally-of}
 use Rattle.phd_counts.specs.declared.Tally.{Tally}
-use Rattle.classic.specs.Classic.{ascii, figure, row-lines, version, breakdown, totals, ended, lines, text-of}
+use Rattle.digits.specs.Digits.{ascii, figure}
+use Rattle.classic.specs.Classic.{row-lines, version, breakdown, totals, ended, lines, text-of}
 use Rattle.classic_row.specs.Row.{row-size}
 
 -- ---- the version line
@@ -19,10 +21,10 @@ version-text names t = ended (version names t ∷ [])
 
 -- ---- the rows
 
-unfoldable pub rows-text : ℕ → (names refs rows : List ℕ) → List ℕ
-rows-text word names refs rows = ended (row-lines word names refs rows 0 (row-count rows))
+unfoldable pub rows-text : ℕ → (names refs : List ℕ) → List Row → List ℕ
+rows-text word names refs rows = ended (row-lines word names refs rows rows)
 
-unfoldable pub rows-size : ℕ → (names rows : List ℕ) → ℕ
+unfoldable pub rows-size : ℕ → (names : List ℕ) → List Row → ℕ
 rows-size word names rows = sum (row-size word names rows) rows
 
 -- ---- the trailers
@@ -56,11 +58,11 @@ ended-append [] ms = refl
 ended-append (l ∷ ls) ms = rw (ended-append ls ms, append-assoc)
 
 -- the trailers by the tally of the rows are those of the rows
-trailers-is : (rows : List ℕ) → trailers-by (tally-of rows) ≡ ended (breakdown rows ∷ totals rows ∷ [])
+trailers-is : (rows : List Row) → trailers-by (tally-of rows) ≡ ended (breakdown rows ∷ totals rows ∷ [])
 unfolding trailers-by breakdown-by totals-by tally-of breakdown totals
 trailers-is rows = refl
 
-pub text-parts : (h : Facts) (names refs rows : List ℕ)
+pub text-parts : (h : Facts) (names refs : List ℕ) (rows : List Row)
     → text-of h names refs rows ≡ version-text names (h .vm) ++ (rows-text (h .word) names refs rows ++ trailers-by (tally-of rows))
 unfolding text-of lines version-text rows-text ended
 text-parts h names refs rows = rw (trailers-is rows) (simp (ended-append, append-assoc))

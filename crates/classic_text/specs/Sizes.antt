@@ -1,23 +1,26 @@
 -- How many bytes the version line, the lines of the rows and the trailers have, and how many they are at most.
 -- Assumes nothing.
 use mathlib.Core.Path.{_≡_, refl}
-use Prim.Native.Nat.{ℕ, zero, suc, _+_, _*_, _^_, _≤_, _<_}
+use Prim.Native.Nat.{ℕ, _+_, _*_, _^_, _≤_, _<_}
 use native.Mathlib.Omega.{arith}
 use mathlib.Core.Bool.{Bool, true, false}
 use mathlib.Core.List.{List, [], _∷_, _++_}
 use lib.ListN.{length, length-append}
 use Rattle.layout.specs.Numbers.{pick}
 use Rattle.layout.specs.declared.Text.{Text}
+use Rattle.table.specs.declared.Row.{Row}
 use Rattle.phd.specs.Shapes.{Word}
-use Rattle.phd.specs.Table.{row-count}
-use Rattle.phd_rows.specs.Rows.{vm-text, row-at}
+use Rattle.phd_rows.specs.Good.{vm-text}
+use Rattle.table.specs.Rows.{All}
 use Rattle.phd_rows.specs.Kept.{Vm, length-text}
-use Rattle.phd_counts.specs.Counts.{one-of, count-of, sum-from, sum, nulls, tally-of}
+use Rattle.table.specs.Sums.{sum}
+use Rattle.phd_counts.specs.Counts.{one-of, count-of, nulls, tally-of}
 use Rattle.phd_counts.specs.Counting.{Few, sum-most}
 use Rattle.phd_counts.specs.declared.Tally.{Tally}
-use Rattle.classic.specs.Classic.{ascii, places, row-lines, version, ended}
-use Rattle.classic.specs.Fine.{AllShort, AllLinked}
-use Rattle.classic_put.specs.Digits.{length-decimal, places-most}
+use Rattle.digits.specs.Digits.{ascii, places}
+use Rattle.classic.specs.Classic.{row-lines, version, ended}
+use Rattle.classic.specs.Fine.{Short, AllShort, Linked, AllLinked}
+use Rattle.digits.specs.Lengths.{length-decimal, places-most}
 use Rattle.classic_row.specs.Row.{row-text, row-size, length-row, row-size-most}
 use Rattle.classic_text.specs.Parts.{Totalled, ended-append, version-text, rows-text, rows-size, trailers-by, breakdown-by, totals-by}
 
@@ -40,44 +43,44 @@ version-most names t v = rw (length-version names t v) (by (t .there) refl)
 
 -- ---- the rows
 
--- the lines of a row, and of those behind it
-pub lines-more : (word : ℕ) (names refs rows : List ℕ) (i n : ℕ)
-    → ended (row-lines word names refs rows i (suc n)) ≡ row-text word names refs rows (row-at rows i) ++ ended (row-lines word names refs rows (suc i) n)
+-- the lines of a row, and of those after it; `rows` are all, among which classes are found
+pub lines-more : (word : ℕ) (names refs : List ℕ) (rows : List Row) (r : Row) (some : List Row)
+    → ended (row-lines word names refs rows (r ∷ some)) ≡ row-text word names refs rows r ++ ended (row-lines word names refs rows some)
 unfolding row-lines row-text
-lines-more word names refs rows i n = ended-append (_ ∷ _ ∷ []) _
+lines-more word names refs rows r some = ended-append (_ ∷ _ ∷ []) _
 
-module _ (word : ℕ) (names refs rows : List ℕ) (l : AllLinked refs rows) where
-  long-from : (n i : ℕ) → i + n ≤ row-count rows → length (ended (row-lines word names refs rows i n)) ≡ sum-from (row-size word names rows) rows i n
-  unfolding row-lines ended sum-from
-  long-from zero i b = refl
-  long-from (suc n) i b =
-      let r = length-row word names refs rows (row-at rows i) (l .span i (omega arith)) in
-      let t = long-from n (suc i) (omega arith) in
-      rw (lines-more, length-append, r, t)
+module _ (word : ℕ) (names refs : List ℕ) (rows : List Row) where
+  long-of : (some : List Row) → All (Linked refs) some → length (ended (row-lines word names refs rows some)) ≡ sum (row-size word names rows) some
+  unfolding row-lines ended sum
+  long-of [] a = refl
+  long-of (r ∷ some) a =
+      let l = length-row word names refs rows r (a .0) in
+      let t = long-of some (a .1) in
+      rw (lines-more, length-append, l, t)
 
-  pub rows-long : length (rows-text word names refs rows) ≡ rows-size word names rows
+  pub rows-long : AllLinked refs rows → length (rows-text word names refs rows) ≡ rows-size word names rows
   unfolding rows-text rows-size
-  rows-long = long-from (row-count rows) 0 (omega arith)
+  rows-long l = long-of rows (l .span)
 
-module _ (word : ℕ) (names refs rows : List ℕ) (w : Word word) (a : AllShort names rows) where
-  most-from : (n i : ℕ) → i + n ≤ row-count rows → sum-from (row-size word names rows) rows i n ≤ n * 65700 + sum-from count-of rows i n * 19
-  unfolding sum-from
-  most-from zero i b = omega arith
-  most-from (suc n) i b =
-      let r = row-size-most word names rows (row-at rows i) w a (a .row i (omega arith)) in
-      let t = most-from n (suc i) (omega arith) in
+module _ (word : ℕ) (names refs : List ℕ) (rows : List Row) (w : Word word) (a : AllShort names rows) where
+  most-of : (some : List Row) → All (Short names) some → sum (row-size word names rows) some ≤ length some * 65700 + sum count-of some * 19
+  unfolding sum
+  most-of [] b = omega arith
+  most-of (r ∷ some) b =
+      let m = row-size-most word names rows r w a (b .0) in
+      let t = most-of some (b .1) in
       omega arith
 
-  pub rows-size-most : AllLinked refs rows → row-count rows ≤ 2 ^ 30 → length refs ≤ 2 ^ 30 → rows-size word names rows ≤ 2 ^ 30 * 65700 + 2 ^ 30 * 19
+  pub rows-size-most : AllLinked refs rows → length rows ≤ 2 ^ 30 → length refs ≤ 2 ^ 30 → rows-size word names rows ≤ 2 ^ 30 * 65700 + 2 ^ 30 * 19
   unfolding rows-size
   rows-size-most l f g =
-      let m = most-from (row-count rows) 0 (omega arith) in
+      let m = most-of rows (a .row) in
       let c = l .all in
       omega arith
 
 -- ---- the trailers
 
-pub tally-totalled : (rows : List ℕ) → Few rows → Totalled (tally-of rows)
+pub tally-totalled : (rows : List Row) → Few rows → Totalled (tally-of rows)
 unfolding tally-of
 tally-totalled rows f =
     let r = f .few-refs in
@@ -89,13 +92,13 @@ pub length-trailers : (t : Tally)
 unfolding trailers-by breakdown-by totals-by ended
 length-trailers t = simp (length-append, length-decimal) (omega arith)
 
-pub trailers-most : (rows : List ℕ) → Few rows → length (trailers-by (tally-of rows)) ≤ 253
+pub trailers-most : (rows : List Row) → Few rows → length (trailers-by (tally-of rows)) ≤ 253
 unfolding tally-of
 trailers-most rows f =
     let m : (n : ℕ) → n < 2 ^ 62 → places n ≤ 20 = λ n l. places-most n (omega arith) in
-    let k : (k : ℕ) → places (sum (one-of k) rows) ≤ 20 = λ k. let s = sum-most k rows 0 (row-count rows) in let r = f .few-rows in m _ (omega arith) in
+    let k : (k : ℕ) → places (sum (one-of k) rows) ≤ 20 = λ k. let s = sum-most k rows in let r = f .few-rows in m _ (omega arith) in
     let n = f .few-nulls in
-    let r = m (row-count rows) (omega (arith, f .few-rows)) in
+    let r = m (length rows) (omega (arith, f .few-rows)) in
     let s = m (sum count-of rows + nulls rows) (tally-totalled rows f .small) in
     let z = m (nulls rows) (omega arith) in
     rw length-trailers (omega (arith, k 1, k 2, k 3, k 4))

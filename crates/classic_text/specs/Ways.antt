@@ -9,34 +9,36 @@ use lib.ListN.{length}
 use lib.Dec.{leb}
 use borrow.Author.Tests.{le-leb}
 use Rattle.layout.specs.Numbers.{both}
+use Rattle.table.specs.declared.Row.{Row}
 use Rattle.phd.specs.declared.Facts.{Facts}
-use Rattle.phd_rows.specs.Good.{good-header, bad-of}
-use Rattle.phd_rows.specs.Judged.{Outcome, judged, checked, classed, AllRight, Exact, exact}
-use Rattle.phd_rows.specs.Asked.{Split, asked-checked, asked-classed, asked-counts, asked-split as by-asked}
+use Rattle.phd_rows.specs.Good.{good-header, bad-of, AllRight}
+use Rattle.table.specs.CheckOrder.{Outcome, judged, checked, classed, Exact, exact}
+use Rattle.table.specs.SizeQuery.{Split, asked-checked, asked-classed, asked-counts, asked-split as by-asked}
 use Rattle.phd_rows.specs.Kept.{Vm, vm-lent, vm-of, word-of, few-rows, few-refs}
-use Rattle.phd_rows.specs.declared.Found.{Found}
-use Rattle.phd_rows.specs.declared.Found.the-variants.{Nowhere}
-use Rattle.phd_rows.specs.declared.Written.{Written}
-use Rattle.classic.specs.Classic.{first-row, is-lost, text-of, texting, text-sizing}
+use Rattle.table.specs.Search.{first-row}
+use Rattle.table.specs.declared.Answer.{Answer}
+use Rattle.table.specs.declared.Search.the-variants.{NotFound}
+use Rattle.table.specs.declared.Search.{Search}
+use Rattle.classic.specs.Classic.{is-lost, text-of, text-rows, text-rows-size}
 use Rattle.classic.specs.Fine.{all-short, all-linked}
 use Rattle.classic_text.specs.Parts.{version-text, rows-size}
 use Rattle.classic_text.specs.Sizes.{version-most, rows-size-most}
 
 -- ---- the ways
 
-module _ (h : Facts) (names refs rows : List ℕ) (room : ℕ) where
+module _ (h : Facts) (names refs : List ℕ) (rows : List Row) (room : ℕ) where
   abbrev text : List ℕ
   text = text-of h names refs rows
 
-  abbrev lost : Found
+  abbrev lost : Search
   lost = first-row (is-lost rows) rows
 
   abbrev given : Outcome
-  given = texting h names refs rows room
+  given = text-rows h names refs rows room
 
   -- by the tests, each reply exactly in its case
   pub by-tests : Exact (good-header h names rows refs) (bad-of h names refs rows) lost (leb (length text) room) text given
-  unfolding texting
+  unfolding text-rows
   by-tests = exact _ _ _ _ _
 
 -- ---- asking for the size
@@ -45,44 +47,44 @@ alone : (b : Bool) → b ≡ both b true
 alone true = refl
 alone false = refl
 
-module _ (h : Facts) (names refs rows : List ℕ) where
+module _ (h : Facts) (names refs : List ℕ) (rows : List Row) where
   -- by the first two tests, and by the third
-  pub check-stops : (w : Written) → w ≡ checked (good-header h names rows refs) (bad-of h names refs rows) → (w .reply ≡ 0 → ⊥) → w ≡ text-sizing h names refs rows
-  unfolding text-sizing
+  pub check-stops : (w : Answer) → w ≡ checked (good-header h names rows refs) (bad-of h names refs rows) → (w .reply ≡ 0 → ⊥) → w ≡ text-rows-size h names refs rows
+  unfolding text-rows-size
   check-stops w e z = asked-checked _ _ _ _ _ w e z
 
-  pub class-stops : AllRight h names refs rows → (w : Written) → w ≡ classed (first-row (is-lost rows) rows) → (w .reply ≡ 0 → ⊥) → w ≡ text-sizing h names refs rows
-  unfolding text-sizing
+  pub class-stops : AllRight h names refs rows → (w : Answer) → w ≡ classed (first-row (is-lost rows) rows) → (w .reply ≡ 0 → ⊥) → w ≡ text-rows-size h names refs rows
+  unfolding text-rows-size
   class-stops a w e z = asked-classed _ _ _ _ _ (a .0) (a .1) w e z
 
-  pub counts : AllRight h names refs rows → first-row (is-lost rows) rows ≡ Nowhere
-      → record { reply = 0; place = length (text-of h names refs rows) } ≡ text-sizing h names refs rows
-  unfolding text-sizing
+  pub counts : AllRight h names refs rows → first-row (is-lost rows) rows ≡ NotFound
+      → record { reply = 0; place = length (text-of h names refs rows) } ≡ text-rows-size h names refs rows
+  unfolding text-rows-size
   counts a f = asked-counts _ _ _ _ _ (a .0) (a .1) f refl
 
   -- asking is a text with just as much room as it takes
-  pub as-written : text-sizing h names refs rows ≡ texting h names refs rows (length (text-of h names refs rows)) .answer
-  unfolding texting text-sizing
+  pub as-written : text-rows-size h names refs rows ≡ text-rows h names refs rows (length (text-of h names refs rows)) .answer
+  unfolding text-rows text-rows-size
   as-written =
       ap (λ b. judged (good-header h names rows refs) (bad-of h names refs rows) (first-row (is-lost rows) rows) b (text-of h names refs rows) .answer)
       (sym (le-leb (length (text-of h names refs rows)) (length (text-of h names refs rows)) (omega arith)))
 
   -- a text asks for room beside all that asking asks
-  pub as-asked : (room : ℕ) → texting h names refs rows room
+  pub as-asked : (room : ℕ) → text-rows h names refs rows room
       ≡ judged (good-header h names rows refs) (bad-of h names refs rows) (first-row (is-lost rows) rows) (both (leb (length (text-of h names refs rows)) room) true) (text-of h names refs rows)
-  unfolding texting
+  unfolding text-rows
   as-asked room =
       ap (λ b. judged (good-header h names rows refs) (bad-of h names refs rows) (first-row (is-lost rows) rows) b (text-of h names refs rows))
       (alone (leb (length (text-of h names refs rows)) room))
 
   -- what it says of a text
-  pub asked-split : (w : Written) (room : ℕ) → w ≡ text-sizing h names refs rows → Split w room (texting h names refs rows room)
-  unfolding text-sizing
+  pub asked-split : (w : Answer) (room : ℕ) → w ≡ text-rows-size h names refs rows → Split w room (text-rows h names refs rows room)
+  unfolding text-rows-size
   asked-split w room e = rw (as-asked room) (by-asked _ _ _ _ _ w room e)
 
 -- ---- good tables
 
-module _ (h : Facts) (names refs rows : List ℕ) (a : AllRight h names refs rows) where
+module _ (h : Facts) (names refs : List ℕ) (rows : List Row) (a : AllRight h names refs rows) where
   pub good-vm-of : Vm names (h .vm)
   good-vm-of = vm-lent _ _ (vm-of h names rows refs (a .0))
 

@@ -2,14 +2,16 @@
 // The contract of the first is one equation with the definition; that of the second one for the answer, and one for the output.
 ghost use mathlib.Core.Path.{_≡_};
 ghost use lib.ListN.{length};
-ghost use Rattle.layout.specs.Lent.{stored};
-ghost use Rattle.phd_rows.specs.Judged.{AllRight};
-ghost use Rattle.phd_rows.specs.declared.Found.the-variants.{Nowhere};
-ghost use Rattle.classic.specs.Classic.{first-row, is-lost, texting, text-sizing};
+ghost use Rattle.phd_rows.specs.Good.{AllRight};
+ghost use Rattle.table.specs.Buffer.{stored};
+ghost use Rattle.table.specs.Rows.{rows-of};
+ghost use Rattle.table.specs.Search.{first-row};
+ghost use Rattle.table.specs.declared.Search.the-variants.{NotFound};
+ghost use Rattle.classic.specs.Classic.{is-lost, texting, text-sizing};
 ghost use Rattle.classic_text.specs.Measures.{Measures, Counted};
 use phd_counts::Tally;
 use phd_rows::Header;
-use phd_rows::Written;
+use table::Answer;
 
 mod rows;
 mod trailers;
@@ -17,15 +19,15 @@ mod version;
 
 // What is found of a text before a byte of it is put: its refusal, or its size and the counts that its trailers say.
 enum Measured {
-    Refused(Written),
+    Refused(Answer),
     Sized(usize, Tally),
 }
 
 // The size of the text of good tables in which every row has its class.
 fn count(header: Header, rows: &[u64], refs: &[u64], names: &[u8]) -> Measured
-    requires { ⌜ AllRight header (now names) (now refs) (now rows) ⌝ }
-    requires { ⌜ first-row (is-lost (now rows)) (now rows) ≡ Nowhere ⌝ }
-    ensures { λ r. ⌜ Measures header (now (names .entry)) (now (refs .entry)) (now (rows .entry)) r ⌝ }
+    requires { ⌜ AllRight header (now names) (now refs) (rows-of (now rows)) ⌝ }
+    requires { ⌜ first-row (is-lost (rows-of (now rows))) (rows-of (now rows)) ≡ NotFound ⌝ }
+    ensures { λ r. ⌜ Measures header (now (names .entry)) (now (refs .entry)) (rows-of (now (rows .entry))) r ⌝ }
 {
     let tally = phd_counts::count_all(rows);
     let first = version::size(names, header.vm);
@@ -35,7 +37,7 @@ fn count(header: Header, rows: &[u64], refs: &[u64], names: &[u8]) -> Measured
 
 // Checks the header, the rows and their classes, and sizes their text.
 fn measure(header: Header, rows: &[u64], refs: &[u64], names: &[u8]) -> Measured
-    ensures { λ r. ⌜ Measures header (now (names .entry)) (now (refs .entry)) (now (rows .entry)) r ⌝ }
+    ensures { λ r. ⌜ Measures header (now (names .entry)) (now (refs .entry)) (rows-of (now (rows .entry))) r ⌝ }
 {
     let checked = phd_rows::check(header, names, refs, rows);
     if checked.reply != 0 {
@@ -50,12 +52,12 @@ fn measure(header: Header, rows: &[u64], refs: &[u64], names: &[u8]) -> Measured
 
 // Asks how many bytes the whole rows of a table and their references take as classic text: everything is checked as for `text`,
 // and nothing is written.
-pub fn text_size(header: Header, rows: &[u64], refs: &[u64], names: &[u8]) -> Written
+pub fn text_size(header: Header, rows: &[u64], refs: &[u64], names: &[u8]) -> Answer
     ensures { λ r. ⌜ r ≡ text-sizing header (now (names .entry)) (now (refs .entry)) (now (rows .entry)) ⌝ }
 {
     match measure(header, rows, refs, names) {
         Measured::Refused(refusal) => refusal,
-        Measured::Sized(size, _) => Written {
+        Measured::Sized(size, _) => Answer {
             reply: 0,
             place: size,
         },
@@ -71,13 +73,13 @@ fn fit(
     refs: &[u64],
     names: &[u8],
     out: &mut [u8],
-) -> Written
-    requires { ⌜ Counted header (now names) (now refs) (now rows) size tally ⌝ }
+) -> Answer
+    requires { ⌜ Counted header (now names) (now refs) (rows-of (now rows)) size tally ⌝ }
     ensures is { λ r. ⌜ r ≡ texting header (now (names .entry)) (now (refs .entry)) (now (rows .entry)) (length (now (out .entry))) .answer ⌝ }
     ensures out { λ _. ⌜ now (out .exit) ≡ stored (now (out .entry)) (texting header (now (names .entry)) (now (refs .entry)) (now (rows .entry)) (length (now (out .entry))) .bytes) ⌝ }
 {
     if out.len() < size {
-        return Written {
+        return Answer {
             reply: 17,
             place: 0,
         };
@@ -85,7 +87,7 @@ fn fit(
     let at = version::put(out, names, header.vm);
     let end = rows::put(out, at, header.word, names, refs, rows);
     trailers::put(out, end, tally);
-    Written {
+    Answer {
         reply: 0,
         place: size,
     }
@@ -93,7 +95,7 @@ fn fit(
 
 // Writes the whole rows of a table and their references as classic text, to the start of the output. What the output holds
 // behind it stays as it was, and all of it where the text is refused.
-pub fn text(header: Header, rows: &[u64], refs: &[u64], names: &[u8], out: &mut [u8]) -> Written
+pub fn text(header: Header, rows: &[u64], refs: &[u64], names: &[u8], out: &mut [u8]) -> Answer
     ensures is { λ r. ⌜ r ≡ texting header (now (names .entry)) (now (refs .entry)) (now (rows .entry)) (length (now (out .entry))) .answer ⌝ }
     ensures out { λ _. ⌜ now (out .exit) ≡ stored (now (out .entry)) (texting header (now (names .entry)) (now (refs .entry)) (now (rows .entry)) (length (now (out .entry))) .bytes) ⌝ }
 {

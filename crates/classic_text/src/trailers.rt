@@ -11,13 +11,11 @@ pub fn size(t: Tally) -> usize
     ensures { λ r. ⌜ r ≡ length (trailers-by t) ⌝ }
 {
     let refs = t.refs + t.nulls;
-    let kinds = classic_put::places(t.classes)
-        + classic_put::places(t.objects)
-        + classic_put::places(t.arrays)
-        + classic_put::places(t.primitives);
-    let all = classic_put::places(t.rows)
-        + classic_put::places(refs)
-        + classic_put::places(t.nulls);
+    let kinds = digits::places(t.classes)
+        + digits::places(t.objects)
+        + digits::places(t.arrays)
+        + digits::places(t.primitives);
+    let all = digits::places(t.rows) + digits::places(refs) + digits::places(t.nulls);
     113 + kinds + all
 }
 
@@ -26,10 +24,10 @@ fn put_breakdown(out: &mut [u8], at: usize, t: Tally) -> usize
     requires { ⌜ Room (now out) at (breakdown-by t) ⌝ }
     ensures { λ r. ⌜ Puts (now (out .entry)) at (breakdown-by t) (now (out .exit)) r ⌝ }
 {
-    let a = classic_put::put_figure(out, at, b"// Breakdown - Classes: ", t.classes);
-    let b = classic_put::put_figure(out, a, b", Objects: ", t.objects);
-    let c = classic_put::put_figure(out, b, b", ObjectArrays: ", t.arrays);
-    classic_put::put_figure(out, c, b", PrimitiveArrays: ", t.primitives)
+    let a = digits::put_figure(out, at, b"// Breakdown - Classes: ", t.classes);
+    let b = digits::put_figure(out, a, b", Objects: ", t.objects);
+    let c = digits::put_figure(out, b, b", ObjectArrays: ", t.arrays);
+    digits::put_figure(out, c, b", PrimitiveArrays: ", t.primitives)
 }
 
 // Puts the second trailer without its end.
@@ -39,10 +37,10 @@ fn put_totals(out: &mut [u8], at: usize, t: Tally) -> usize
     ensures { λ r. ⌜ Puts (now (out .entry)) at (totals-by t) (now (out .exit)) r ⌝ }
 {
     let refs = t.refs + t.nulls;
-    let a = classic_put::put_figure(out, at, b"// EOF:  Total 'Objects',Refs(null) : ", t.rows);
-    let b = classic_put::put_figure(out, a, b",", refs);
-    let c = classic_put::put_figure(out, b, b"(", t.nulls);
-    classic_put::put_all(out, c, b")")
+    let a = digits::put_figure(out, at, b"// EOF:  Total 'Objects',Refs(null) : ", t.rows);
+    let b = digits::put_figure(out, a, b",", refs);
+    let c = digits::put_figure(out, b, b"(", t.nulls);
+    layout_put::put_all(out, c, b")")
 }
 
 // Puts both, and gives the place after them.
@@ -52,7 +50,7 @@ pub fn put(out: &mut [u8], at: usize, t: Tally) -> usize
     ensures { λ r. ⌜ Puts (now (out .entry)) at (trailers-by t) (now (out .exit)) r ⌝ }
 {
     let a = put_breakdown(out, at, t);
-    let b = classic_put::put_byte(out, a, 0x0A);
+    let b = layout_put::put_byte(out, a, 0x0A);
     let c = put_totals(out, b, t);
-    classic_put::put_byte(out, c, 0x0A)
+    layout_put::put_byte(out, c, 0x0A)
 }

@@ -24,10 +24,10 @@ pub fn put(out: &mut [u8], names: &[u8], vm: Text) -> usize
     requires { ⌜ Room (now out) 0 (version-text (now names) vm) ⌝ }
     ensures { λ r. ⌜ Puts (now (out .entry)) 0 (version-text (now (names .entry)) vm) (now (out .exit)) r ⌝ }
 {
-    let at = classic_put::put_all(out, 0, b"// Version: ");
+    let at = layout_put::put_all(out, 0, b"// Version: ");
     if vm.there {
-        let end = classic_put::put_part(out, at, names, vm.place, vm.len);
-        return classic_put::put_byte(out, end, 0x0A);
+        let end = layout_put::put_bytes(out, at, names, vm.place, vm.len);
+        return layout_put::put_byte(out, end, 0x0A);
     }
-    classic_put::put_byte(out, at, 0x0A)
+    layout_put::put_byte(out, at, 0x0A)
 }

@@ -1,9 +1,9 @@
--- Numbers (bytes, two's complement, exact sums), Layout (the language in which records are laid out, and its laws) and
--- Fields (the kinds of field that dumps are made of), and Lent (lent memory after a list was stored, and a part of it). Then
--- what holds of every layout: Cuts (more bytes, fewer bytes) and Values (what is given, what is refused).
+-- Numbers (bytes, two's complement, exact sums), Layout (the language in which records are laid out, and its laws), Fields (the
+-- kinds of field that dumps are made of) and Parts (the length of a part of a list). Then what holds of every layout: Cuts (more
+-- bytes, fewer bytes) and Values (what is given, what is refused).
 pub mod Numbers
 pub mod Layout
 pub mod Fields
-pub mod Lent
+pub mod Parts
 pub mod Cuts
 pub mod Values

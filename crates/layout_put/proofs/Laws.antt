@@ -7,7 +7,7 @@ use native.Mathlib.Nat.{add-zero}
 use native.Mathlib.Omega.{arith}
 use native.Mathlib.Decide.{decLe}
 use lib.Dec.{leb}
-use lib.ListN.{length, take, drop, getD, set, length-append}
+use lib.ListN.{length, take, drop, getD, set}
 use lib.Seq.{sets, set-comm}
 use lib.IntN.{pos, negsuc}
 use borrow.Author.Tests.{le-leb, lt-leb, le-ltb, lt-ltb}
@@ -15,7 +15,6 @@ use Rattle.layout.specs.Numbers.{pick}
 use Rattle.layout.proofs.Laws.{part-cons}
 use Rattle.layout_put.specs.Put.{be, gap, code, fits, widest, most, links, complement}
 use Rattle.layout_put.specs.Bytes.{length-be}
-use Rattle.layout_put.specs.Stores.{sets-append}
 
 -- the last of a run of stores may go first
 pub sets-snoc : (vs l : List ℕ) (i x : ℕ) → sets l i (vs ++ (x ∷ [])) ≡ sets (set l (i + length vs) x) i vs
@@ -103,21 +102,12 @@ code-most a b = elim (decLe a b) [
 -- ---- the next of the numbers from a place on
 
 module _ (l : List ℕ) (at n i : ℕ) (h : i < n) (room : at + n ≤ length l) where
-  next : take (n - i) (drop (at + i) l) ≡ getD l (at + i) 0 ∷ take (n - (i + 1)) (drop (at + (i + 1)) l)
+  pub next : take (n - i) (drop (at + i) l) ≡ getD l (at + i) 0 ∷ take (n - (i + 1)) (drop (at + (i + 1)) l)
   next =
       let e : n - i ≡ suc (n - (i + 1)) = omega arith in
       let f : suc (at + i) ≡ at + (i + 1) = omega arith in
       let g : at + i < length l = omega arith in
       rw (e, part-cons l (at + i) (n - (i + 1)) g, f)
-
-  -- stored
-  pub store-next : (out : List ℕ) (to : ℕ)
-      → sets out (to + i) (take (n - i) (drop (at + i) l))
-      ≡ sets (set out (to + i) (getD l (at + i) 0)) (to + (i + 1)) (take (n - (i + 1)) (drop (at + (i + 1)) l))
-  store-next out to =
-      let f : suc (to + i) ≡ to + (i + 1) = omega arith in
-      ap (sets out (to + i)) next
-      ∙ ap (λ (k : ℕ). sets (set out (to + i) (getD l (at + i) 0)) k (take (n - (i + 1)) (drop (at + (i + 1)) l))) f
 
   -- its width, by its distance
   pub widest-next : (m a d : ℕ) → gap a (getD l (at + i) 0) ≡ pick (leb a (getD l (at + i) 0)) (pos d) (negsuc d)
@@ -128,17 +118,8 @@ module _ (l : List ℕ) (at n i : ℕ) (h : i < n) (room : at + n ≤ length l) 
       let c = ap (most (code (pos m))) (code-gap a (getD l (at + i) 0) d e) ∙ code-most m d in
       rw next (ap (λ (k : ℕ). widest k a (take (n - (i + 1)) (drop (at + (i + 1)) l))) c)
 
-  -- put as a reference
-  module _ (w a : ℕ) where
-    links-next : links w a (take (n - i) (drop (at + i) l))
-        ≡ be w (complement (gap a (getD l (at + i) 0))) ++ links w a (take (n - (i + 1)) (drop (at + (i + 1)) l))
-    unfolding links
-    links-next = rw next
-
-    pub length-next : length (links w a (take (n - i) (drop (at + i) l))) ≡ w + length (links w a (take (n - (i + 1)) (drop (at + (i + 1)) l)))
-    length-next = rw (links-next, length-append, length-be)
-
-    pub links-put : (out : List ℕ) (to : ℕ)
-        → sets out to (links w a (take (n - i) (drop (at + i) l)))
-        ≡ sets (sets out to (be w (complement (gap a (getD l (at + i) 0))))) (to + w) (links w a (take (n - (i + 1)) (drop (at + (i + 1)) l)))
-    links-put out to = rw (links-next, sets-append, length-be)
+  -- as a reference
+  pub links-next : (w a : ℕ) → links w a (take (n - i) (drop (at + i) l))
+      ≡ be w (complement (gap a (getD l (at + i) 0))) ++ links w a (take (n - (i + 1)) (drop (at + (i + 1)) l))
+  unfolding links
+  links-next w a = rw next

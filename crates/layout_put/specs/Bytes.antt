@@ -11,7 +11,7 @@ use lib.Pow.{pow-add}
 use lib.IntN.{ℤ, pos, negsuc}
 use borrow.Author.Tests.{lt-ltb, le-ltb, ltb-true}
 use Rattle.layout.specs.Numbers.{value, value-after, signed}
-use Rattle.layout_put.specs.Put.{be, complement, fits}
+use Rattle.layout_put.specs.Put.{join, be, complement, fits}
 
 pub length-be : (n v : ℕ) → length (be n v) ≡ n
 unfolding be
@@ -19,12 +19,15 @@ length-be zero v = refl
 length-be (suc n) v = simp (length-append, length-be n (v / 256)) (omega arith)
 
 -- the highest bytes of a number, then the lowest n
-pub be-split : (m n v : ℕ) → be (m + n) v ≡ be m (v / 256 ^ n) ++ be n v
+be-split : (m n v : ℕ) → be (m + n) v ≡ be m (v / 256 ^ n) ++ be n v
 unfolding be
 be-split m zero v = rw (add-zero m, div-one v, append-nil)
 be-split m (suc n) v =
     let d : v / 256 / 256 ^ n ≡ v / 256 ^ suc n = rw (div-div-eq-div-mul v 256 (256 ^ n), mul-comm 256 (256 ^ n), ← pow-suc 256 n) in
     rw (add-suc m n, be-split m n (v / 256), d, append-assoc)
+
+pub be-parts : (m n v : ℕ) → be (m + n) v ≡ join (be m (v / 256 ^ n) ∷ be n v ∷ [])
+be-parts m n v = rw (be-split m n v, append-nil)
 
 -- a byte more
 value-snoc : (bs : List ℕ) (a x : ℕ) → value-after a (bs ++ (x ∷ [])) ≡ value-after a bs * 256 + x

@@ -1,7 +1,7 @@
 -- Put (the bytes of numbers, gaps and references, and the least widths that hold them), Widths (laws of those widths), Bytes
 -- (numbers read back from their bytes), Reads (what was put is read), Back (so for addresses, references, counts and strings),
--- Stores (storing one list behind another), Puts (what a function leaves that puts bytes at a place) and Partly (bytes put in
--- several parts).
+-- Stores (storing one list after another), Puts (a function wrote bytes at an offset) and Partly (bytes written in several
+-- parts).
 pub mod Put
 pub mod Widths
 pub mod Bytes

@@ -1,4 +1,4 @@
--- Bytes that are put in several parts, one behind the other: which are left after each, and that the next one has room.
+-- Bytes that are written in several parts, one after the other: which are left after each, and that the next one has room.
 -- Assumes nothing.
 use mathlib.Core.Path.{_≡_, refl}
 use mathlib.Core.List.{List, [], _∷_, _++_}

@@ -1,15 +1,15 @@
--- What a function leaves that puts bytes at a place of an output, and that what is put by several, one behind the other, is
--- put as one. A reader must believe `Puts`.
+-- `Puts before at bytes after next`: a function wrote the bytes at the offset `at` of an output, changed nothing else, and
+-- returned the next offset. Consecutive writes compose. A reader must believe `Puts`.
 use mathlib.Core.Path.{_≡_, refl, _∙_}
 use mathlib.Core.List.{List, [], _++_}
 use Prim.Native.Nat.{ℕ, _+_, _≤_}
 use native.Mathlib.Omega.{arith}
 use lib.ListN.{length, length-append}
 use lib.Seq.{sets, length-sets}
-use Rattle.layout_put.specs.Stores.{behind}
+use Rattle.layout_put.specs.Stores.{sets-append}
 
--- The bytes stand at the place `at` of an output that was `before`, which is otherwise as it was, and `next` is the place
--- after them.
+-- The bytes are at the offset `at` of an output that was `before`, which is otherwise as it was, and `next` is the offset after
+-- them.
 pub record Puts (before : List ℕ) (at : ℕ) (bytes after : List ℕ) (next : ℕ) : Type 0 where
   pub out : after ≡ sets before at bytes
   pub place : next ≡ at + length bytes
@@ -27,14 +27,14 @@ module _ {out : List ℕ} {at : ℕ} {xs : List ℕ} {out₁ : List ℕ} {next :
   pub as-long : length out₁ ≡ length out
   as-long = rw (p .out, length-sets)
 
-  -- others behind them
+  -- others after them
   pub puts-then : {ys out₂ : List ℕ} {next₂ : ℕ} → Puts out₁ next ys out₂ next₂ → Puts out at (xs ++ ys) out₂ next₂
   puts-then {ys} q =
       let a = p .place in
       let b = q .place in
-      record { out = behind out at next xs ys (p .out) (p .place) (q .out); place = simp length-append (omega arith) }
+      record { out = cc (p .out, p .place, q .out, sets-append out at xs ys); place = simp length-append (omega arith) }
 
-  -- the room for what comes behind them
+  -- the room for what comes after them
   pub room-behind : (ys : List ℕ) → Room out at (xs ++ ys) → Room out₁ next ys
   room-behind ys r =
       let a = p .place in

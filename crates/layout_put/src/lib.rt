@@ -1,19 +1,52 @@
-// Putting the fields of a dump: big-endian numbers, gaps, references and strings of bytes, and the least width that holds
-// a gap. Each function's contract is an equation with a definition of specs/Put.antt.
+// Writing bytes: strings of them, big-endian numbers, gaps and references; and the least width that holds a gap. Each function
+// that writes does so at an offset of the output, changes nothing else, and returns the offset after what it wrote. What the
+// bytes are is a definition of specs/Put.antt.
 ghost use mathlib.Core.Path.{_≡_};
-ghost use Prim.Native.Nat.{_+_, _≤_, _<_};
+ghost use Prim.Native.Nat.{_+_, _≤_};
+ghost use mathlib.Core.List.{[], _∷_};
 ghost use lib.ListN.{length, take, drop};
 ghost use lib.IntN.{pos, negsuc};
 ghost use lib.Dec.{leb};
-ghost use lib.Seq.{sets};
 ghost use Rattle.layout.specs.Numbers.{pick};
+ghost use Rattle.layout_put.specs.Puts.{Puts, Room};
 ghost use Rattle.layout_put.specs.Put.{be, gap, complement, code, most, widest as widestOf, links};
 use layout::choice;
 
-// Puts the lowest n bytes of a number, whatever n is, one after another.
-fn put_each(out: &mut [u8], at: usize, n: usize, value: u64)
-    requires { ⌜ at + n ≤ length (now out) ⌝ }
-    ensures { λ _. ⌜ now (out .exit) ≡ sets (now (out .entry)) at (be n value) ⌝ }
+// Writes a byte.
+pub fn put_byte(out: &mut [u8], at: usize, b: u8) -> usize
+    requires { ⌜ Room (now out) at (b ∷ []) ⌝ }
+    ensures { λ r. ⌜ Puts (now (out .entry)) at (b ∷ []) (now (out .exit)) r ⌝ }
+{
+    out[at] = b;
+    at + 1
+}
+
+// Writes n bytes that are at an offset of others.
+pub fn put_bytes(out: &mut [u8], at: usize, bytes: &[u8], place: usize, n: usize) -> usize
+    requires { ⌜ place + n ≤ length (now bytes) ⌝ }
+    requires { ⌜ Room (now out) at (take n (drop place (now bytes))) ⌝ }
+    ensures { λ r. ⌜ Puts (now (out .entry)) at (take n (drop place (now (bytes .entry)))) (now (out .exit)) r ⌝ }
+{
+    let mut i: usize = 0;
+    while i < n {
+        out[at + i] = bytes[place + i];
+        i += 1;
+    }
+    at + n
+}
+
+// Writes bytes.
+pub fn put_all(out: &mut [u8], at: usize, bytes: &[u8]) -> usize
+    requires { ⌜ Room (now out) at (now bytes) ⌝ }
+    ensures { λ r. ⌜ Puts (now (out .entry)) at (now (bytes .entry)) (now (out .exit)) r ⌝ }
+{
+    put_bytes(out, at, bytes, 0, bytes.len())
+}
+
+// Writes the lowest n bytes of a number, whatever n is, one after another.
+fn put_each(out: &mut [u8], at: usize, n: usize, value: u64) -> usize
+    requires { ⌜ Room (now out) at (be n value) ⌝ }
+    ensures { λ r. ⌜ Puts (now (out .entry)) at (be n value) (now (out .exit)) r ⌝ }
 {
     let mut rest = value;
     let mut k = n;
@@ -22,57 +55,56 @@ fn put_each(out: &mut [u8], at: usize, n: usize, value: u64)
         out[at + k] = (rest % 256) as u8;
         rest = rest / 256;
     }
+    at + n
 }
 
-// Puts the lowest byte, the lowest two and the lowest four.
-fn put1(out: &mut [u8], at: usize, value: u64)
-    requires { ⌜ at + 1 ≤ length (now out) ⌝ }
-    ensures { λ _. ⌜ now (out .exit) ≡ sets (now (out .entry)) at (be 1 value) ⌝ }
+// Write the lowest byte, the lowest two and the lowest four.
+fn put1(out: &mut [u8], at: usize, value: u64) -> usize
+    requires { ⌜ Room (now out) at (be 1 value) ⌝ }
+    ensures { λ r. ⌜ Puts (now (out .entry)) at (be 1 value) (now (out .exit)) r ⌝ }
 {
     out[at] = (value % 256) as u8;
+    at + 1
 }
 
-fn put2(out: &mut [u8], at: usize, value: u64)
-    requires { ⌜ at + 2 ≤ length (now out) ⌝ }
-    ensures { λ _. ⌜ now (out .exit) ≡ sets (now (out .entry)) at (be 2 value) ⌝ }
+fn put2(out: &mut [u8], at: usize, value: u64) -> usize
+    requires { ⌜ Room (now out) at (be 2 value) ⌝ }
+    ensures { λ r. ⌜ Puts (now (out .entry)) at (be 2 value) (now (out .exit)) r ⌝ }
 {
-    put1(out, at, value / 256);
-    put1(out, at + 1, value);
+    let low = put1(out, at, value / 256);
+    put1(out, low, value)
 }
 
-fn put4(out: &mut [u8], at: usize, value: u64)
-    requires { ⌜ at + 4 ≤ length (now out) ⌝ }
-    ensures { λ _. ⌜ now (out .exit) ≡ sets (now (out .entry)) at (be 4 value) ⌝ }
+fn put4(out: &mut [u8], at: usize, value: u64) -> usize
+    requires { ⌜ Room (now out) at (be 4 value) ⌝ }
+    ensures { λ r. ⌜ Puts (now (out .entry)) at (be 4 value) (now (out .exit)) r ⌝ }
 {
-    put2(out, at, value / 0x1_0000);
-    put2(out, at + 2, value);
+    let low = put2(out, at, value / 0x1_0000);
+    put2(out, low, value)
 }
 
-// Puts the lowest n bytes of a number at a place, the highest first. Fields of 1, 2, 4 and 8 bytes are put at once.
-pub fn put(out: &mut [u8], at: usize, n: usize, value: u64)
-    requires { ⌜ at + n ≤ length (now out) ⌝ }
-    ensures { λ _. ⌜ now (out .exit) ≡ sets (now (out .entry)) at (be n value) ⌝ }
+// Writes the lowest n bytes of a number, the highest first. Fields of 1, 2, 4 and 8 bytes are written at once.
+pub fn put(out: &mut [u8], at: usize, n: usize, value: u64) -> usize
+    requires { ⌜ Room (now out) at (be n value) ⌝ }
+    ensures { λ r. ⌜ Puts (now (out .entry)) at (be n value) (now (out .exit)) r ⌝ }
 {
     if n < 2 {
         if n == 1 {
-            put1(out, at, value);
+            return put1(out, at, value);
         }
-        return;
+        return at;
     }
     if n == 2 {
-        put2(out, at, value);
-        return;
+        return put2(out, at, value);
     }
     if n == 4 {
-        put4(out, at, value);
-        return;
+        return put4(out, at, value);
     }
     if n == 8 {
-        put4(out, at, value / 0x1_0000_0000);
-        put4(out, at + 4, value);
-        return;
+        let low = put4(out, at, value / 0x1_0000_0000);
+        return put4(out, low, value);
     }
-    put_each(out, at, n, value);
+    put_each(out, at, n, value)
 }
 
 // How far it is from one address to another, in fours: n for a gap of n, and for one of -1 - n.
@@ -141,7 +173,7 @@ pub fn widest(refs: &[u64], first: usize, count: usize, a: u64) -> u64
     code_of(m)
 }
 
-// Puts count references from a place of the table on, w bytes each, of a record at the address a; gives the place after.
+// Writes count references from a place of the table on, w bytes each, of a record at the address a.
 pub fn put_links(
     out: &mut [u8],
     at: usize,
@@ -152,29 +184,15 @@ pub fn put_links(
     count: usize,
 ) -> usize
     requires { ⌜ first + count ≤ length (now refs) ⌝ }
-    requires { ⌜ at + length (links w a (take count (drop first (now refs)))) ≤ length (now out) ⌝ }
-    ensures is { λ r. ⌜ r ≡ at + length (links w a (take count (drop first (now (refs .entry))))) ⌝ }
-    ensures out { λ _. ⌜ now (out .exit) ≡ sets (now (out .entry)) at (links w a (take count (drop first (now (refs .entry))))) ⌝ }
+    requires { ⌜ Room (now out) at (links w a (take count (drop first (now refs)))) ⌝ }
+    ensures { λ r. ⌜ Puts (now (out .entry)) at (links w a (take count (drop first (now (refs .entry))))) (now (out .exit)) r ⌝ }
 {
     let mut to = at;
     let mut i: usize = 0;
     while i < count {
         let r = refs[first + i];
-        put(out, to, w, raw_gap(a, r));
-        to += w;
+        to = put(out, to, w, raw_gap(a, r));
         i += 1;
     }
     to
-}
-
-// Puts n bytes that stand at a place of others.
-pub fn put_bytes(out: &mut [u8], at: usize, bytes: &[u8], place: usize, n: usize)
-    requires { ⌜ (place + n ≤ length (now bytes)) × (at + n ≤ length (now out)) ⌝ }
-    ensures { λ _. ⌜ now (out .exit) ≡ sets (now (out .entry)) at (take n (drop place (now (bytes .entry)))) ⌝ }
-{
-    let mut i: usize = 0;
-    while i < n {
-        out[at + i] = bytes[place + i];
-        i += 1;
-    }
 }

@@ -8,12 +8,14 @@ use lib.ListN.{take, set}
 use Rattle.layout.specs.Numbers.{value-after, signed, moved, counted, within}
 use Rattle.layout.specs.Layout.{run, _>>=_, position, raw, field, check, need, reply-of, missing-of}
 use Rattle.layout.specs.Fields.{exactly, below, address, reference, count, string}
-use Rattle.phd.specs.Phd.{limit, row-width, bit, highest, same, opening, opening-bytes, preamble, after-vm, header-records, header-facts, header, no-facts, empty, put, slot, tagged, formed, known-class, moved-bit, hashed-bit, flag-byte, hash-kind, hash-bytes, width, shape, front, middle, class-name, link-count, references, links, true-length, tail, there, row, linked, fields, record-of, from-tag, entry, Result, ended, settle, step, records, first, nothing, opened, reading}
+use Rattle.phd.specs.Phd.{bit, highest, same, opening, opening-bytes, preamble, after-vm, header-records, header-facts, header, no-facts, empty, put, slot, tagged, formed, known-class, moved-bit, hashed-bit, flag-byte, hash-kind, hash-bytes, width, shape, front, middle, class-name, link-count, references, links, true-length, tail, there, row, linked, fields, record-of, from-tag, entry, Result, reading}
+use Rattle.table.specs.Table.{row-width}
+use Rattle.reading.specs.Reading.{limit, ended, settle, step, records, first, nothing, opened, reading as reading-of}
 use Rattle.phd.specs.declared.Facts.{Facts}
 
 -- for a proof by computing: whoever unfolds this unfolds all that a reading is made of
 unfoldable pub computing : Unit {0}
-unfolding value-after signed moved counted within run _>>=_ position raw field check need reply-of missing-of exactly below address reference count string limit bit highest same opening opening-bytes preamble after-vm header-records header-facts header no-facts empty put slot tagged formed known-class moved-bit hashed-bit flag-byte hash-kind hash-bytes width shape front middle class-name link-count references links true-length tail there row linked fields record-of from-tag entry ended settle step records first nothing opened reading
+unfolding value-after signed moved counted within run _>>=_ position raw field check need reply-of missing-of exactly below address reference count string limit bit highest same opening opening-bytes preamble after-vm header-records header-facts header no-facts empty put slot tagged formed known-class moved-bit hashed-bit flag-byte hash-kind hash-bytes width shape front middle class-name link-count references links true-length tail there row linked fields record-of from-tag entry ended settle step records first nothing opened reading-of
 computing = tt
 
 -- the dump of 01, 74 bytes
@@ -42,14 +44,14 @@ table second third fourth =
 -- bytes, rows of room, and the reading that 01 says, with room for one reference
 pub record Case : Type 0 where
   pub bytes : List ℕ
-  pub room : ℕ
+  pub capacity : ℕ
   pub says : Result
 
 -- the columns: bytes, rows of room; reply, place, missing bytes; how many of the rows are stored, out of which; references; facts
 abbrev case : List ℕ → ℕ → ℕ → ℕ → ℕ → ℕ → List ℕ → List ℕ → Facts → Case
-case bytes room reply place missing n rows refs facts = record {
+case bytes capacity reply place missing n rows refs facts = record {
   bytes = bytes;
-  room = room;
+  capacity = capacity;
   says = record { reply = reply; place = place; missing = missing; rows = take (n * row-width) rows; refs = refs; facts = facts };
 }
 
@@ -79,7 +81,7 @@ cases =
 
 -- what a case's bytes are read as
 abbrev pub tried : Case → Result
-tried c = reading (c .bytes) (c .room * row-width) 1
+tried c = reading (c .bytes) (c .capacity * row-width) 1
 
 pub as-said : map tried cases ≡ map (λ c. c .says) cases
 unfolding computing dump its table case-f cases

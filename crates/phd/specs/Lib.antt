@@ -1,8 +1,7 @@
--- Phd is the definition of the format and of its reading, and Cases are 01's own cases of it. Table is the rows of a table, with their
--- laws; Shapes, References and Origins are laws of its parts.
+-- Phd is the definition of the format and of its reading, and Cases are 01's own cases of it. Shapes, References and Origins are
+-- laws of its parts.
 pub mod Phd
 pub mod Cases
-pub mod Table
 pub mod Shapes
 pub mod References
 pub mod Origins

@@ -3,15 +3,18 @@
 -- A dump and the tables are lists of numbers, a byte being one below 256. A reply is 01's number.
 use Prim.Native.Nat.{ℕ, zero, suc, _+_, _-_, _/_, _%_, _^_}
 use mathlib.Core.Bool.{Bool, true, false, not}
-use mathlib.Core.List.{List, [], _∷_, _++_}
-use lib.ListN.{length, getD, set}
+use mathlib.Core.List.{List, [], _∷_}
+use lib.ListN.{getD, set}
 use lib.Dec.{leb, ltb, eqb}
 use Rattle.layout.specs.Numbers.{pick, both, either}
-use Rattle.layout.specs.Layout.{Layout, yield, refuse, Outcome, whole, stops, run, _>>=_, _>>_, position, raw, field, check, need, reply-of, missing-of}
+use Rattle.layout.specs.Layout.{Layout, yield, refuse, _>>=_, _>>_, position, raw, field, check, need}
 use Rattle.layout.specs.Fields.{exactly, below, address, reference, count, string, no-text}
 use Rattle.layout.specs.declared.Text.{Text}
 use Rattle.layout.specs.declared.Maybe.{Maybe}
 use Rattle.layout.specs.declared.Maybe.the-variants.{Just, Nothing}
+use Rattle.reading.specs.Reading
+unfoldable pub use Rattle.reading.specs.Reading.{limit, ended}
+pub use Rattle.reading.specs.Reading.{capacity, over, item, go, halt}
 use Rattle.phd.specs.declared.classes.Cache.{Cache}
 use Rattle.phd.specs.declared.Facts.{Facts}
 use Rattle.phd.specs.declared.Form.{Form}
@@ -24,18 +27,6 @@ use Rattle.phd.specs.declared.Front.{Front}
 use Rattle.phd.specs.declared.Middle.{Middle}
 use Rattle.phd.specs.declared.Span.{Span}
 use Rattle.phd.specs.declared.Tail.{Tail}
-
--- a dump is at most this many bytes
-unfoldable pub limit : ℕ
-limit = 0x40000000
-
--- the numbers of a row
-abbrev pub row-width : ℕ
-row-width = 13
-
--- which of them, from 0, is the offset of its record in the dump
-abbrev pub offset-number : ℕ
-offset-number = 12
 
 -- whether the bit of the value m (1, 2, 4, 8 ..) is set
 unfoldable pub bit : ℕ → ℕ → Bool
@@ -268,10 +259,17 @@ row origin hk known sh v m name n t =
     ∷ origin .index ∷ n ∷ there (sh .inst) (m .inst) (t .size) ∷ there (sh .truelen) (t .truelen) (v .len)
     ∷ name .place ∷ name .len ∷ sh .prim ∷ origin .offset ∷ []
 
--- What comes next: the end tag, or a record with its row, its references, its address and the cache after it.
-pub data Item : Type 0 where
-  over : Item
-  item : List ℕ → Links → ℕ → Cache → Item
+-- What is carried from record to record: the address of the record before, and the cache.
+pub record Before : Type 0 where
+  pub address : ℕ
+  pub cache : Cache
+
+abbrev pub carried : ℕ → Cache → Before
+carried a c = record { address = a; cache = c }
+
+-- What comes next: the end tag, or a record with its row, its references, where they stand, and its address and the cache after it.
+abbrev pub Item : Type 0
+Item = Reading.Item Span Before
 
 -- the fields from the reference count on, and the record whole
 unfoldable pub linked : ℕ → Cache → Origin → ℕ → ℕ → Shape → Front → Middle → Text → Layout Item
@@ -279,7 +277,7 @@ linked top c origin known hk sh v m name = do
   n ← link-count (sh .counted) (sh .count)
   ls ← links (sh .link) (v .address) top n
   t ← tail (sh .size) (sh .truelen) n
-  yield (item (row origin hk known sh v m name n t) ls (v .address) (pick (sh .cached) (put c (v .word)) c))
+  yield (item (row origin hk known sh v m name n t) (ls .list) (ls .span) (carried (v .address) (pick (sh .cached) (put c (v .word)) c)))
 
 -- the fields after the tag and the flag byte, in file order
 unfoldable pub fields : ℕ → ℕ → Cache → Origin → ℕ → ℕ → Shape → Layout Item
@@ -311,65 +309,44 @@ entry h before c index = do
 
 -- ---- a reading
 
--- What stands between records: the place of the next tag, the address before, the cache, and the tables filled so far.
-pub record State : Type 0 where
-  pub at : ℕ
-  pub address : ℕ
-  pub cache : Cache
-  pub rows : List ℕ
-  pub refs : List ℕ
+-- The format: the reading of its dumps, and what holds of any format's, are those of `reading`.
+abbrev pub beginning : Before
+beginning = carried 0 empty
 
--- What a reading gives. `missing` is how many bytes the field lacked where it was cut, else 0.
-pub record Result : Type 0 where
-  pub reply : ℕ
-  pub place : ℕ
-  pub missing : ℕ
-  pub rows : List ℕ
-  pub refs : List ℕ
-  pub facts : Facts
+abbrev pub phd : Reading.Format
+phd = record {
+  Facts = Facts;
+  Context = Before;
+  Note = Span;
+  header = header;
+  no-facts = no-facts;
+  start = λ _. beginning;
+  entry = λ h k. entry h (k .address) (k .cache);
+}
 
-pub data Next : Type 0 where
-  go : State → Next
-  halt : Result → Next
+-- What stands between records, what a reading gives, and what a record does.
+abbrev pub State : Type 0
+State = Reading.State phd
 
--- the reading ends with the tables as they are
-unfoldable pub ended : Facts → State → ℕ → ℕ → ℕ → Result
-ended h st reply place missing =
-    record { reply = reply; place = place; missing = missing; rows = st .rows; refs = st .refs; facts = h }
+abbrev pub Result : Type 0
+Result = Reading.Result phd
 
--- What a record found does, with R numbers of room for rows and F for references. Room is asked last, rows before references.
-unfoldable pub settle : Facts → ℕ → ℕ → State → Outcome Item → Next
-settle h R F st (whole over n) = halt (ended h st 0 n 0)
-settle h R F st (whole (item r ls a c) n) =
-    pick (leb (length (st .rows) + row-width) R)
-    (pick (leb (length (st .refs) + length (ls .list)) F)
-    (go (record { at = n; address = a; cache = c; rows = st .rows ++ r; refs = st .refs ++ ls .list }))
-    (halt (ended h st 14 (st .at) 0)))
-    (halt (ended h st 13 (st .at) 0))
-settle h R F st (stops w) = halt (ended h st (reply-of w) (st .at) (missing-of w))
+abbrev pub Next : Type 0
+Next = Reading.Next phd
 
--- one record of the dump s
-unfoldable pub step : Facts → List ℕ → ℕ → ℕ → State → Next
-step h s R F st = settle h R F st (run (entry h (st .address) (st .cache) (length (st .refs))) s (st .at))
+-- one record of a dump; record after record; the state before the first record; a reading that stops before the records
+abbrev pub step : Facts → List ℕ → ℕ → ℕ → State → Next
+step h s R F = Reading.step phd h s (Reading.capacity R F)
 
--- Record after record. The count is only so that the recursion ends: each record has a byte at least, so a count above the
--- dump's length never runs out.
-unfoldable pub records : ℕ → Facts → List ℕ → ℕ → ℕ → State → Result
-records zero h s R F st = ended h st 0 (st .at) 0
-records (suc f) h s R F st = elim (step h s R F st) [ go st′ ↦ records f h s R F st′ | halt r ↦ r ]
+abbrev pub records : ℕ → Facts → List ℕ → ℕ → ℕ → State → Result
+records f h s R F = Reading.records phd f h s (Reading.capacity R F)
 
--- the state before the first record, whose tag stands at n
-unfoldable pub first : ℕ → State
-first n = record { at = n; address = 0; cache = empty; rows = []; refs = [] }
+abbrev pub first : ℕ → State
+first = Reading.first phd beginning
 
--- the reading stops before the records
-unfoldable pub nothing : ℕ → ℕ → Result
-nothing reply missing = record { reply = reply; place = 0; missing = missing; rows = []; refs = []; facts = no-facts }
-
-unfoldable pub opened : List ℕ → ℕ → ℕ → Outcome Facts → Result
-opened s R F (whole h n) = records (suc limit) h s R F (first n)
-opened s R F (stops w) = nothing (reply-of w) (missing-of w)
+abbrev pub nothing : ℕ → ℕ → Result
+nothing = Reading.nothing phd
 
 -- What reading the bytes s gives, with R numbers of room for rows and F for references.
-unfoldable pub reading : List ℕ → ℕ → ℕ → Result
-reading s R F = elim (leb (length s) limit) [ true ↦ opened s R F (run header s 0) | false ↦ nothing 2 0 ]
+abbrev pub reading : List ℕ → ℕ → ℕ → Result
+reading s R F = Reading.reading phd s (Reading.capacity R F)

@@ -4,13 +4,9 @@ use layout::Text;
 
 pub mod classes;
 pub mod forms;
+pub mod opening;
 
 pub use classes::Cache;
-
-// The numbers of a row, and the bytes of the largest dump.
-pub const ROW: usize = 13;
-
-pub const LIMIT: usize = 0x4000_0000;
 
 // What the header says: W (32 or 64), all objects hashed, from OpenJ9, and the VM string.
 pub struct Facts {

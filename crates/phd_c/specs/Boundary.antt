@@ -8,7 +8,7 @@ use lib.ListN.{getD}
 use Rattle.layout.specs.Numbers.{pick}
 use Rattle.phd.specs.declared.Facts.{Facts}
 use Rattle.phd_read.specs.declared.Reading.{Reading}
-use Rattle.phd_rows.specs.declared.Written.{Written}
+use Rattle.table.specs.declared.Answer.{Answer}
 
 -- a flag as a number
 abbrev pub flag : Bool → ℕ
@@ -34,5 +34,5 @@ read-facts r =
     ∷ r .missing ∷ 0 ∷ 0 ∷ 0 ∷ 0 ∷ 0 ∷ []
 
 -- the numbers of the answer of a writing, or of asking for its size: reply and place
-unfoldable pub written-facts : Written → List ℕ
+unfoldable pub written-facts : Answer → List ℕ
 written-facts w = w .reply ∷ w .place ∷ 0 ∷ 0 ∷ 0 ∷ 0 ∷ 0 ∷ 0 ∷ 0 ∷ 0 ∷ 0 ∷ 0 ∷ 0 ∷ 0 ∷ 0 ∷ 0 ∷ []

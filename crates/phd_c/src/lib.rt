@@ -3,7 +3,7 @@
 // with the answer as numbers (specs/Boundary.antt).
 ghost use mathlib.Core.Path.{_≡_};
 ghost use lib.ListN.{length};
-ghost use Rattle.layout.specs.Lent.{stored};
+ghost use Rattle.table.specs.Buffer.{stored};
 ghost use Rattle.phd.specs.Phd.{reading};
 ghost use Rattle.phd_read.specs.Answer.{answer};
 ghost use Rattle.phd_write.specs.Write.{writing, write-sizing};
@@ -12,7 +12,7 @@ ghost use Rattle.phd_c.specs.Boundary.{flag as flagOf, header as headerO
 use layout::Text;
 use phd_read::Reading;
 use phd_rows::Header;
-use phd_rows::Written;
+use table::Answer;
 
 // A flag as a number.
 fn flag(set: bool) -> u64
@@ -67,7 +67,7 @@ fn of_reading(r: Reading) -> [u64; 16]
 }
 
 // The answer of a writing, or of asking for its size, as numbers.
-fn of_written(w: Written) -> [u64; 16]
+fn of_written(w: Answer) -> [u64; 16]
     ensures { λ x. ⌜ x ≡ written-facts w ⌝ }
 {
     [

@@ -4,10 +4,10 @@ use mathlib.Core.Path.{_≡_, refl}
 use Prim.Native.Nat.{ℕ}
 use mathlib.Core.List.{List, [], _∷_, _++_, map}
 use lib.ListN.{take}
-use Rattle.phd.specs.Phd.{row-width}
-use Rattle.phd.specs.Table.{row-count}
-use Rattle.phd_rows.specs.Rows.{row-at}
-use Rattle.phd_counts.specs.Counts.{nulls-of, sum-from, nulls}
+use Rattle.table.specs.Rows.{row-at, rows-from, rows-of}
+use Rattle.table.specs.Sums.{sum}
+use Rattle.table.specs.Table.{row-width, row-count}
+use Rattle.phd_counts.specs.Counts.{nulls-of, nulls}
 
 -- a row of these numbers, in 01's order; those behind them are 0
 abbrev pub row-of : List ℕ → List ℕ
@@ -27,6 +27,6 @@ tables =
     ∷ (row 1 0 2 0 ++ row 2 2 3 0 ++ row 4 5 0 9)
     ∷ (row 4 0 0 9 ++ row 3 0 1 2 ++ row 2 1 3 0) ∷ []
 
-pub as-said : map nulls tables ≡ 0 ∷ 0 ∷ 3 ∷ 4 ∷ 9 ∷ 0 ∷ 1 ∷ []
-unfolding row-at row-count nulls-of sum-from nulls
+pub as-said : map (λ table. nulls (rows-of table)) tables ≡ 0 ∷ 0 ∷ 3 ∷ 4 ∷ 9 ∷ 0 ∷ 1 ∷ []
+unfolding row-at rows-from rows-of row-count sum nulls-of nulls
 as-said = refl

@@ -2,21 +2,21 @@
 -- is the sum over all. It begins so, each row keeps it, and at the end it is what was asked.
 -- Assumes nothing.
 use mathlib.Core.Path.{_≡_, refl}
-use Prim.Native.Nat.{ℕ, zero, suc, _+_, _-_, _^_, _≤_, _<_}
-use native.Mathlib.Nat.{sub-zero}
-use native.Mathlib.Numerals.{add-one}
+use Prim.Native.Nat.{ℕ, _+_, _^_, _≤_, _<_}
 use native.Mathlib.Omega.{arith}
-use mathlib.Core.List.{List}
+use mathlib.Core.List.{List, [], _∷_}
+use lib.ListN.{length}
 use Rattle.layout.specs.Values.{one-most}
-use Rattle.phd.specs.Table.{row-count}
-use Rattle.phd_rows.specs.Rows.{row-at, of-kind}
-use Rattle.phd_rows.specs.declared.Row.{Row}
-use Rattle.phd_counts.specs.Counts.{one-of, count-of, nulls-of, sum-from, sum, nulls, tally-of, counted}
+use Rattle.table.specs.Table.{row-count}
+use Rattle.table.specs.Rows.{row-at, of-kind, rows-of, length-rows}
+use Rattle.table.specs.Sums.{sum, sum-next, Summed, summed-begins, summed-next, summed-ends}
+use Rattle.table.specs.declared.Row.{Row}
+use Rattle.phd_counts.specs.Counts.{one-of, count-of, nulls-of, nulls, tally-of, counted}
 use Rattle.phd_counts.specs.declared.Tally.{Tally}
 
--- the rows, references and nulls of a table are few
-pub record Few (rows : List ℕ) : Type 0 where
-  pub few-rows : row-count rows ≤ 2 ^ 30
+-- rows, their references and their nulls are few
+pub record Few (rows : List Row) : Type 0 where
+  pub few-rows : length rows ≤ 2 ^ 30
   pub few-refs : sum count-of rows ≤ 2 ^ 30
   pub few-nulls : nulls rows ≤ 2 ^ 61
 
@@ -32,39 +32,11 @@ pub record Small (t : Tally) (r : Row) : Type 0 where
   pub nulls : t .nulls < 2 ^ 62
   pub unlisted : nulls-of r < 2 ^ 62
 
--- ---- a sum over the rows
-
-module _ (f : Row → ℕ) (rows : List ℕ) where
-  -- over those that are left, from number i on
-  abbrev pub left : ℕ → ℕ
-  left i = sum-from f rows i (row-count rows - i)
-
-  pub sum-next : (i : ℕ) → i < row-count rows → left i ≡ f (row-at rows i) + left (i + 1)
-  unfolding sum-from
-  sum-next i l = let e : row-count rows - i ≡ suc (row-count rows - (i + 1)) = omega arith in rw (e, add-one)
-
-  pub sum-done : (i : ℕ) → row-count rows ≤ i → left i ≡ 0
-  unfolding sum-from
-  sum-done i l = let e : row-count rows - i ≡ 0 = omega arith in rw e
-
-  -- n is the sum over the rows before number i
-  abbrev pub Summed : ℕ → ℕ → Type 0
-  Summed i n = n + left i ≡ sum f rows
-
-  pub summed-begins : Summed 0 0
-  summed-begins = rw sub-zero (omega arith)
-
-  pub summed-next : (i n : ℕ) → i < row-count rows → Summed i n → Summed (i + 1) (n + f (row-at rows i))
-  summed-next i n l z = omega (arith, sum-next i l)
-
-  pub summed-ends : (i n : ℕ) → row-count rows ≤ i → Summed i n → n ≡ sum f rows
-  summed-ends i n l z = omega (arith, sum-done i l)
-
 -- at most one a row
-pub sum-most : (k : ℕ) (rows : List ℕ) (i n : ℕ) → sum-from (one-of k) rows i n ≤ n
-unfolding sum-from
-sum-most k rows i zero = omega arith
-sum-most k rows i (suc n) = omega (arith, one-most (of-kind k (row-at rows i)), sum-most k rows (suc i) n)
+pub sum-most : (k : ℕ) (rows : List Row) → sum (one-of k) rows ≤ length rows
+unfolding sum
+sum-most k [] = omega arith
+sum-most k (r ∷ rows) = omega (arith, one-most (of-kind k r), sum-most k rows)
 
 -- ---- a tally with a row more, by what is added to its counts
 
@@ -120,17 +92,17 @@ module _ (rows : List ℕ) (i : ℕ) (t : Tally) (z : Counting rows i t) where
   })
 
   -- no count can leave 64 bits
-  pub counting-small : (r : Row) → i < row-count rows → r ≡ row-at rows i → Few rows → Small t r
+  pub counting-small : (r : Row) → i < row-count rows → r ≡ row-at rows i → Few (rows-of rows) → Small t r
   unfolding nulls
   counting-small r l e few =
-      let n : ℕ = row-count rows in
+      let n = length-rows rows in
       let c = sum-next count-of rows i l in
       let u = sum-next nulls-of rows i l in
       rw e (record {
-        classes = omega (arith, sum-most 1 rows 0 n);
-        objects = omega (arith, sum-most 2 rows 0 n);
-        arrays = omega (arith, sum-most 3 rows 0 n);
-        primitives = omega (arith, sum-most 4 rows 0 n);
+        classes = omega (arith, sum-most 1 (rows-of rows));
+        objects = omega (arith, sum-most 2 (rows-of rows));
+        arrays = omega (arith, sum-most 3 (rows-of rows));
+        primitives = omega (arith, sum-most 4 (rows-of rows));
         rows = omega arith;
         refs = omega arith;
         count = omega arith;
@@ -138,10 +110,10 @@ module _ (rows : List ℕ) (i : ℕ) (t : Tally) (z : Counting rows i t) where
         unlisted = omega arith;
       })
 
-  pub counting-ends : row-count rows ≤ i → t ≡ tally-of rows
+  pub counting-ends : row-count rows ≤ i → t ≡ tally-of (rows-of rows)
   unfolding tally-of nulls
   counting-ends l =
-      let r : t .rows ≡ row-count rows = omega arith in
+      let r : t .rows ≡ length (rows-of rows) = omega (arith, length-rows rows) in
       rw (
         ← (summed-ends (one-of 1) rows i (t .classes) l (z .classes)),
         ← (summed-ends (one-of 2) rows i (t .objects) l (z .objects)),

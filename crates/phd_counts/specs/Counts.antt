@@ -1,11 +1,12 @@
--- What is counted of a row and of a table: rows by kind, references, and nulls. The text's trailers are made of these counts,
+-- What is counted of a row and of rows: rows by kind, references, and nulls. The text's trailers are made of these counts,
 -- and a reader must believe the definitions.
-use Prim.Native.Nat.{ℕ, zero, suc, _+_, _-_}
+use Prim.Native.Nat.{ℕ, _+_, _-_}
 use mathlib.Core.List.{List}
+use lib.ListN.{length}
 use Rattle.layout.specs.Numbers.{pick}
-use Rattle.phd.specs.Table.{row-count}
-use Rattle.phd_rows.specs.Rows.{row-at, of-kind}
-use Rattle.phd_rows.specs.declared.Row.{Row}
+use Rattle.table.specs.Rows.{of-kind}
+use Rattle.table.specs.Sums.{sum}
+use Rattle.table.specs.declared.Row.{Row}
 use Rattle.phd_counts.specs.declared.Tally.{Tally}
 
 -- ---- of a row
@@ -23,29 +24,21 @@ count-of r = r .count
 unfoldable pub nulls-of : Row → ℕ
 nulls-of r = pick (of-kind 3 r) (r .len - r .count) 0
 
--- ---- of a table
+-- ---- of rows
 
--- a sum over n rows from number i on, and over all
-unfoldable pub sum-from : (Row → ℕ) → List ℕ → ℕ → ℕ → ℕ
-sum-from f rows i zero = 0
-sum-from f rows i (suc n) = f (row-at rows i) + sum-from f rows (suc i) n
-
-abbrev pub sum : (Row → ℕ) → List ℕ → ℕ
-sum f rows = sum-from f rows 0 (row-count rows)
-
--- a table's nulls: the sum of those of its rows, and so of all its object arrays
-unfoldable pub nulls : List ℕ → ℕ
+-- the nulls of rows: the sum of those of each, and so of all object arrays
+unfoldable pub nulls : List Row → ℕ
 nulls rows = sum nulls-of rows
 
 -- ---- all of them
 
-unfoldable pub tally-of : List ℕ → Tally
+unfoldable pub tally-of : List Row → Tally
 tally-of rows = record {
   classes = sum (one-of 1) rows;
   objects = sum (one-of 2) rows;
   arrays = sum (one-of 3) rows;
   primitives = sum (one-of 4) rows;
-  rows = row-count rows;
+  rows = length rows;
   refs = sum count-of rows;
   nulls = nulls rows;
 }

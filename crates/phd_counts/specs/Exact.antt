@@ -1,33 +1,32 @@
 -- What holds of the counts of good tables: of no array's nulls is anything cut off, references and nulls together are what the
 -- rows have in all, and every sum is far below what 64 bits hold. A reader must believe the record `Exact`.
 use mathlib.Core.Path.{_≡_, refl}
-use Prim.Native.Nat.{ℕ, zero, suc, _+_, _*_, _^_, _≤_, _<_}
+use Prim.Native.Nat.{ℕ, suc, _+_, _*_, _^_, _≤_, _<_}
 use native.Mathlib.Nat.{zero-add}
 use native.Mathlib.Omega.{arith}
 use mathlib.Core.Bool.{true}
-use mathlib.Core.List.{List}
+use mathlib.Core.List.{List, [], _∷_}
 use lib.ListN.{length}
 use borrow.Author.Tests.{eq-eqb, ne-eqb}
 use Rattle.layout.specs.Numbers.{pick}
+use Rattle.table.specs.Rows.{All, of-kind, bare, rec-of}
+use Rattle.table.specs.Sums.{sum}
+use Rattle.table.specs.declared.Row.{Row}
+use Rattle.table.specs.declared.Search.the-variants.{NotFound}
 use Rattle.phd.specs.declared.Facts.{Facts}
-use Rattle.phd.specs.Table.{row-count}
-use Rattle.phd_rows.specs.Rows.{row-at, of-kind, bare, rec-of}
-use Rattle.phd_rows.specs.Good.{good-row, first-bad}
-use Rattle.phd_rows.specs.Judged.{AllRight}
+use Rattle.phd_rows.specs.Good.{good-row, first-bad, AllRight}
 use Rattle.phd_rows.specs.Kept.{Kinded, a-class, an-object, an-array, a-primitive, none-bad, lent-of, good-of, each-row, few-rows, few-refs}
-use Rattle.phd_rows.specs.declared.Row.{Row}
-use Rattle.phd_rows.specs.declared.Found.the-variants.{Nowhere}
-use Rattle.phd_counts.specs.Counts.{count-of, nulls-of, sum-from, sum, nulls}
+use Rattle.phd_counts.specs.Counts.{count-of, nulls-of, nulls}
 use Rattle.phd_counts.specs.Counting.{Few}
 
 -- what a row has, nulls included: an object array its true length, any other row its references
 abbrev pub with-nulls : Row → ℕ
 with-nulls r = pick (of-kind 3 r) (r .len) (r .count)
 
--- What holds of a table with its references.
-pub record Exact (refs rows : List ℕ) : Type 0 where
+-- What holds of rows, with the table of references.
+pub record Exact (refs : List ℕ) (rows : List Row) : Type 0 where
   -- the references and the nulls of an object array are as many as its true length
-  pub array : (i : ℕ) → i < row-count rows → row-at rows i .kind ≡ 3 → row-at rows i .count + nulls-of (row-at rows i) ≡ row-at rows i .len
+  pub array : All (λ r. r .kind ≡ 3 → r .count + nulls-of r ≡ r .len) rows
   -- all references and nulls are what the rows have, nulls included
   pub total : sum count-of rows + nulls rows ≡ sum with-nulls rows
   -- all references stand in their table
@@ -64,33 +63,37 @@ whole-of r name (a-primitive kind _ _ _ _ _ _) = other-whole r (λ e. omega arit
 
 -- ---- sums over good rows
 
-module _ (rows : List ℕ) (row : (i : ℕ) → i < row-count rows → Whole (row-at rows i)) where
-  total-from : (n i : ℕ) → i + n ≤ row-count rows → sum-from count-of rows i n + sum-from nulls-of rows i n ≡ sum-from with-nulls rows i n
-  unfolding sum-from
-  total-from zero i l = refl
-  total-from (suc n) i l =
-      let r = row i (omega arith) .whole in
-      let t = total-from n (suc i) (omega arith) in
-      omega arith
+total-of : (rows : List Row) → All Whole rows → sum count-of rows + sum nulls-of rows ≡ sum with-nulls rows
+unfolding sum
+total-of [] a = refl
+total-of (r ∷ rows) a =
+    let w = a .0 .whole in
+    let t = total-of rows (a .1) in
+    omega arith
 
-  few-from : (n i : ℕ) → i + n ≤ row-count rows → sum-from nulls-of rows i n ≤ n * 2 ^ 31
-  unfolding sum-from
-  few-from zero i l = omega arith
-  few-from (suc n) i l =
-      let r = row i (omega arith) .few in
-      let t = few-from n (suc i) (omega arith) in
-      omega arith
+few-of : (rows : List Row) → All Whole rows → sum nulls-of rows ≤ length rows * 2 ^ 31
+unfolding sum
+few-of [] a = omega arith
+few-of (r ∷ rows) a =
+    let w = a .0 .few in
+    let t = few-of rows (a .1) in
+    omega arith
 
-module _ (h : Facts) (names refs rows : List ℕ) where
-  -- the references of n rows from number i on, beginning at an index, are no more than the table has behind it
-  lent-from : (n i index : ℕ) → first-bad h names refs rows i index n ≡ Nowhere → index ≤ length refs → index + sum-from count-of rows i n ≤ length refs
-  unfolding sum-from rec-of bare
-  lent-from zero i index e l = omega arith
-  lent-from (suc n) i index e l =
-      let g = none-bad h names refs rows n i index e in
-      let s : row-at rows i .first + row-at rows i .count ≤ length refs = lent-of h names refs index (row-at rows i) (g .0) .span in
-      let f : row-at rows i .first ≡ index = good-of h names refs index (row-at rows i) (g .0) .first in
-      let r = lent-from n (suc i) (index + row-at rows i .count) (g .1) (omega arith) in
+-- an object array that is whole
+arrays-of : (rows : List Row) → All Whole rows → All (λ r. r .kind ≡ 3 → r .count + nulls-of r ≡ r .len) rows
+arrays-of [] a = tt
+arrays-of (r ∷ rows) a = (λ e. rw (eq-eqb (r .kind) 3 e) at (a .0 .whole), arrays-of rows (a .1))
+
+module _ (h : Facts) (names refs : List ℕ) where
+  -- the references of rows, beginning at an index, are no more than the table has after it
+  lent-from : (rows : List Row) (i index : ℕ) → first-bad h names refs i index rows ≡ NotFound → index ≤ length refs → index + sum count-of rows ≤ length refs
+  unfolding sum rec-of bare
+  lent-from [] i index e l = omega arith
+  lent-from (r ∷ rows) i index e l =
+      let g = none-bad h names refs i index r rows e in
+      let s : r .first + r .count ≤ length refs = lent-of h names refs index r (g .0) .span in
+      let f : r .first ≡ index = good-of h names refs index r (g .0) .first in
+      let t = lent-from rows (suc i) (index + r .count) (g .1) (omega arith) in
       omega arith
 
   good-whole : (index : ℕ) (r : Row) → good-row h names refs index r ≡ true → Whole r
@@ -98,18 +101,17 @@ module _ (h : Facts) (names refs rows : List ℕ) where
   good-whole index r g = whole-of r _ (good-of h names refs index r g .kinded)
 
   -- So it is where the header is good and no row is bad.
-  pub exact : AllRight h names refs rows → Exact refs rows
+  pub exact : (rows : List Row) → AllRight h names refs rows → Exact refs rows
   unfolding nulls
-  exact a =
-      let row = each-row h names refs rows Whole good-whole (a .1) in
-      let n : ℕ = row-count rows in
-      let l : sum count-of rows ≤ length refs = rw zero-add at (lent-from n 0 0 (a .1) (omega arith)) in
+  exact rows a =
+      let w : All Whole rows = each-row h names refs Whole good-whole rows (a .1) in
+      let l : sum count-of rows ≤ length refs = rw zero-add at (lent-from rows 0 0 (a .1) (omega arith)) in
       let m = few-refs h names rows refs (a .0) in
       let k = few-rows h names rows refs (a .0) in
-      let f = few-from rows row n 0 (omega arith) in
+      let f = few-of rows w in
       record {
-        array = λ i b e. rw (eq-eqb (row-at rows i .kind) 3 e) at (row i b .whole);
-        total = total-from rows row n 0 (omega arith);
+        array = arrays-of rows w;
+        total = total-of rows w;
         lent = l;
         few = record { few-rows = k; few-refs = omega arith; few-nulls = omega arith };
       }

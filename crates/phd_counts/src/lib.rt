@@ -3,8 +3,9 @@
 ghost use mathlib.Core.Path.{_≡_};
 ghost use Rattle.phd_counts.specs.Counts.{nulls-of, tally-of, counted as countedOf};
 ghost use Rattle.phd_counts.specs.Counting.{Few, Small};
+ghost use Rattle.table.specs.Rows.{rows-of};
 use layout::choice;
-use phd_rows::Row;
+use table::Row;
 
 // How many rows are of each kind, and how many rows, references and nulls there are in all.
 pub struct Tally {
@@ -57,10 +58,10 @@ pub fn counted(t: Tally, row: Row) -> Tally
 
 // The counts of all rows.
 pub fn count_all(rows: &[u64]) -> Tally
-    requires { ⌜ Few (now rows) ⌝ }
-    ensures { λ r. ⌜ r ≡ tally-of (now (rows .entry)) ⌝ }
+    requires { ⌜ Few (rows-of (now rows)) ⌝ }
+    ensures { λ r. ⌜ r ≡ tally-of (rows-of (now (rows .entry))) ⌝ }
 {
-    let n = rows.len() / phd::ROW;
+    let n = rows.len() / table::ROW;
     let mut t = Tally {
         classes: 0,
         objects: 0,
@@ -72,7 +73,7 @@ pub fn count_all(rows: &[u64]) -> Tally
     };
     let mut i: usize = 0;
     while i < n {
-        let row = phd_rows::row_at(rows, i);
+        let row = table::row_at(rows, i);
         t = counted(t, row);
         i += 1;
     }

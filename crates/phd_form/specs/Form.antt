@@ -12,7 +12,7 @@ use Rattle.phd.specs.Phd.{shape}
 use Rattle.phd.specs.declared.classes.Cache.{Cache}
 use Rattle.phd.specs.declared.Form.{Form}
 use Rattle.phd.specs.declared.Form.the-variants.{Short, Medium, Long, Class, ObjectArray, Primitive, LongPrimitive}
-use Rattle.phd_rows.specs.declared.Row.{Row}
+use Rattle.table.specs.declared.Row.{Row}
 use Rattle.phd_form.specs.declared.Measure.{Measure}
 use Rattle.phd_form.specs.declared.Plan.{Plan}
 

@@ -3,13 +3,13 @@
 ghost use mathlib.Core.Path.{_≡_};
 ghost use Prim.Native.Nat.{_+_, _≤_, _<_};
 ghost use lib.ListN.{length};
-ghost use Rattle.phd_rows.specs.Rows.{refs-of};
+ghost use Rattle.table.specs.Rows.{refs-of};
 ghost use Rattle.phd_form.specs.Form.{holds as holdsOf, slot-of, measure as measureOf, flagged as flaggedOf, object-form, form-of, tag-of, hash-flags, class-flags, flags-of, planned, Bounded};
 use layout::choice;
 use phd::Cache;
 use phd::Form;
 use phd::Shape;
-use phd_rows::Row;
+use table::Row;
 
 // All that the form, the tag and the flag byte of a record go by.
 pub struct Measure {

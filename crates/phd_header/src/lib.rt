@@ -1,8 +1,8 @@
 // Reading the header of a portable heap dump.
 // Each function's contract is an equation with a definition of the format (crates/phd/specs/Phd.antt).
 ghost use mathlib.Core.Path.{_≡_};
-ghost use Prim.Native.Nat.{_+_, _≤_, _<_};
-ghost use lib.ListN.{length, take, drop, getD};
+ghost use Prim.Native.Nat.{_+_, _≤_};
+ghost use lib.ListN.{length, take, drop};
 ghost use Rattle.layout.specs.Numbers.{pick};
 ghost use Rattle.layout.specs.Layout.{run};
 ghost use Rattle.layout.specs.Fields.{outcome, text-outcome};
@@ -14,6 +14,7 @@ use layout::Text;
 use layout::TextRead;
 use phd::Facts;
 use phd::forms::bit;
+use phd::opening::opening_byte;
 
 // What the header says, with the place after it; or why reading stops in it.
 pub enum HeaderRead {
@@ -25,16 +26,6 @@ pub enum HeaderRead {
 enum Passed {
     Is(usize),
     Stops(Stop),
-}
-
-const OPENING: [u8; 18] = *b"portable heap dump";
-
-// A byte of the opening string.
-pub fn opening_byte(i: usize) -> u8
-    requires { ⌜ i < 18 ⌝ }
-    ensures { λ r. ⌜ r ≡ getD opening i 0 ⌝ }
-{
-    OPENING[i]
 }
 
 // Whether the 18 bytes at a place are the opening string.

@@ -1,52 +1,24 @@
--- The laws for the functions that put a record.
+-- The bytes of a lean record: its tests, and the fields that are left.
 use mathlib.Core.Path.{_≡_, sym, ap, _∙_}
-use Prim.Native.Nat.{ℕ, _+_, _≤_}
+use Prim.Native.Nat.{ℕ, _≤_}
 use mathlib.Core.Bool.{Bool, true}
-use mathlib.Core.List.{List, [], _∷_, _++_, append-nil, append-assoc}
-use native.Mathlib.Omega.{arith}
-use lib.ListN.{length, take, drop, length-append}
+use mathlib.Core.List.{List, [], _∷_, append-nil, append-assoc}
+use lib.ListN.{take, drop}
 use lib.Dec.{leb, ltb, eqb}
-use lib.Seq.{sets}
 use borrow.Author.Tests.{leb-true, eqb-true, le-ltb}
 use Rattle.layout.specs.Numbers.{pick}
-use Rattle.layout_put.specs.Put.{be, gap, complement, links}
-use Rattle.layout_put.specs.Bytes.{length-be}
-use Rattle.layout_put.specs.Stores.{behind}
+use Rattle.layout_put.specs.Put.{join, be, gap, complement, links}
 use Rattle.phd.specs.Phd.{hash-bytes}
-use Rattle.phd.specs.declared.Shape.{Shape}
 use Rattle.phd_form.specs.declared.Plan.{Plan}
-use Rattle.phd_rows.specs.Rows.{name-of}
+use Rattle.table.specs.Rows.{name-of}
 use Rattle.phd_rows.specs.Kept.{every-at}
-use Rattle.phd_rows.specs.declared.Row.{Row}
+use Rattle.table.specs.declared.Row.{Row}
 use Rattle.phd_rows.proofs.Laws.{all-of, joined}
 use Rattle.phd_put.specs.Record.{put-tag, put-front, put-middle, put-name, put-links, put-tail, put-fields, put-planned, Lean}
 
--- the parts of a record, one behind the other
-pub planned-stored : (before : ℕ) (p : Plan) (r : Row) (refs name out : List ℕ) (at : ℕ) {out₁ out₂ out₃ out₄ out₅ out₆ : List ℕ} {p₁ p₂ p₃ p₄ p₅ : ℕ}
-    → let sh = p .shape in
-    (p₁ ≡ at + length (put-tag p)) × (out₁ ≡ sets out at (put-tag p))
-    → (p₂ ≡ p₁ + length (put-front before sh r)) × (out₂ ≡ sets out₁ p₁ (put-front before sh r))
-    → (p₃ ≡ p₂ + length (put-middle sh r)) × (out₃ ≡ sets out₂ p₂ (put-middle sh r))
-    → (p₄ ≡ p₃ + length (put-name sh r name)) × (out₄ ≡ sets out₃ p₃ (put-name sh r name))
-    → (p₅ ≡ p₄ + length (put-links sh r refs)) × (out₅ ≡ sets out₄ p₄ (put-links sh r refs))
-    → out₆ ≡ sets out₅ p₅ (put-tail sh r) → out₆ ≡ sets out at (put-planned before p r refs name)
-unfolding put-planned put-fields
-planned-stored before p r refs name out at {out₁} {out₂} {out₃} {out₄} {out₅} {out₆} {p₁} {p₂} {p₃} {p₄} {p₅} a b c d e f =
-    let sh : Shape = p .shape in
-    let t : List ℕ = put-tail sh r in
-    let l : List ℕ = put-links sh r refs ++ t in
-    let n : List ℕ = put-name sh r name ++ l in
-    let m : List ℕ = put-middle sh r ++ n in
-    rw append-nil
-    (behind out at p₁ (put-tag p) (put-front before sh r ++ m) (a .1) (a .0)
-    (behind out₁ p₁ p₂ (put-front before sh r) m (b .1) (b .0)
-    (behind out₂ p₂ p₃ (put-middle sh r) n (c .1) (c .0)
-    (behind out₃ p₃ p₄ (put-name sh r name) l (d .1) (d .0)
-    (behind out₄ p₄ p₅ (put-links sh r refs) t (e .1) (e .0) f)))))
-
 -- ---- a lean plan
 
--- the tests behind that of its tag
+-- the tests after that of its tag
 abbrev pub lean-tests : Plan → ℕ → List Bool
 lean-tests p n =
     let sh = p .shape in
@@ -88,34 +60,32 @@ name-none : (names : List ℕ) (r : Row) → r .namelen ≡ 0 → name-of names 
 unfolding name-of
 name-none names r e = ap (λ (k : ℕ). take k (drop (r .place) names)) e
 
--- the fields that are left
-abbrev pub lean-fields : ℕ → Plan → Row → List ℕ → List ℕ
-lean-fields before p r refs =
+-- the fields that are left, the hash with b bytes
+abbrev pub lean-parts : ℕ → Plan → Row → List ℕ → ℕ → List (List ℕ)
+lean-parts before p r refs b =
     let sh = p .shape in
     be 1 (p .tag)
-    ++ (be (sh .gap) (complement (gap before (r .address)))
-    ++ (be (sh .word) (r .word)
-    ++ (be (hash-bytes (r .hashkind)) (r .hash)
-    ++ links (sh .link) (r .address) refs)))
+    ∷ be (sh .gap) (complement (gap before (r .address)))
+    ∷ be (sh .word) (r .word)
+    ∷ be b (r .hash)
+    ∷ links (sh .link) (r .address) refs
+    ∷ []
 
-module _ (before : ℕ) (p : Plan) (r : Row) (refs names : List ℕ) (l : Lean p (r .namelen)) where
-  pub lean-bytes : put-planned before p r refs (name-of names r) ≡ lean-fields before p r refs
-  unfolding put-planned put-tag put-fields put-front put-middle put-name put-links put-tail
-  lean-bytes =
-      simp (
-        flag-none p (l .tag),
-        be-none _ (r .len) (l .len),
-        be-none _ (r .size) (l .inst),
-        be-none _ (r .word) (l .superclass),
-        be-none _ (r .namelen) (l .name),
-        name-none names r (l .unnamed),
-        be-none _ (r .count) (l .counted),
-        be-none _ (r .size) (l .size),
-        be-none _ (r .len) (l .truelen),
-        append-nil,
-        append-assoc,
-      )
-
-  pub length-lean : length (put-planned before p r refs (name-of names r))
-      ≡ 1 + p .shape .gap + p .shape .word + hash-bytes (r .hashkind) + length (links (p .shape .link) (r .address) refs)
-  length-lean = rw lean-bytes (simp (length-append, length-be) (omega arith))
+pub lean-bytes : (before : ℕ) (p : Plan) (r : Row) (refs names : List ℕ) → Lean p (r .namelen) → (b : ℕ) → b ≡ hash-bytes (r .hashkind)
+    → put-planned before p r refs (name-of names r) ≡ join (lean-parts before p r refs b)
+unfolding put-planned put-tag put-fields put-front put-middle put-name put-links put-tail
+lean-bytes before p r refs names l b e =
+    simp (
+      e,
+      flag-none p (l .tag),
+      be-none _ (r .len) (l .len),
+      be-none _ (r .size) (l .inst),
+      be-none _ (r .word) (l .superclass),
+      be-none _ (r .namelen) (l .name),
+      name-none names r (l .unnamed),
+      be-none _ (r .count) (l .counted),
+      be-none _ (r .size) (l .size),
+      be-none _ (r .len) (l .truelen),
+      append-nil,
+      append-assoc,
+    )

@@ -1,2 +1,2 @@
--- Laws (the parts of a record, one behind the other, and the bytes of a lean one).
+-- Laws (the bytes of a lean record).
 mod Laws

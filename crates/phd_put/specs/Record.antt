@@ -11,8 +11,8 @@ use Rattle.phd.specs.Phd.{hash-bytes, put}
 use Rattle.phd.specs.declared.classes.Cache.{Cache}
 use Rattle.phd.specs.declared.Facts.{Facts}
 use Rattle.phd.specs.declared.Shape.{Shape}
-use Rattle.phd_rows.specs.Rows.{Rec}
-use Rattle.phd_rows.specs.declared.Row.{Row}
+use Rattle.table.specs.Rows.{Rec}
+use Rattle.table.specs.declared.Row.{Row}
 use Rattle.phd_form.specs.Form.{measure, planned}
 use Rattle.phd_form.specs.declared.Plan.{Plan}
 use Rattle.phd_put.specs.declared.sizes.Sized.{Sized}

@@ -11,7 +11,7 @@ use Rattle.layout.specs.Numbers.{pick, both}
 use Rattle.phd.specs.Phd.{bit, width, hash-bytes, shape}
 use Rattle.phd.specs.declared.Form.{Form}
 use Rattle.phd.specs.declared.Form.the-variants.{Short, Medium, Long, Class, ObjectArray, Primitive, LongPrimitive}
-use Rattle.phd_rows.specs.declared.Row.{Row}
+use Rattle.table.specs.declared.Row.{Row}
 use Rattle.phd_form.specs.Form.{Bounded, flagged, object-form, form-of, tag-of, hash-flags, class-flags, flags-of, planned}
 use Rattle.phd_form.specs.declared.Measure.{Measure}
 use Rattle.phd_form.specs.declared.Plan.{Plan}

@@ -15,10 +15,10 @@ use Rattle.phd.specs.Phd.{hash-bytes}
 use Rattle.phd.specs.Shapes.{Narrow, hash-narrow}
 use Rattle.phd.specs.declared.Shape.{Shape}
 use Rattle.phd_form.specs.declared.Plan.{Plan}
-use Rattle.phd_rows.specs.declared.Row.{Row}
+use Rattle.table.specs.declared.Row.{Row}
 use Rattle.phd_put.specs.Record.{put-tag, put-front, put-middle, put-name, put-links, put-tail, put-fields, put-planned, size-of}
 
-pub length-tag : (p : Plan) → length (put-tag p) ≡ 1 + pick (ltb (p .tag) 0x20) 1 0
+length-tag : (p : Plan) → length (put-tag p) ≡ 1 + pick (ltb (p .tag) 0x20) 1 0
 unfolding put-tag
 length-tag p = simp (length-append, length-be)
 
@@ -34,11 +34,11 @@ pub length-name : (sh : Shape) (r : Row) (name : List ℕ) → length (put-name 
 unfolding put-name
 length-name sh r name = simp (length-append, length-be)
 
-pub length-links : (sh : Shape) (r : Row) (refs : List ℕ) → length (put-links sh r refs) ≡ sh .counted + length refs * sh .link
+length-links : (sh : Shape) (r : Row) (refs : List ℕ) → length (put-links sh r refs) ≡ sh .counted + length refs * sh .link
 unfolding put-links
 length-links sh r refs = simp (length-append, length-be, length-of-links)
 
-pub length-tail : (sh : Shape) (r : Row) → length (put-tail sh r) ≡ sh .size + sh .truelen
+length-tail : (sh : Shape) (r : Row) → length (put-tail sh r) ≡ sh .size + sh .truelen
 unfolding put-tail
 length-tail sh r = simp (length-append, length-be)
 

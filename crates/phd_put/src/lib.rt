@@ -1,14 +1,14 @@
-// Putting a record: its tag, its flag byte and its fields in file order, as wide as the reader's own table of shapes says.
-// Each function's contract is an equation with a definition of specs/Record.antt.
+// Writing a record: its tag, its flag byte and its fields in file order, as wide as the reader's own table of shapes says.
+// The bytes that each function writes are a definition of specs/Record.antt.
 ghost use mathlib.Core.Path.{_≡_};
 ghost use mathlib.Core.Bool.{true};
 ghost use Prim.Native.Nat.{_+_, _≤_};
 ghost use lib.ListN.{length};
-ghost use lib.Seq.{sets};
-ghost use Rattle.phd_rows.specs.Rows.{refs-of, name-of};
+ghost use Rattle.layout_put.specs.Puts.{Puts, Room};
+ghost use Rattle.table.specs.Rows.{refs-of, name-of};
 ghost use Rattle.phd_put.specs.Record.{put-planned, Lean};
 use phd_form::Plan;
-use phd_rows::Row;
+use table::Row;
 
 mod parts;
 pub mod sizes;
@@ -29,7 +29,7 @@ fn lean(p: Plan, namelen: u64) -> bool
         & (sh.truelen == 0)
 }
 
-// Puts such a record at a place, and gives the place after it.
+// Writes such a record at an offset, and returns the offset after it.
 fn put_lean(
     out: &mut [u8],
     at: usize,
@@ -40,25 +40,21 @@ fn put_lean(
     names: &[u8],
 ) -> usize
     requires { ⌜ (row .first + row .count ≤ length (now refs)) × (row .place + row .namelen ≤ length (now names)) × Lean p (row .namelen) ⌝ }
-    requires { ⌜ at + length (put-planned before p row (refs-of (now refs) row) (name-of (now names) row)) ≤ length (now out) ⌝ }
-    ensures is { λ r. ⌜ r ≡ at + length (put-planned before p row (refs-of (now (refs .entry)) row) (name-of (now (names .entry)) row)) ⌝ }
-    ensures out { λ _. ⌜ now (out .exit) ≡ sets (now (out .entry)) at (put-planned before p row (refs-of (now (refs .entry)) row) (name-of (now (names .entry)) row)) ⌝ }
+    requires { ⌜ Room (now out) at (put-planned before p row (refs-of (now refs) row) (name-of (now names) row)) ⌝ }
+    ensures { λ r. ⌜ Puts (now (out .entry)) at (put-planned before p row (refs-of (now (refs .entry)) row) (name-of (now (names .entry)) row)) (now (out .exit)) r ⌝ }
 {
     let sh = p.shape;
     let bytes = phd::forms::hash_bytes_of(row.hashkind);
-    layout_put::put(out, at, 1, p.tag);
-    let gap = at + 1;
-    layout_put::put(out, gap, sh.gap, layout_put::raw_gap(before, row.address));
-    let word = gap + sh.gap;
-    layout_put::put(out, word, sh.word, row.word);
-    let hash = word + sh.word;
-    layout_put::put(out, hash, bytes, row.hash);
+    let gap = layout_put::put(out, at, 1, p.tag);
+    let word = layout_put::put(out, gap, sh.gap, layout_put::raw_gap(before, row.address));
+    let hash = layout_put::put(out, word, sh.word, row.word);
+    let links = layout_put::put(out, hash, bytes, row.hash);
     let first = row.first as usize;
     let n = row.count as usize;
-    layout_put::put_links(out, hash + bytes, sh.link, row.address, refs, first, n)
+    layout_put::put_links(out, links, sh.link, row.address, refs, first, n)
 }
 
-// Puts a record at a place, after one at the address `before`, and gives the place after it.
+// Writes a record at an offset, after one at the address `before`, and returns the offset after it.
 pub fn put_record(
     out: &mut [u8],
     at: usize,
@@ -69,9 +65,8 @@ pub fn put_record(
     names: &[u8],
 ) -> usize
     requires { ⌜ (row .first + row .count ≤ length (now refs)) × (row .place + row .namelen ≤ length (now names)) ⌝ }
-    requires { ⌜ at + length (put-planned before p row (refs-of (now refs) row) (name-of (now names) row)) ≤ length (now out) ⌝ }
-    ensures is { λ r. ⌜ r ≡ at + length (put-planned before p row (refs-of (now (refs .entry)) row) (name-of (now (names .entry)) row)) ⌝ }
-    ensures out { λ _. ⌜ now (out .exit) ≡ sets (now (out .entry)) at (put-planned before p row (refs-of (now (refs .entry)) row) (name-of (now (names .entry)) row)) ⌝ }
+    requires { ⌜ Room (now out) at (put-planned before p row (refs-of (now refs) row) (name-of (now names) row)) ⌝ }
+    ensures { λ r. ⌜ Puts (now (out .entry)) at (put-planned before p row (refs-of (now (refs .entry)) row) (name-of (now (names .entry)) row)) (now (out .exit)) r ⌝ }
 {
     if lean(p, row.namelen) {
         return put_lean(out, at, before, p, row, refs, names);

@@ -4,12 +4,12 @@ ghost use Prim.Native.Nat.{_+_, _^_, _≤_, _<_};
 ghost use lib.ListN.{length};
 ghost use lib.IntN.{pos};
 ghost use Rattle.layout_put.specs.Put.{code, most};
-ghost use Rattle.phd_rows.specs.Rows.{refs-of};
+ghost use Rattle.table.specs.Rows.{refs-of};
 ghost use Rattle.phd_form.specs.Form.{slot-of, measure, planned, Bounded};
 ghost use Rattle.phd_put.specs.Record.{sized as sizedBy};
 ghost use Rattle.phd_put.specs.Sized.{object-sized, array-sized};
 use phd::Cache;
-use phd_rows::Row;
+use table::Row;
 
 // The bytes of a record, and whether its class word goes to the cache.
 pub struct Sized {

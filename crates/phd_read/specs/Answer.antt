@@ -2,7 +2,7 @@
 -- A reader must believe these lines.
 use lib.ListN.{length}
 use Rattle.phd.specs.Phd.{Result}
-use Rattle.phd.specs.Table.{row-count}
+use Rattle.table.specs.Table.{row-count}
 use Rattle.phd_read.specs.declared.Reading.{Reading}
 
 -- the answer: reply, place, missing bytes, how many rows and references were stored, header facts

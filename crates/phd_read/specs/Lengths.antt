@@ -10,7 +10,7 @@ use lib.Dec.{eqb}
 use borrow.Author.Tests.{leb-true}
 use Rattle.layout.specs.Values.{Gives, pick-either, gives-yield, gives-then, gives-last, gives-pick, gives-by, gives-check, gives-count}
 use Rattle.phd.specs.Phd.{shape, front, true-length, tail, there, row, Item, over, item, linked, fields, record-of, from-tag, entry, State, reading}
-use Rattle.phd.specs.Table.{row-count, row-of, number, number-in}
+use Rattle.table.specs.Table.{row-count, row-of, number, number-in}
 use Rattle.phd.specs.Origins.{entry-gives}
 use Rattle.phd.specs.declared.classes.Cache.{Cache}
 use Rattle.phd.specs.declared.Facts.{Facts}
@@ -20,7 +20,7 @@ use Rattle.phd.specs.declared.Front.{Front}
 use Rattle.phd.specs.declared.Origin.{Origin}
 use Rattle.phd.specs.declared.Shape.{Shape}
 use Rattle.phd.specs.declared.Tail.{Tail}
-use Rattle.phd_read.specs.Steps.{entry-forth}
+use Rattle.phd_read.specs.Links.{entry-forth}
 use Rattle.phd_read.specs.Offsets.{reading-traced}
 
 -- What holds of a row's kind, count of references and length.
@@ -52,7 +52,7 @@ gives-tail size truelen n = gives-last _ _ (λ z. gives-then _ _ _ (gives-true t
 -- so it is of a record's row
 abbrev Measures : Item → Type 0
 Measures over = Unit {0}
-Measures (item r ls a c) = Measured (getD r 0 0) (getD r 6 0) (getD r 8 0)
+Measures (item r rs sp k) = Measured (getD r 0 0) (getD r 6 0) (getD r 8 0)
 
 gives-fields : {s : List ℕ} (top before : ℕ) (c : Cache) (origin : Origin) (known hk : ℕ) (sh : Shape) → (sh .kind ≡ 3 → eqb (sh .truelen) 0 ≡ false)
     → Gives s Measures (fields top before c origin known hk sh)
@@ -94,7 +94,7 @@ reading-measured s R F i l =
     let rows : List ℕ = reading s R F .rows in
     let x = reading-traced s R F .each i l in
     let st : State = x .before in
-    let f = entry-forth (reading s R F .facts) (st .address) (st .cache) (length (st .refs)) s (st .at) _ (x .end) (x .gives) in
+    let f = entry-forth (reading s R F .facts) (st .context .address) (st .context .cache) (length (st .refs)) s (st .at) _ (x .end) (x .gives) in
     let m : Measured (getD (row-of rows i) 0 0) (getD (row-of rows i) 6 0) (getD (row-of rows i) 8 0) =
-    gives-entry (reading s R F .facts) (st .address) (st .cache) (length (st .refs)) .each (st .at) _ (x .end) (omega (arith, f .0, f .1)) (x .gives) in
+    gives-entry (reading s R F .facts) (st .context .address) (st .context .cache) (length (st .refs)) .each (st .at) _ (x .end) (omega (arith, f .0, f .1)) (x .gives) in
     rw (number-in rows i 0 (omega arith), number-in rows i 6 (omega arith), number-in rows i 8 (omega arith)) m

@@ -1,7 +1,7 @@
 -- What holds of a record that was read from a dump: its row's numbers, its address, and where its references stand.
 -- Assumes nothing.
 use mathlib.Core.Path.{_≡_, refl, subst}
-use Prim.Native.Nat.{ℕ, zero, suc, _+_, _≤_}
+use Prim.Native.Nat.{ℕ, zero, suc, _+_, _≤_, _<_}
 use mathlib.Core.Bool.{Bool, true, false}
 use mathlib.Core.List.{List, [], _∷_}
 use lib.ListN.{length, getD, take, drop}
@@ -9,10 +9,11 @@ use lib.Dec.{eqb}
 use native.Mathlib.Omega.{arith}
 use borrow.Author.Tests.{le-leb}
 use Rattle.layout.specs.Numbers.{pick, value, within}
-use Rattle.layout.specs.Layout.{yield, whole, stops, run, run-then, run-position, run-yield, run-refuse, run-field, then-inv}
+use Rattle.layout.specs.Layout.{yield, whole, stops, run, run-then, run-position, run-yield, run-refuse, run-field, then-inv, _>>=_, field}
 use Rattle.layout.specs.declared.Stop.the-variants.{Refused}
 use Rattle.layout.specs.Values.{Gives, gives-yield, gives-then, gives-last, gives-pick, gives-address, gives-reference}
-use Rattle.phd.specs.Phd.{row-width, offset-number, highest, tagged, formed, references, Links, links, front, row, Item, over, item, linked, fields, record-of, from-tag, entry}
+use Rattle.table.specs.Table.{row-width, offset-number}
+use Rattle.phd.specs.Phd.{highest, tagged, formed, references, Links, links, front, row, Before, Item, over, item, linked, fields, record-of, from-tag, entry}
 use Rattle.phd.specs.Origins.{at-place, entry-at}
 use Rattle.phd.specs.Shapes.{link-narrow}
 use Rattle.phd.specs.declared.classes.Cache.{Cache}
@@ -23,7 +24,16 @@ use Rattle.phd.specs.declared.Origin.{Origin}
 use Rattle.phd.specs.declared.Shape.{Shape}
 use Rattle.phd.specs.declared.Tagged.{Tagged}
 use Rattle.phd.specs.declared.Tagged.the-variants.{Begins, Other}
-use Rattle.phd_read.specs.Steps.{entry-forth}
+use Rattle.phd.specs.declared.Span.{Span}
+use Rattle.reading.specs.Steps.{byte-forth}
+
+-- ---- a record goes forth
+
+-- what is read takes a byte at least, its tag
+pub entry-forth : (h : Facts) (before : ℕ) (c : Cache) (index : ℕ) (s : List ℕ) (at : ℕ) (i : Item) (e : ℕ)
+    → run (entry h before c index) s at ≡ whole i e → (at < e) × (e ≤ length s)
+unfolding from-tag field _>>=_
+entry-forth h before c index s at i e r = byte-forth _ s at i e (rw entry-at at r)
 
 -- ---- references
 
@@ -75,7 +85,7 @@ pub record Stands (h : Facts) (s : List ℕ) (origin : Origin) (r : List ℕ) (l
 
 abbrev Stood : Facts → List ℕ → Origin → Item → Type 0
 Stood h s origin over = Unit {0}
-Stood h s origin (item r ls a c) = Stands h s origin r ls a
+Stood h s origin (item r rs sp k) = Stands h s origin r (record { span = sp; list = rs }) (k .address)
 
 gives-front : {s : List ℕ} (top before : ℕ) (sh : Shape) → Gives s (λ (v : Front). v .address ≤ top) (front top before sh)
 unfolding front
@@ -99,36 +109,36 @@ gives-tagged h s before c origin =
 -- ---- its tag
 
 -- a tag behind which a record was read begins one
-begins-record : (h : Facts) (s : List ℕ) (before : ℕ) (c : Cache) (origin : Origin) (t m : ℕ) (r : List ℕ) (ls : Links) (a : ℕ) (k : Cache) (n : ℕ)
-    → run (pick (eqb t 3) (yield over) (record-of h before c origin t)) s m ≡ whole (item r ls a k) n → (fm : Form) × (tagged t ≡ Begins fm)
+begins-record : (h : Facts) (s : List ℕ) (before : ℕ) (c : Cache) (origin : Origin) (t m : ℕ) (r rs : List ℕ) (sp : Span) (k : Before) (n : ℕ)
+    → run (pick (eqb t 3) (yield over) (record-of h before c origin t)) s m ≡ whole (item r rs sp k) n → (fm : Form) × (tagged t ≡ Begins fm)
 unfolding record-of formed
-begins-record h s before c origin t m r ls a k n e = by (eqb t 3) (tagged t) refl refl
+begins-record h s before c origin t m r rs sp k n e = by (eqb t 3) (tagged t) refl refl
   where
     by : (b : Bool) (g : Tagged) → eqb t 3 ≡ b → tagged t ≡ g → (fm : Form) × (tagged t ≡ Begins fm)
     by b (Begins fm) p q = (fm, q)
     by true Other p q =
-        let y : whole over m ≡ whole (item r ls a k) n = rw (p, run-yield) at e in
+        let y : whole over m ≡ whole (item r rs sp k) n = rw (p, run-yield) at e in
         let z : _≡_ {A = ℕ} 0 1 = cc in
         absurd (omega arith)
     by false Other p q =
-        let y : stops (Refused 6) ≡ whole (item r ls a k) n = rw (p, run-then, q, run-refuse) at e in
+        let y : stops (Refused 6) ≡ whole (item r rs sp k) n = rw (p, run-then, q, run-refuse) at e in
         let z : _≡_ {A = ℕ} 0 1 = cc in
         absurd (omega arith)
 
 -- The byte where a record was read is a record's tag.
-pub tag-stands : (h : Facts) (s : List ℕ) (before : ℕ) (c : Cache) (index at : ℕ) (r : List ℕ) (ls : Links) (a : ℕ) (k : Cache) (n : ℕ)
-    → run (entry h before c index) s at ≡ whole (item r ls a k) n → (fm : Form) × (tagged (value (take 1 (drop at s))) ≡ Begins fm)
+pub tag-stands : (h : Facts) (s : List ℕ) (before : ℕ) (c : Cache) (index at : ℕ) (r rs : List ℕ) (sp : Span) (k : Before) (n : ℕ)
+    → run (entry h before c index) s at ≡ whole (item r rs sp k) n → (fm : Form) × (tagged (value (take 1 (drop at s))) ≡ Begins fm)
 unfolding from-tag
-tag-stands h s before c index at r ls a k n e =
-    let f = entry-forth h before c index s at (item r ls a k) n e in
-    begins-record h s before c (at-place at index) (value (take 1 (drop at s))) (at + 1) r ls a k n
+tag-stands h s before c index at r rs sp k n e =
+    let f = entry-forth h before c index s at (item r rs sp k) n e in
+    begins-record h s before c (at-place at index) (value (take 1 (drop at s))) (at + 1) r rs sp k n
     (rw (entry-at, run-then, run-field 1 s at (omega arith)) at e)
 
 -- ---- a record that was read stands in the dump
 
-pub links-stand : (h : Facts) (s : List ℕ) (before : ℕ) (c : Cache) (index at : ℕ) (r : List ℕ) (ls : Links) (a : ℕ) (k : Cache) (n : ℕ)
-    → run (entry h before c index) s at ≡ whole (item r ls a k) n → Stands h s (at-place at index) r ls a
-links-stand h s before c index at r ls a k n e =
-    let f = entry-forth h before c index s at (item r ls a k) n e in
+pub links-stand : (h : Facts) (s : List ℕ) (before : ℕ) (c : Cache) (index at : ℕ) (r rs : List ℕ) (sp : Span) (k : Before) (n : ℕ)
+    → run (entry h before c index) s at ≡ whole (item r rs sp k) n → Stands h s (at-place at index) r (record { span = sp; list = rs }) (k .address)
+links-stand h s before c index at r rs sp k n e =
+    let f = entry-forth h before c index s at (item r rs sp k) n e in
     let l : at ≤ length s = omega arith in
-    gives-tagged h s before c (at-place at index) .each at (item r ls a k) n l (rw entry-at at e)
+    gives-tagged h s before c (at-place at index) .each at (item r rs sp k) n l (rw entry-at at e)

@@ -1,26 +1,28 @@
 -- The promises about reading, of `reading` and of what a caller sees of it, in reading order.
 -- A reader must believe the statements and their records. Assumes nothing.
-use mathlib.Core.Path.{_≡_, ap, _∙_}
+use mathlib.Core.Path.{_≡_, ap}
 use Prim.Native.Nat.{ℕ, suc, _+_, _*_, _≤_, _<_}
 use mathlib.Core.Bool.{true}
-use mathlib.Core.List.{List, _∷_, _++_, map, append-assoc}
-use lib.ListN.{length, take, drop, length-append, length-drop}
-use lib.Seq.{take-append-seam}
+use mathlib.Core.List.{List, _∷_, _++_, map}
+use lib.ListN.{length, take, length-append, length-drop}
 use native.Mathlib.Omega.{arith}
-use native.Mathlib.Decide.{decLe}
 use Rattle.layout.specs.Numbers.{within}
-use Rattle.phd.specs.Phd.{limit, row-width, highest, Result, reading}
-use Rattle.phd.specs.Table.{row-count, number}
+use Rattle.table.specs.Table.{row-width, row-count, number}
+use Rattle.phd.specs.Phd.{limit, highest, Result, phd, capacity, reading}
 use Rattle.phd.specs.Cases.{computing, dump, its, table, case-f, cases, tried, as-said}
-use Rattle.layout.specs.Lent.{stored}
+use Rattle.table.specs.Buffer.{stored}
 use Rattle.phd_read.specs.Answer.{answer}
-use Rattle.phd_read.specs.Cut.{Begins, Final, Agree, more-agree, cuts-agree}
+use Rattle.reading.specs.Cut.{Final, Agree, more-agree, cuts-agree}
+use Rattle.reading.specs.Missing.{MissingOf, less-missing, reading-missing, reading-waits, reading-settles, reading-completes}
+use Rattle.reading.specs.Offsets.{offset-of, Traced, counted, next-behind}
+use Rattle.reading.specs.Capacity.{reading-keeps}
+use Rattle.reading.specs.Seen as Any
 use Rattle.phd_read.specs.Ranges.{refs-within, addresses-within}
 use Rattle.phd_read.specs.Lengths.{AllMeasured, reading-measured}
-use Rattle.phd_read.specs.Missing.{MissingOf, less-missing, reading-missing, reading-waits, reading-needs}
-use Rattle.phd_read.specs.Offsets.{offset-of, Traced, reading-traced, next-behind}
+use Rattle.phd_read.specs.Lawful.{lawful, always}
+use Rattle.phd_read.specs.Offsets.{TagAt, reading-traced, reading-tagged}
 use Rattle.phd_read.specs.Replies.{reading-answers}
-use Rattle.phd_read.specs.Rooms.{reading-keeps, counts}
+use Rattle.phd_read.specs.Counts.{counts}
 
 -- ---- demand 1, of reading
 
@@ -44,8 +46,8 @@ pub record Sound (r : Result) (R F : ℕ) : Type 0 where
 pub sound : (s : List ℕ) (R F : ℕ) → Sound (reading s R F) R F
 sound s R F = record {
   reply = reading-answers s R F;
-  rows-fit = reading-keeps s R F .rows-fit;
-  refs-fit = reading-keeps s R F .refs-fit;
+  rows-fit = reading-keeps phd lawful s (capacity R F) .rows-fit;
+  refs-fit = reading-keeps phd lawful s (capacity R F) .refs-fit;
   rows-counted = counts s R F .0;
   refs-counted = counts s R F .1;
   rows-ranged = addresses-within s R F;
@@ -65,7 +67,7 @@ stored-length table xs h = simp (length-append, length-drop) (omega arith)
 -- the shorter's reply is neither cut nor no room, the longer gives the same.
 pub cuts : (b : List ℕ) (m n R R′ F F′ : ℕ) → m ≤ n → length (take n b) ≤ limit → R ≤ R′ → F ≤ F′
     → Agree (reading (take m b) R F) (reading (take n b) R′ F′)
-cuts = cuts-agree
+cuts b m n R R′ F F′ h l p q = cuts-agree phd b m n (capacity R F) (capacity R′ F′) h l (record { rows = p; refs = q })
 
 -- The same as callers see it: r is the reading of the shorter, into the tables rows and refs, and r′ that of the longer, into
 -- rows′ and refs′.
@@ -81,79 +83,70 @@ pub record Seen (r r′ : Result) (rows rows′ refs refs′ : List ℕ) : Type 
   pub rows-same : Final (answer r .reply) → r′ .rows ≡ r .rows
   pub refs-same : Final (answer r .reply) → r′ .refs ≡ r .refs
 
--- what begins a list begins a table in which the list was stored
-stored-first : (table table′ xs ys : List ℕ) → Begins xs ys → take (length xs) (stored table′ ys) ≡ take (length xs) (stored table xs)
-unfolding stored
-stored-first table table′ xs ys b =
-    rw (← b .all, append-assoc, take-append-seam xs (b .more ++ drop (length (xs ++ b .more)) table′), take-append-seam xs (drop (length xs) table))
-
-begins-length : {xs ys : List ℕ} → Begins xs ys → length xs ≤ length ys
-begins-length {xs} {ys} b = omega (arith, simp length-append at (ap length (b .all)))
-
-seen : (r r′ : Result) (rows rows′ refs refs′ : List ℕ) → answer r .rows * row-width ≡ length (r .rows) → Agree r r′ → Seen r r′ rows rows′ refs refs′
-unfolding answer row-count
-seen r r′ rows rows′ refs refs′ e a =
-    let p = begins-length (a .rows) in
-    let q = begins-length (a .refs) in
-    record {
-      rows-more = omega arith;
-      refs-more = omega arith;
-      rows-first = rw e (stored-first rows rows′ (r .rows) (r′ .rows) (a .rows));
-      refs-first = stored-first refs refs′ (r .refs) (r′ .refs) (a .refs);
-      same = λ f. ap answer (a .same f);
-      rows-same = λ f. ap (λ x. x .rows) (a .same f);
-      refs-same = λ f. ap (λ x. x .refs) (a .same f);
-    }
+seen : (r r′ : Result) (rows rows′ refs refs′ : List ℕ) → Any.Seen r r′ rows rows′ refs refs′ → Seen r r′ rows rows′ refs refs′
+unfolding answer
+seen r r′ rows rows′ refs refs′ a = record {
+  rows-more = a .rows-more;
+  refs-more = a .refs-more;
+  rows-first = a .rows-first;
+  refs-first = a .refs-first;
+  same = λ f. ap answer (a .same f);
+  rows-same = λ f. ap (λ x. x .rows) (a .same f);
+  refs-same = λ f. ap (λ x. x .refs) (a .same f);
+}
 
 pub cuts-seen : (b : List ℕ) (m n : ℕ) (rows rows′ refs refs′ : List ℕ) → m ≤ n → length (take n b) ≤ limit
     → length rows ≤ length rows′ → length refs ≤ length refs′
     → Seen (reading (take m b) (length rows) (length refs)) (reading (take n b) (length rows′) (length refs′)) rows rows′ refs refs′
-cuts-seen b m n rows rows′ refs refs′ h l p q =
-    seen _ _ rows rows′ refs refs′ (counts (take m b) (length rows) (length refs) .0) (cuts b m n (length rows) (length rows′) (length refs) (length refs′) h l p q)
+cuts-seen b m n rows rows′ refs refs′ h l p q = seen _ _ rows rows′ refs refs′ (Any.cuts-seen phd lawful b m n rows rows′ refs refs′ h l p q)
 
 -- ---- where a row came from
 
--- The offset of each stored row is the place of a record's tag; reading one record there, from the state before it, gives that
+-- The offset of each stored row is the place of a record; reading one record there, from the state before it, gives that
 -- row; and the offsets grow strictly. (Two cuts of the same bytes agree in the offsets as in every number of a row: above.)
-pub came-from : (s : List ℕ) (R F : ℕ) → Traced s R F (reading s R F)
+pub came-from : (s : List ℕ) (R F : ℕ) → Traced phd s (capacity R F) (reading s R F)
 came-from = reading-traced
 
--- A record reaches to the offset of the next row: nothing stands between them.
+-- The byte there is a record's tag.
+pub tag-there : (s : List ℕ) (R F i : ℕ) → i < row-count (reading s R F .rows) → TagAt s (offset-of (reading s R F .rows) i)
+tag-there = reading-tagged
+
+-- Every record has a row: the row number i came from the record number i, which reaches to the offset of the next row.
+pub one-each : (s : List ℕ) (R F i : ℕ) (l : i < row-count (reading s R F .rows)) → came-from s R F .each i l .count ≡ i
+one-each s R F i l = counted phd _ s (capacity R F) always _ _ i l (came-from s R F .each i l)
+
 pub one-by-one : (s : List ℕ) (R F i : ℕ) (l : i < row-count (reading s R F .rows)) → suc i < row-count (reading s R F .rows)
     → offset-of (reading s R F .rows) (suc i) ≡ came-from s R F .each i l .end
-one-by-one s R F i l k = next-behind _ s R F _ _ i (came-from s R F .each i l) (came-from s R F .each (suc i) k)
+one-by-one s R F i l k = next-behind phd _ s (capacity R F) always _ _ i k (came-from s R F .each i l) (came-from s R F .each (suc i) k)
 
 -- ---- how much is missing
 
 -- Reply 1 carries what one field lacks where the dump ends, and every other reply 0.
 pub missing : (s : List ℕ) (R F : ℕ) → MissingOf s (reading s R F)
-missing = reading-missing
+missing s R F = reading-missing phd lawful s (capacity R F)
 
 -- Fewer bytes more than are missing, within the size limit and read into tables at least as roomy, leave all that the reading
 -- gives as it was, but that as many fewer are missing.
 pub awaited : (s t : List ℕ) (R R′ F F′ : ℕ) → length (s ++ t) ≤ limit → R ≤ R′ → F ≤ F′ → length t < reading s R F .missing
     → reading (s ++ t) R′ F′ ≡ less-missing (length t) (reading s R F)
-awaited = reading-waits
+awaited s t R R′ F F′ l p q = reading-waits phd s t (capacity R F) (capacity R′ F′) l (record { rows = p; refs = q })
 
 -- So what makes a cut dump anything but cut has at least as many bytes.
 pub settles : (s t : List ℕ) (R R′ F F′ : ℕ) → length (s ++ t) ≤ limit → R ≤ R′ → F ≤ F′ → reading s R F .reply ≡ 1
     → (reading (s ++ t) R′ F′ .reply ≡ 1 → ⊥) → reading s R F .missing ≤ length t
-settles s t R R′ F F′ l p q e n = elim (decLe (reading s R F .missing) (length t)) [ yes k ↦ k | no k ↦ absurd (still (omega arith)) ]
-  where
-    still : length t < reading s R F .missing → ⊥
-    still k = n (ap (λ x. x .reply) (awaited s t R R′ F F′ l p q k) ∙ e)
+settles s t R R′ F F′ l p q = reading-settles phd s t (capacity R F) (capacity R′ F′) l (record { rows = p; refs = q })
 
 -- And what makes it whole goes at least as far: its end tag stands behind them, whatever follows that.
 pub completes : (s t : List ℕ) (R R′ F F′ : ℕ) → length (s ++ t) ≤ limit → R ≤ R′ → F ≤ F′ → reading s R F .reply ≡ 1
     → reading (s ++ t) R′ F′ .reply ≡ 0 → length s + reading s R F .missing ≤ reading (s ++ t) R′ F′ .place
-completes s t R R′ F F′ l p q e z = reading-needs s t R R′ F F′ l p q (missing s R F .cut e .some) z
+completes s t R R′ F F′ l p q e = reading-completes phd s t (capacity R F) (capacity R′ F′) l (record { rows = p; refs = q }) e lawful
 
 -- ---- 01's cases
 
 -- Case (f) in full: whatever bytes follow 01's dump, within the size limit.
 pub any-more : (more : List ℕ) → length (dump ++ more) ≤ limit → tried (case-f more) ≡ case-f more .says
 unfolding computing dump its table case-f
-any-more more l = more-agree dump more (4 * row-width) (4 * row-width) 1 1 l (omega arith) (omega arith) .same (λ e. omega arith, λ e. omega arith, λ e. omega arith)
+any-more more l = more-agree phd dump more (capacity (4 * row-width) 1) (capacity (4 * row-width) 1) l (record { rows = omega arith; refs = omega arith }) .same (λ e. omega arith, λ e. omega arith, λ e. omega arith)
 
 -- All cases (a) to (j) together.
 pub all-cases : (more : List ℕ) → length (dump ++ more) ≤ limit → map tried (case-f more ∷ cases) ≡ map (λ c. c .says) (case-f more ∷ cases)

@@ -9,11 +9,11 @@ use lib.ListN.{length}
 use lib.Dec.{leb}
 use native.Mathlib.Omega.{arith}
 use Rattle.layout.specs.Numbers.{both, within}
-use Rattle.phd.specs.Phd.{highest, State, reading}
-use Rattle.phd.specs.Table.{row-count, number, number-in}
+use Rattle.phd.specs.Phd.{highest, State, phd, capacity, reading}
+use Rattle.table.specs.Table.{row-count, number, number-in}
 use Rattle.phd_read.specs.Links.{links-stand}
 use Rattle.phd_read.specs.Offsets.{reading-traced}
-use Rattle.phd_read.specs.Steps.{tables-hold}
+use Rattle.reading.specs.Steps.{tables-hold}
 
 -- ---- references
 
@@ -29,9 +29,9 @@ within-append low high (x ∷ xs) ys = rw (within-append low high xs ys) (both-a
 pub refs-within : (s : List ℕ) (R F : ℕ) → within 1 (highest (reading s R F .facts .word)) (reading s R F .refs) ≡ true
 unfolding within
 refs-within s R F =
-    tables-hold s R F (λ h rows refs. within 1 (highest (h .word)) refs ≡ true)
-    (λ h rows refs before c at r ls a k n t e p q.
-    rw (within-append, t) (links-stand h s before c (length refs) at r ls a k n e .links .proper .range))
+    tables-hold phd s (capacity R F) (λ h rows refs. within 1 (highest (h .word)) refs ≡ true)
+    (λ h rows refs c at r rs sp k n t e p q.
+    rw (within-append, t) (links-stand h s (c .address) (c .cache) (length refs) at r rs sp k n e .links .proper .range))
     (λ h. refl)
 
 -- ---- addresses: a row's number 1
@@ -40,6 +40,6 @@ pub addresses-within : (s : List ℕ) (R F i : ℕ) → i < row-count (reading s
 addresses-within s R F i l =
     let x = reading-traced s R F .each i l in
     let st : State = x .before in
-    let k = links-stand (reading s R F .facts) s (st .address) (st .cache) (length (st .refs)) (st .at) _ (x .links) (x .address) (x .cache) (x .end) (x .gives) in
-    let e : number (reading s R F .rows) i 1 ≡ x .address = number-in (reading s R F .rows) i 1 (omega arith) ∙ k .address in
+    let k = links-stand (reading s R F .facts) s (st .context .address) (st .context .cache) (length (st .refs)) (st .at) _ (x .list) (x .note) (x .context) (x .end) (x .gives) in
+    let e : number (reading s R F .rows) i 1 ≡ x .context .address = number-in (reading s R F .rows) i 1 (omega arith) ∙ k .address in
     omega (arith, e, k .most)

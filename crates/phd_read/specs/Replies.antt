@@ -4,17 +4,14 @@ use mathlib.Core.Path.{_≡_, refl}
 use Prim.Native.Nat.{ℕ, zero, suc, _≤_}
 use mathlib.Core.Bool.{true}
 use mathlib.Core.List.{List, []}
-use lib.ListN.{length}
 use lib.Dec.{leb, eqb, lit≤}
 use native.Mathlib.Omega.{arith}
 use borrow.Author.Tests.{leb-true}
 use Rattle.layout.specs.Numbers.{both}
-use Rattle.layout.specs.Layout.{Layout, stops, run, reply-of}
+use Rattle.layout.specs.Layout.{Layout}
 use Rattle.layout.specs.Fields.{no-text}
 use Rattle.layout.specs.Values.{both-left, both-right, Refuses, refuses-yield, refuses-refuse, refuses-then, refuses-pick, refuses-field, refuses-raw, refuses-position, refuses-check, refuses-need, refuses-exactly, refuses-below, refuses-address, refuses-reference, refuses-count, refuses-string}
-use Rattle.layout.specs.declared.Stop.{Stop}
-use Rattle.layout.specs.declared.Stop.the-variants.{Cut, Refused}
-use Rattle.phd.specs.Phd.{opening-bytes, preamble, after-vm, header-records, header, formed, flag-byte, front, middle, class-name, link-count, references, links, true-length, tail, over, linked, fields, record-of, from-tag, entry, ended, nothing, reading}
+use Rattle.phd.specs.Phd.{opening-bytes, preamble, after-vm, header-records, header, formed, flag-byte, front, middle, class-name, link-count, references, links, true-length, tail, over, linked, fields, record-of, from-tag, entry, phd, capacity, reading}
 use Rattle.phd.specs.Origins.{entry-refuses}
 use Rattle.phd.specs.declared.classes.Cache.{Cache}
 use Rattle.phd.specs.declared.Facts.{Facts}
@@ -22,7 +19,7 @@ use Rattle.phd.specs.declared.Origin.{Origin}
 use Rattle.phd.specs.declared.Shape.{Shape}
 use Rattle.phd.specs.declared.Tagged.{Tagged}
 use Rattle.phd.specs.declared.Tagged.the-variants.{Begins, Other}
-use Rattle.phd_read.specs.Steps.{Either, step-by, reading-holds}
+use Rattle.reading.specs.Capacity.{reading-replies}
 
 -- a reply to what was read and is refused
 abbrev Known : ℕ → Type 0
@@ -129,26 +126,15 @@ entry-fine h before c index = entry-refuses h before c index (λ origin.
 
 -- ---- the reading
 
--- such a layout refuses with a reply that is neither 0 nor 1
-pub refused-known : {A : Type 0} (l : Layout A) → Fine l → (s : List ℕ) (at r : ℕ) → run l s at ≡ stops (Refused r) → (3 ≤ r) × (r ≤ 12)
-refused-known l g s at r e =
-    let k : Known r = g .each s at r e in
-    (leb-true _ _ (both-left (leb 3 r) (leb r 12) k), leb-true _ _ (both-right (leb 3 r) (leb r 12) k))
-
-abbrev Answers : ℕ → Type 0
-Answers r = r ≤ 14
-
--- a cut is reply 1
-stop-known : {A : Type 0} (l : Layout A) → Fine l → (s : List ℕ) (at : ℕ) (w : Stop) → run l s at ≡ stops w → Answers (reply-of w)
-unfolding reply-of
-stop-known l g s at (Cut n) e = lit≤ tt
-stop-known l g s at (Refused r) e = omega (arith, refused-known l g s at r e .1)
+-- what holds of a number of the replies 3 to 12
+pub known : (r : ℕ) → Known r → (3 ≤ r) × (r ≤ 12)
+known r k = (leb-true _ _ (both-left (leb 3 r) (leb r 12) k), leb-true _ _ (both-right (leb 3 r) (leb r 12) k))
 
 -- Any bytes and any room give one of the replies 0 to 14.
 pub reading-answers : (s : List ℕ) (R F : ℕ) → reading s R F .reply ≤ 14
-unfolding ended nothing
 reading-answers s R F =
-    reading-holds s R F (λ h st. Unit {0}) (λ r. Answers (r .reply)) (lit≤ tt) (λ w e. stop-known header header-fine s 0 w e) (λ h n e. tt)
-    (λ h st _. step-by (Either (λ x. Unit {0}) (λ r. Answers (r .reply))) h s R F st (λ n e. lit≤ tt) (λ r ls a c n e p q. tt) (lit≤ tt) (lit≤ tt)
-    (λ w e. stop-known (entry h (st .address) (st .cache) (length (st .refs))) (entry-fine h _ _ _) s (st .at) w e))
-    (λ h st _. lit≤ tt)
+    reading-replies phd (λ r. r ≤ 14) (record { done = lit≤ tt; cut = lit≤ tt; long = lit≤ tt; no-row = lit≤ tt; no-refs = lit≤ tt })
+    (at-most header-fine) (λ h k index. at-most (entry-fine h _ _ _)) s (capacity R F)
+  where
+    at-most : {A : Type 0} {l : Layout A} → Fine l → Refuses (λ r. r ≤ 14) l
+    at-most g = record { each = λ s at r e. omega (arith, known r (g .each s at r e) .1) }

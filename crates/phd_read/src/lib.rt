@@ -3,7 +3,7 @@
 ghost use mathlib.Core.Path.{_≡_};
 ghost use lib.ListN.{length};
 ghost use Rattle.phd.specs.Phd.{reading, nothing as nothingOf};
-ghost use Rattle.layout.specs.Lent.{stored};
+ghost use Rattle.table.specs.Buffer.{stored};
 ghost use Rattle.phd_read.specs.Answer.{answer};
 use layout::Text;
 use phd::Facts;
@@ -46,14 +46,14 @@ fn nothing(reply: u64, missing: usize) -> Reading
     }
 }
 
-// Reads a dump: its rows go to the start of `rows`, as many numbers to each as `phd::ROW` says, and its references to the
+// Reads a dump: its rows go to the start of `rows`, as many numbers to each as `table::ROW` says, and its references to the
 // start of `refs`. What a table holds behind them stays as it was.
 pub fn read(dump: &[u8], rows: &mut [u64], refs: &mut [u64]) -> Reading
     ensures is { λ r. ⌜ r ≡ answer (reading (now (dump .entry)) (length (now (rows .entry))) (length (now (refs .entry)))) ⌝ }
     ensures rows { λ _. ⌜ now (rows .exit) ≡ stored (now (rows .entry)) (reading (now (dump .entry)) (length (now (rows .entry))) (length (now (refs .entry))) .rows) ⌝ }
     ensures refs { λ _. ⌜ now (refs .exit) ≡ stored (now (refs .entry)) (reading (now (dump .entry)) (length (now (rows .entry))) (length (now (refs .entry))) .refs) ⌝ }
 {
-    if phd::LIMIT < dump.len() {
+    if reading::LIMIT < dump.len() {
         return nothing(2, 0);
     }
     match phd_header::read_header(dump) {

@@ -3,11 +3,12 @@ ghost use mathlib.Core.Path.{_≡_};
 ghost use Prim.Native.Nat.{suc, _+_, _*_, _^_, _<_, _≤_};
 ghost use lib.ListN.{length};
 ghost use Rattle.layout.specs.Layout.{run};
-ghost use Rattle.phd.specs.Phd.{limit, row-width, entry, records, first};
+ghost use Rattle.table.specs.Table.{row-width};
+ghost use Rattle.phd.specs.Phd.{limit, entry, records, first};
 ghost use Rattle.phd.specs.Shapes.{Word};
 ghost use Rattle.phd_record.specs.Found.{found-of};
 ghost use Rattle.phd_record.specs.declared.What.the-variants.{Record};
-ghost use Rattle.layout.specs.Lent.{stored};
+ghost use Rattle.table.specs.Buffer.{stored};
 ghost use Rattle.phd_read.specs.Answer.{answer};
 ghost use Rattle.phd_read.specs.Stepping.{Fits, Went, Does, advanced};
 use super::Reading;
@@ -16,6 +17,7 @@ use phd::Cache;
 use phd::Facts;
 use phd_record::Found;
 use phd_record::What;
+use reading::StepResult;
 
 // Where a reading stands between records: the place of the next tag, the address of the record before, the cache, and how
 // many rows and references are stored.
@@ -27,14 +29,9 @@ pub struct Cursor {
     pub refs: usize,
 }
 
-// A step goes on, or ends the reading with a reply, its place, and how many bytes the field lacked.
-pub enum How {
-    Goes,
-    Ends(u64, usize, usize),
-}
-
+// What a step returns: its result, and the cursor after it.
 pub struct Stepped {
-    pub how: How,
+    pub how: StepResult,
     pub cursor: Cursor,
 }
 
@@ -70,7 +67,7 @@ fn store(
     ensures { λ r. ⌜ Went facts (now (s .entry)) k (now (rows .entry)) (now (refs .entry)) (now (rows .exit)) (now (refs .exit)) r ⌝ }
 {
     let row = found.row;
-    tables::put_row(rows, k.rows * phd::ROW, row);
+    table::store_row(rows, k.rows * table::ROW, row);
     let span = found.span;
     let top = phd::forms::highest_of(facts.word);
     tables::put_refs(
@@ -100,9 +97,9 @@ fn admit(
     requires { ⌜ (found ≡ found-of (k .cache) (run (entry facts (k .address) (k .cache) (k .refs)) (now s) (k .at))) × (found .what ≡ Record next) ⌝ }
     ensures { λ r. ⌜ Does facts (now (s .entry)) k (now (rows .entry)) (now (refs .entry)) (now (rows .exit)) (now (refs .exit)) (r .cursor) (r .how) ⌝ }
 {
-    if rows.len() - k.rows * phd::ROW < phd::ROW {
+    if rows.len() - k.rows * table::ROW < table::ROW {
         return Stepped {
-            how: How::Ends(13, k.at, 0),
+            how: StepResult::End(13, k.at, 0),
             cursor: k,
         };
     }
@@ -110,12 +107,12 @@ fn admit(
     let left = (refs.len() - k.refs) as u64;
     if left < span.count {
         return Stepped {
-            how: How::Ends(14, k.at, 0),
+            how: StepResult::End(14, k.at, 0),
             cursor: k,
         };
     }
     Stepped {
-        how: How::Goes,
+        how: StepResult::Continue,
         cursor: store(s, facts, rows, refs, k, next, found),
     }
 }
@@ -130,12 +127,12 @@ pub fn step(s: &[u8], facts: Facts, rows: &mut [u64], refs: &mut [u64], k: Curso
     let what = found.what;
     match what {
         What::Over(n) => Stepped {
-            how: How::Ends(0, n, 0),
+            how: StepResult::End(0, n, 0),
             cursor: k,
         },
         What::Record(next) => admit(s, facts, rows, refs, k, next, found),
         What::Stops(w) => Stepped {
-            how: How::Ends(layout::reply_of(w), k.at, layout::missing_of(w)),
+            how: StepResult::End(layout::reply_of(w), k.at, layout::missing_of(w)),
             cursor: k,
         },
     }
@@ -166,10 +163,10 @@ pub fn read_records(
         let how = done.how;
         let next = done.cursor;
         match how {
-            How::Goes => {
+            StepResult::Continue => {
                 cursor = next;
             }
-            How::Ends(reply, place, missing) => {
+            StepResult::End(reply, place, missing) => {
                 return Reading {
                     reply: reply,
                     place: place,

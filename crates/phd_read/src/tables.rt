@@ -1,4 +1,4 @@
-// Storing a record that has room: its row and its references.
+// Storing the references of a record that has room.
 ghost use mathlib.Core.Path.{_≡_};
 ghost use mathlib.Core.Bool.{true};
 ghost use Prim.Native.Nat.{_+_, _*_, _^_, _≤_, _<_};
@@ -6,21 +6,9 @@ ghost use lib.ListN.{length};
 ghost use lib.Seq.{sets};
 ghost use Rattle.layout.specs.Layout.{run};
 ghost use Rattle.layout_quick.specs.Quick.{clear};
-ghost use Rattle.phd.specs.Phd.{row-width, references};
+ghost use Rattle.phd.specs.Phd.{references};
 ghost use Rattle.phd_read.specs.Stored.{Whole, values-of};
 use layout::Piece;
-
-// Stores a row at a place of the table.
-pub fn put_row(table: &mut [u64], at: usize, row: [u64; phd::ROW])
-    requires { ⌜ (at + row-width ≤ length (now table)) × (length row ≡ row-width) ⌝ }
-    ensures { λ _. ⌜ now (table .exit) ≡ sets (now (table .entry)) at row ⌝ }
-{
-    let mut i: usize = 0;
-    while i < phd::ROW {
-        table[at + i] = row[i];
-        i += 1;
-    }
-}
 
 // Stores count references of a record whose address is clear of both ends, where four bytes more follow.
 fn put_clear(

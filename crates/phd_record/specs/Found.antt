@@ -9,7 +9,8 @@ use Rattle.layout.specs.Layout.{Outcome, whole, stops}
 use Rattle.layout.specs.declared.Stop.{Stop}
 use Rattle.layout.specs.Numbers.{pick}
 use Rattle.layout.specs.declared.Text.{Text}
-use Rattle.phd.specs.Phd.{Item, over, item, Links, row-width, row, put}
+use Rattle.table.specs.Table.{row-width}
+use Rattle.phd.specs.Phd.{carried, Item, over, item, row, put}
 use Rattle.phd.specs.declared.Origin.{Origin}
 use Rattle.phd.specs.declared.Shape.{Shape}
 use Rattle.phd.specs.declared.classes.Cache.{Cache}
@@ -52,7 +53,7 @@ halted w c = record { what = w; row = replicate row-width 0; span = record { pla
 -- what stands at a tag, by what reading it with the cache c finds
 unfoldable pub found-of : Cache → Outcome Item → Found
 found-of c (whole over n) = halted (Over n) c
-found-of c (whole (item r ls a k) n) = record { what = Record n; row = r; span = ls .span; address = a; cache = k }
+found-of c (whole (item r rs sp k) n) = record { what = Record n; row = r; span = sp; address = k .address; cache = k .cache }
 found-of c (stops w) = halted (Stops w) c
 
 -- a record whole, whose n references stand at a place
@@ -70,13 +71,13 @@ recorded next place n t c origin known hk sh v m name = record {
 -- what an answer says stands at the tag
 abbrev what-of : Outcome Item → What
 what-of (whole over n) = Over n
-what-of (whole (item r ls a k) n) = Record n
+what-of (whole (item r rs sp k) n) = Record n
 what-of (stops w) = Stops w
 
 what-is : (c : Cache) (o : Outcome Item) → found-of c o .what ≡ what-of o
 unfolding found-of halted
 what-is c (whole over n) = refl
-what-is c (whole (item r ls a k) n) = refl
+what-is c (whole (item r rs sp k) n) = refl
 what-is c (stops w) = refl
 
 module _ (c : Cache) (o : Outcome Item) (f : Found) (is : f ≡ found-of c o) where
@@ -88,7 +89,7 @@ module _ (c : Cache) (o : Outcome Item) (f : Found) (is : f ≡ found-of c o) wh
     where
       by : (p : Outcome Item) → what-of p ≡ Over n → p ≡ whole over n
       by (whole over m) x = ap (whole over) cc
-      by (whole (item r ls a k) m) x = let z : _≡_ {A = ℕ} 0 1 = cc in absurd (omega arith)
+      by (whole (item r rs sp k) m) x = let z : _≡_ {A = ℕ} 0 1 = cc in absurd (omega arith)
       by (stops w) x = let z : _≡_ {A = ℕ} 0 1 = cc in absurd (omega arith)
 
   pub found-halts : (w : Stop) → f .what ≡ Stops w → o ≡ stops w
@@ -96,15 +97,15 @@ module _ (c : Cache) (o : Outcome Item) (f : Found) (is : f ≡ found-of c o) wh
     where
       by : (p : Outcome Item) → what-of p ≡ Stops w → p ≡ stops w
       by (whole over m) x = let z : _≡_ {A = ℕ} 0 1 = cc in absurd (omega arith)
-      by (whole (item r ls a k) m) x = let z : _≡_ {A = ℕ} 0 1 = cc in absurd (omega arith)
+      by (whole (item r rs sp k) m) x = let z : _≡_ {A = ℕ} 0 1 = cc in absurd (omega arith)
       by (stops u) x = ap stops cc
 
-  pub found-item : (n : ℕ) → f .what ≡ Record n → (ls : Links) × (o ≡ whole (item (f .row) ls (f .address) (f .cache)) n) × (ls .span ≡ f .span)
+  pub found-item : (n : ℕ) → f .what ≡ Record n → (rs : List ℕ) × (o ≡ whole (item (f .row) rs (f .span) (carried (f .address) (f .cache))) n)
   unfolding found-of
   found-item n e = by o is (says (Record n) e)
     where
       by : (p : Outcome Item) → f ≡ found-of c p → what-of p ≡ Record n
-          → (ls : Links) × (p ≡ whole (item (f .row) ls (f .address) (f .cache)) n) × (ls .span ≡ f .span)
+          → (rs : List ℕ) × (p ≡ whole (item (f .row) rs (f .span) (carried (f .address) (f .cache))) n)
       by (whole over m) q x = let z : _≡_ {A = ℕ} 0 1 = cc in absurd (omega arith)
-      by (whole (item r ls a k) m) q x = let y : m ≡ n = cc in (ls, rw (q, y), rw q)
+      by (whole (item r rs sp k) m) q x = let y : m ≡ n = cc in (rs, rw (q, y))
       by (stops w) q x = let z : _≡_ {A = ℕ} 0 1 = cc in absurd (omega arith)

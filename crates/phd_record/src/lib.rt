@@ -31,7 +31,7 @@ pub enum What {
 // What stands at a tag, with the record's row, its references' place, its address and the cache after it.
 pub struct Found {
     pub what: What,
-    pub row: [u64; phd::ROW],
+    pub row: [u64; table::ROW],
     pub span: Span,
     pub address: u64,
     pub cache: Cache,
@@ -43,7 +43,7 @@ pub fn halted(what: What, cache: Cache) -> Found
 {
     Found {
         what: what,
-        row: [0; phd::ROW],
+        row: [0; table::ROW],
         span: Span {
             place: 0,
             width: 0,

@@ -176,7 +176,7 @@ pub fn make_row(
     name: Text,
     n: u64,
     t: Tail,
-) -> [u64; phd::ROW]
+) -> [u64; table::ROW]
     ensures { λ r. ⌜ r ≡ row origin hk known sh v m name n t ⌝ }
 {
     let upper = phd::forms::there(sh.superclass, m.superclass, known);

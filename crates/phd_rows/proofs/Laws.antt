@@ -3,23 +3,22 @@
 use mathlib.Core.Path.{_≡_, refl, sym}
 use mathlib.Core.Bool.{Bool, true, false, not, _&&_, _||_}
 use mathlib.Core.List.{List, [], _∷_}
-use Prim.Native.Nat.{ℕ, zero, suc, _+_, _-_, _*_, _^_, _≤_, _<_}
+use Prim.Native.Nat.{ℕ, zero, suc, _+_, _-_, _^_, _≤_, _<_}
 use native.Mathlib.Omega.{arith}
 use lib.ListN.{length, getD, take, drop}
 use native.Mathlib.Numerals.{add-one}
-use lib.Seq.{getD-take, getD-drop}
-use lib.Dec.{T, leb, ltb, eqb, lit<}
+use lib.Dec.{leb, ltb, eqb}
 use borrow.Author.Tests.{ltb-true, ltb-false, leb-true, leb-false, eqb-true, eqb-false, lt-ltb, le-ltb, le-leb, lt-leb, ne-eqb}
 use Rattle.layout.specs.Numbers.{pick, both, either, within}
 use Rattle.layout.specs.declared.Text.{Text}
-use Rattle.phd.specs.Phd.{highest, hash-bytes, row-width}
+use Rattle.table.specs.Table.{row-count}
+use Rattle.phd.specs.Phd.{highest, hash-bytes}
 use Rattle.phd.specs.declared.Facts.{Facts}
 use Rattle.layout.proofs.Laws.{part-cons}
-use Rattle.phd.specs.Table.{row-count}
-use Rattle.phd_rows.specs.Rows.{row-at, refs-of, name-of}
+use Rattle.table.specs.Rows.{row-at, refs-of, name-of, rows-left, left-next, left-none}
 use Rattle.phd_rows.specs.Good.{every, good-vm, good-numbers, good-ref, good-refs, good-row, first-bad}
-use Rattle.phd_rows.specs.declared.Row.{Row}
-use Rattle.phd_rows.specs.declared.Found.the-variants.{At}
+use Rattle.table.specs.declared.Row.{Row}
+use Rattle.table.specs.declared.Search.the-variants.{At, NotFound}
 
 -- ---- lists of tests
 
@@ -101,19 +100,6 @@ hash-none k v n = by (ltb k 2) refl
         rw (lt-ltb k 3 (omega arith), ne-eqb k 2 n, ne-eqb k 3 m) (zero-below v)
     by false e = let l : 2 ≤ k = ltb-false _ _ e in rw (le-ltb k 3 (omega arith))
 
--- ---- rows
-
--- a row lies within the table
-pub row-room : (rows : List ℕ) (i : ℕ) → i < row-count rows → i * row-width + row-width ≤ length rows
-unfolding row-count
-row-room rows i h = omega arith
-
--- the numbers of a part of the table that is a row
-pub number-at : (rows : List ℕ) (at k : ℕ) → T (ltb k row-width) → getD (take (at + row-width - at) (drop at rows)) k 0 ≡ getD rows (at + k) 0
-number-at rows at k t =
-    let l : k < at + row-width - at = omega (arith, lit< {m = k} {n = row-width} t) in
-    rw (getD-take, getD-drop)
-
 -- ---- the VM string, where there is one
 
 module _ (names : List ℕ) (t : Text) (there : t .there ≡ true) where
@@ -180,19 +166,24 @@ pub byte-good : (names : List ℕ) (k end : ℕ) → k < end → end ≤ length 
     → within 0x21 0x7E (take (end - k) (drop k names)) ≡ within 0x21 0x7E (take (end - (k + 1)) (drop (k + 1) names))
 byte-good names k end h room e = rw (byte-step names k end h room, e)
 
--- a row taken off
-module _ (h : Facts) (names refs rows : List ℕ) (i index n : ℕ) (l : i < n) where
-  row-step : first-bad h names refs rows i index (n - i)
-      ≡ pick (good-row h names refs index (row-at rows i)) (first-bad h names refs rows (i + 1) (index + row-at rows i .count) (n - (i + 1))) (At i)
+-- the rows from number i on, of a table: the next one is bad, or good
+module _ (h : Facts) (names refs rows : List ℕ) (i index : ℕ) (l : i < row-count rows) where
+  row-step : first-bad h names refs i index (rows-left rows i)
+      ≡ pick (good-row h names refs index (row-at rows i)) (first-bad h names refs (i + 1) (index + row-at rows i .count) (rows-left rows (i + 1))) (At i)
   unfolding first-bad
-  row-step = let e : n - i ≡ suc (n - (i + 1)) = omega arith in rw (e, add-one)
+  row-step = rw (left-next rows i l, add-one)
 
-  pub bad-here : good-row h names refs index (row-at rows i) ≡ false → first-bad h names refs rows i index (n - i) ≡ At i
+  pub bad-here : good-row h names refs index (row-at rows i) ≡ false → first-bad h names refs i index (rows-left rows i) ≡ At i
   bad-here e = rw (row-step, e)
 
   pub bad-later : good-row h names refs index (row-at rows i) ≡ true
-      → first-bad h names refs rows i index (n - i) ≡ first-bad h names refs rows (i + 1) (index + row-at rows i .count) (n - (i + 1))
+      → first-bad h names refs i index (rows-left rows i) ≡ first-bad h names refs (i + 1) (index + row-at rows i .count) (rows-left rows (i + 1))
   bad-later e = rw (row-step, e)
+
+-- no row is left
+pub bad-none : (h : Facts) (names refs rows : List ℕ) (i index : ℕ) → row-count rows ≤ i → first-bad h names refs i index (rows-left rows i) ≡ NotFound
+unfolding first-bad
+bad-none h names refs rows i index l = rw (left-none rows i l)
 
 -- a row is good by its three parts
 pub row-good : (h : Facts) (names refs : List ℕ) (index : ℕ) (r : Row) → good-numbers h index (length refs) (length names) r ≡ true

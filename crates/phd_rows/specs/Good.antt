@@ -1,19 +1,19 @@
 -- Which header and which rows may be written: 01's "Writing", first paragraph. The text asks for the same.
 -- A reader must believe these tests.
-use Prim.Native.Nat.{ℕ, zero, suc, _+_, _%_, _^_}
+use mathlib.Core.Path.{_≡_}
+use Prim.Native.Nat.{ℕ, suc, _+_, _%_, _^_}
 use mathlib.Core.Bool.{Bool, true, false, not}
 use mathlib.Core.List.{List, [], _∷_}
-use lib.ListN.{length}
+use lib.ListN.{length, take, drop}
 use lib.Dec.{leb, ltb, eqb}
 use Rattle.layout.specs.Numbers.{pick, both, either, within}
 use Rattle.layout.specs.declared.Text.{Text}
 use Rattle.phd.specs.Phd.{highest, hash-bytes}
 use Rattle.phd.specs.declared.Facts.{Facts}
-use Rattle.phd.specs.Table.{row-count}
-use Rattle.phd_rows.specs.Rows.{row-at, refs-of, name-of, vm-text}
-use Rattle.phd_rows.specs.declared.Row.{Row}
-use Rattle.phd_rows.specs.declared.Found.{Found}
-use Rattle.phd_rows.specs.declared.Found.the-variants.{At, Nowhere}
+use Rattle.table.specs.Rows.{refs-of, name-of}
+use Rattle.table.specs.declared.Row.{Row}
+use Rattle.table.specs.declared.Search.the-variants.{At, NotFound}
+use Rattle.table.specs.declared.Search.{Search}
 
 -- every test of a list holds
 unfoldable pub every : List Bool → Bool
@@ -21,6 +21,10 @@ every [] = true
 every (b ∷ bs) = both b (every bs)
 
 -- ---- the header
+
+-- the bytes of a VM string, out of the dump or of the name bytes passed in
+abbrev pub vm-text : List ℕ → Text → List ℕ
+vm-text names t = take (t .len) (drop (t .place) names)
 
 -- a VM string, at most 65,535 bytes, within the name bytes, each 0x20 to 0x7E; or none
 unfoldable pub good-vm : List ℕ → Text → Bool
@@ -30,10 +34,10 @@ good-vm names t = either (not (t .there)) (every (
     ∷ within 0x20 0x7E (vm-text names t) ∷ []))
 
 -- W is 32 or 64, the VM string is good, and not over 2^30 rows or reference numbers are lent
-unfoldable pub good-header : Facts → List ℕ → List ℕ → List ℕ → Bool
+unfoldable pub good-header : Facts → (names : List ℕ) → List Row → (refs : List ℕ) → Bool
 good-header h names rows refs = every (
     either (eqb (h .word) 32) (eqb (h .word) 64)
-    ∷ leb (row-count rows) (2 ^ 30)
+    ∷ leb (length rows) (2 ^ 30)
     ∷ leb (length refs) (2 ^ 30)
     ∷ good-vm names (h .vm) ∷ [])
 
@@ -99,12 +103,16 @@ good-row h names refs index r = every (
     ∷ good-refs (highest (h .word)) (refs-of refs r)
     ∷ within 0x21 0x7E (name-of names r) ∷ [])
 
--- The first bad one of n rows, of which the first is number i and its references begin at `index`.
-unfoldable pub first-bad : Facts → List ℕ → List ℕ → List ℕ → ℕ → ℕ → ℕ → Found
-first-bad h names refs rows i index zero = Nowhere
-first-bad h names refs rows i index (suc n) =
-    pick (good-row h names refs index (row-at rows i)) (first-bad h names refs rows (suc i) (index + row-at rows i .count) n) (At i)
+-- The first bad row, of rows of which the first is number i and its references begin at `index`.
+unfoldable pub first-bad : Facts → (names refs : List ℕ) → ℕ → ℕ → List Row → Search
+first-bad h names refs i index [] = NotFound
+first-bad h names refs i index (r ∷ rows) =
+    pick (good-row h names refs index r) (first-bad h names refs (suc i) (index + r .count) rows) (At i)
 
 -- the first bad row of all
-abbrev pub bad-of : Facts → (names refs rows : List ℕ) → Found
-bad-of h names refs rows = first-bad h names refs rows 0 0 (row-count rows)
+abbrev pub bad-of : Facts → (names refs : List ℕ) → List Row → Search
+bad-of h names refs rows = first-bad h names refs 0 0 rows
+
+-- the header is good, and no row is bad
+abbrev pub AllRight : Facts → (names refs : List ℕ) → List Row → Type 0
+AllRight h names refs rows = (good-header h names rows refs ≡ true) × (bad-of h names refs rows ≡ NotFound)

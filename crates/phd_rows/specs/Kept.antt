@@ -3,7 +3,6 @@
 use mathlib.Core.Path.{_≡_, refl}
 use mathlib.Core.Logic.{inl, inr}
 use Prim.Native.Nat.{ℕ, zero, suc, _+_, _%_, _^_, _≤_, _<_}
-use native.Mathlib.Nat.{zero-add}
 use native.Mathlib.Omega.{arith}
 use mathlib.Core.Bool.{Bool, true, false}
 use mathlib.Core.List.{List, [], _∷_}
@@ -11,18 +10,18 @@ use lib.Dec.{ltb, eqb}
 use lib.ListN.{length, getD}
 use borrow.Author.Tests.{leb-true, ltb-true, eqb-true, eqb-false, not-true}
 use Rattle.layout.specs.Numbers.{pick, within}
-use Rattle.layout.specs.Lent.{length-part}
+use Rattle.layout.specs.Parts.{length-part}
 use Rattle.layout.specs.Values.{both-left, both-right}
 use Rattle.layout.specs.declared.Text.{Text}
 use Rattle.phd.specs.Phd.{highest, hash-bytes}
 use Rattle.phd.specs.Shapes.{Word}
 use Rattle.phd.specs.declared.Facts.{Facts}
-use Rattle.phd.specs.Table.{row-count}
-use Rattle.phd_rows.specs.Rows.{Rec, row-at, refs-of, name-of, vm-text, bare, rec-of}
-use Rattle.phd_rows.specs.Good.{every, good-vm, good-header, good-hash, good-class, no-name, good-object, good-array, good-primitive, good-kind, good-place, good-span, good-numbers, good-ref, good-refs, good-row, first-bad, bad-of}
-use Rattle.phd_rows.specs.declared.Row.{Row}
-use Rattle.phd_rows.specs.declared.Found.{Found}
-use Rattle.phd_rows.specs.declared.Found.the-variants.{At, Nowhere}
+use Rattle.table.specs.Table.{row-count}
+use Rattle.table.specs.Rows.{rows-of, length-rows, All, Rec, refs-of, name-of, bare, rec-of}
+use Rattle.phd_rows.specs.Good.{every, good-vm, good-header, good-hash, good-class, no-name, good-object, good-array, good-primitive, good-kind, good-place, good-span, good-numbers, good-ref, good-refs, good-row, first-bad, bad-of, vm-text}
+use Rattle.table.specs.declared.Row.{Row}
+use Rattle.table.specs.declared.Search.the-variants.{At, NotFound}
+use Rattle.table.specs.declared.Search.{Search}
 
 pub record GoodRef (top a : ℕ) : Type 0 where
   pub fours : a % 4 ≡ 0
@@ -187,39 +186,35 @@ module _ (h : Facts) (names refs : List ℕ) (index : ℕ) (r : Row) (g : good-r
 
 -- ---- no bad row
 
-by-none : (b : Bool) (x : Found) (i : ℕ) → pick b x (At i) ≡ Nowhere → (b ≡ true) × (x ≡ Nowhere)
+by-none : (b : Bool) (x : Search) (i : ℕ) → pick b x (At i) ≡ NotFound → (b ≡ true) × (x ≡ NotFound)
 by-none true x i e = (refl, e)
 by-none false x i e = let z : _≡_ {A = ℕ} 0 1 = cc in absurd (omega arith)
 
 -- the first of the rows is good, and none of the others is bad
-pub none-bad : (h : Facts) (names refs rows : List ℕ) (n i index : ℕ) → first-bad h names refs rows i index (suc n) ≡ Nowhere
-    → (good-row h names refs index (row-at rows i) ≡ true) × (first-bad h names refs rows (suc i) (index + row-at rows i .count) n ≡ Nowhere)
+pub none-bad : (h : Facts) (names refs : List ℕ) (i index : ℕ) (r : Row) (rows : List Row) → first-bad h names refs i index (r ∷ rows) ≡ NotFound
+    → (good-row h names refs index r ≡ true) × (first-bad h names refs (suc i) (index + r .count) rows ≡ NotFound)
 unfolding first-bad
-none-bad h names refs rows n i index e = by-none (good-row h names refs index (row-at rows i)) _ i e
+none-bad h names refs i index r rows e = by-none (good-row h names refs index r) _ i e
 
--- what good rows are, every row of a table without a bad one is
-module _ (h : Facts) (names refs rows : List ℕ) (P : Row → Type 0) (f : (index : ℕ) (r : Row) → good-row h names refs index r ≡ true → P r) where
-  -- of n rows from number i on
-  each-from : (n i index : ℕ) → first-bad h names refs rows i index n ≡ Nowhere → (k : ℕ) → k < n → P (row-at rows (i + k))
-  each-from zero i index e k l = absurd (omega arith)
-  each-from (suc n) i index e zero l =
-      let z : i + 0 ≡ i = omega arith in
-      rw z (f index (row-at rows i) (none-bad h names refs rows n i index e .0))
-  each-from (suc n) i index e (suc k) l =
-      let z : i + suc k ≡ suc i + k = omega arith in
-      rw z (each-from n (suc i) (index + row-at rows i .count) (none-bad h names refs rows n i index e .1) k (omega arith))
+-- what good rows are, every row is where none is bad
+module _ (h : Facts) (names refs : List ℕ) (P : Row → Type 0) (f : (index : ℕ) (r : Row) → good-row h names refs index r ≡ true → P r) where
+  each-from : (rows : List Row) (i index : ℕ) → first-bad h names refs i index rows ≡ NotFound → All P rows
+  each-from [] i index e = tt
+  each-from (r ∷ rows) i index e =
+      let b = none-bad h names refs i index r rows e in
+      (f index r (b .0), each-from rows (suc i) (index + r .count) (b .1))
 
-  pub each-row : bad-of h names refs rows ≡ Nowhere → (i : ℕ) → i < row-count rows → P (row-at rows i)
-  each-row e i l = rw zero-add at (each-from (row-count rows) 0 0 e i l)
+  pub each-row : (rows : List Row) → bad-of h names refs rows ≡ NotFound → All P rows
+  each-row rows e = each-from rows 0 0 e
 
 -- ---- a good header
 
-module _ (h : Facts) (names rows refs : List ℕ) (g : good-header h names rows refs ≡ true) where
+module _ (h : Facts) (names : List ℕ) (rows : List Row) (refs : List ℕ) (g : good-header h names rows refs ≡ true) where
   pub word-of : Word (h .word)
   unfolding good-header
   word-of = by-test (eqb (h .word) 32) true (eqb (h .word) 64) (every-at _ g 0) (λ e _. inl (eqb-true _ _ e)) (λ _ e. inr (eqb-true _ _ e))
 
-  pub few-rows : row-count rows ≤ 2 ^ 30
+  pub few-rows : length rows ≤ 2 ^ 30
   unfolding good-header
   few-rows = leb-true _ _ (every-at _ g 1)
 
@@ -230,6 +225,10 @@ module _ (h : Facts) (names rows refs : List ℕ) (g : good-header h names rows 
   pub vm-of : good-vm names (h .vm) ≡ true
   unfolding good-header
   vm-of = every-at _ g 3
+
+-- of a table's rows
+pub few-whole : (h : Facts) (names table refs : List ℕ) → good-header h names (rows-of table) refs ≡ true → row-count table ≤ 2 ^ 30
+few-whole h names table refs g = rw (length-rows table) at (few-rows h names (rows-of table) refs g)
 
 -- A good VM string, if there is one, is short, lies within the name bytes, and has good bytes.
 pub record Vm (names : List ℕ) (t : Text) : Type 0 where

@@ -2,8 +2,8 @@
 ghost use mathlib.Core.Path.{_≡_};
 ghost use Rattle.phd.specs.Shapes.{Word};
 ghost use Rattle.phd_rows.specs.Good.{good-hash, good-class, no-name, good-object, good-array, good-primitive, good-kind, good-place, good-span, good-numbers, good-ref};
-use super::Row;
 use phd::Facts;
+use table::Row;
 
 // The hash kind and the hash.
 fn hash(hashed: bool, r: Row) -> bool

@@ -1,3 +1,2 @@
--- Laws that the proofs of this crate's functions cite: HeaderLaws of the header's parts, Laws of the whole.
-pub mod HeaderLaws
+-- Laws that the proofs of this crate's functions cite.
 pub mod Laws

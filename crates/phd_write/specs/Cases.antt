@@ -6,17 +6,17 @@ use Rattle.layout.specs.Numbers.{within}
 use Rattle.layout_put.specs.Put.{be, gap, complement, fits, code, widest, links}
 use Rattle.phd.specs.Phd.{limit, bit, highest, opening, empty, put, hash-bytes, width, shape}
 use Rattle.phd.specs.Cases.{dump, its, table}
-use Rattle.phd.specs.Table.{row-count}
-use Rattle.phd_rows.specs.Rows.{row-at, refs-of, name-of, bare, rec-of, recs-from, recs}
+use Rattle.table.specs.Rows.{row-at, rows-from, rows-of, refs-of, name-of, bare, rec-of, recs}
+use Rattle.table.specs.Table.{row-count}
 use Rattle.phd_rows.specs.Good.{every, good-vm, good-header, good-hash, good-class, no-name, good-object, good-array, good-primitive, good-kind, good-place, good-span, good-numbers, good-ref, good-refs, good-row, first-bad}
-use Rattle.phd_rows.specs.Judged.{refused, done, judged}
+use Rattle.table.specs.CheckOrder.{refused, done, judged}
 use Rattle.phd_form.specs.Form.{holds, slot-of, measure, flagged, object-form, form-of, tag-of, hash-flags, class-flags, flags-of, planned}
 use Rattle.phd_put.specs.Record.{put-tag, put-front, put-middle, put-name, put-links, put-tail, put-fields, put-planned, plan-of, put-record, cache-after}
-use Rattle.phd_write.specs.Write.{header-flags, put-vm, put-preamble, put-header, put-records, put-dump, has-room, writing, write-sizing}
+use Rattle.phd_write.specs.Write.{header-flags, put-vm, put-preamble, put-header, put-records, put-dump, has-room, write-rows, write-rows-size, writing, write-sizing}
 
 -- for a proof by computing: whoever unfolds this unfolds all that a writing is made of
 unfoldable pub computing : Unit {0}
-unfolding within be gap complement fits code widest links limit bit highest opening empty put hash-bytes width shape row-at refs-of name-of bare rec-of recs-from row-count recs every good-vm good-header good-hash good-class no-name good-object good-array good-primitive good-kind good-place good-span good-numbers good-ref good-refs good-row first-bad holds slot-of measure flagged object-form form-of tag-of hash-flags class-flags flags-of planned put-tag put-front put-middle put-name put-links put-tail put-fields put-planned plan-of put-record cache-after header-flags put-vm put-preamble put-header put-records put-dump refused done judged has-room writing write-sizing
+unfolding within be gap complement fits code widest links limit bit highest opening empty put hash-bytes width shape row-at refs-of name-of bare rec-of recs rows-from rows-of row-count every good-vm good-header good-hash good-class no-name good-object good-array good-primitive good-kind good-place good-span good-numbers good-ref good-refs good-row first-bad holds slot-of measure flagged object-form form-of tag-of hash-flags class-flags flags-of planned put-tag put-front put-middle put-name put-links put-tail put-fields put-planned plan-of put-record cache-after header-flags put-vm put-preamble put-header put-records put-dump refused done judged has-room write-rows write-rows-size
 computing = tt
 
 -- its rows and references, with the dump itself as the name bytes, and room for its 74 bytes and no more

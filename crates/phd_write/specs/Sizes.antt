@@ -12,7 +12,7 @@ use Rattle.layout_put.specs.Put.{join, be}
 use Rattle.layout_put.specs.Bytes.{length-be}
 use Rattle.phd.specs.Phd.{opening}
 use Rattle.phd.specs.declared.Facts.{Facts}
-use Rattle.phd_rows.specs.Rows.{vm-text}
+use Rattle.phd_rows.specs.Good.{vm-text}
 use Rattle.phd_rows.specs.Kept.{Vm, length-text}
 use Rattle.phd_write.specs.Write.{header-flags, put-preamble, put-vm, put-header}
 

@@ -1,4 +1,4 @@
--- Row after row: what is left to write from a row on, for the loops that size and put the rows.
+-- Row after row: what is left to write from a row of a table on, for the loops that size and put the rows.
 -- Assumes nothing.
 use mathlib.Core.Path.{_≡_, refl}
 use Prim.Native.Nat.{ℕ, suc, _+_, _-_, _*_, _/_, _%_, _≤_, _<_}
@@ -11,18 +11,17 @@ use Rattle.phd.specs.Phd.{highest, put, shape}
 use Rattle.phd.specs.Shapes.{Word, Narrow, shape-narrow}
 use Rattle.phd.specs.declared.classes.Cache.{Cache}
 use Rattle.phd.specs.declared.Facts.{Facts}
-use Rattle.phd.specs.Table.{row-count}
-use Rattle.phd_rows.specs.Rows.{row-at, refs-of, name-of, bare, rec-of, recs-from}
+use Rattle.table.specs.Rows.{row-at, refs-of, name-of, bare, rec-of, recs, rows-left, left-next, left-none as rows-none}
+use Rattle.table.specs.Table.{row-count}
 use Rattle.phd_rows.specs.Good.{first-bad}
 use Rattle.phd_rows.specs.Kept.{Good, Lent, lent-of, good-of, none-bad, length-refs-of, length-name-of}
-use Rattle.phd_rows.specs.declared.Found.the-variants.{Nowhere}
-use Rattle.phd_rows.specs.declared.Row.{Row}
+use Rattle.table.specs.declared.Row.{Row}
+use Rattle.table.specs.declared.Search.the-variants.{NotFound}
 use Rattle.phd_form.specs.Form.{Bounded, measure, planned}
 use Rattle.phd_form.specs.declared.Plan.{Plan}
 use Rattle.phd_put.specs.Record.{put-front, put-middle, put-name, put-links, put-tail, put-fields, put-planned, plan-of, put-record, cache-after, size-of}
 use Rattle.phd_put.specs.Sizes.{length-planned, size-most}
-use Rattle.phd_put.specs.Formed.{wide}
-use Rattle.phd_put.specs.Forms.{bounded}
+use Rattle.phd_put.specs.Bounds.{wide, bounded}
 use Rattle.phd_write.specs.Write.{put-records}
 
 -- how a row is planned, out of a table of references
@@ -34,48 +33,48 @@ bare-same : (before : ℕ) (p : Plan) (r : Row) (refs name : List ℕ) → put-p
 unfolding put-planned put-fields put-front put-middle put-name put-links put-tail bare
 bare-same before p r refs name = refl
 
-module _ (h : Facts) (names refs rows : List ℕ) where
+module _ (h : Facts) (names refs table : List ℕ) where
   -- the bytes of the rows from number i on, and the end tag
   abbrev pub left : ℕ → ℕ → Cache → List ℕ
-  left i before c = put-records h before c (recs-from names refs rows i (row-count rows - i))
+  left i before c = put-records h before c (recs names refs (rows-left table i))
 
-  -- The row number i, which stands after a record at `before`, with the cache c: how it is planned, its bytes, how many they
+  -- The row number i, which is after a record at `before`, with the cache c: how it is planned, its bytes, how many they
   -- are, and the cache after it.
   abbrev pub plan : ℕ → ℕ → Cache → Plan
-  plan i before c = plan-at h refs before c (row-at rows i)
+  plan i before c = plan-at h refs before c (row-at table i)
 
   abbrev pub bytes-at : ℕ → ℕ → Cache → List ℕ
-  bytes-at i before c = put-planned before (plan i before c) (row-at rows i) (refs-of refs (row-at rows i)) (name-of names (row-at rows i))
+  bytes-at i before c = put-planned before (plan i before c) (row-at table i) (refs-of refs (row-at table i)) (name-of names (row-at table i))
 
   abbrev pub size-at : ℕ → ℕ → Cache → ℕ
-  size-at i before c = size-of (plan i before c) (row-at rows i)
+  size-at i before c = size-of (plan i before c) (row-at table i)
 
   abbrev pub cache-on : ℕ → ℕ → Cache → Cache
-  cache-on i before c = pick (plan i before c .shape .cached) (put c (row-at rows i .word)) c
+  cache-on i before c = pick (plan i before c .shape .cached) (put c (row-at table i .word)) c
 
-  -- Between two rows: the next has number i, its references begin at `index`, and it stands after a record at `before`.
+  -- Between two rows: the next has number i, its references begin at `index`, and it is after a record at `before`.
   pub record Halfway (i index before : ℕ) : Type 0 where
-    pub at-most : i ≤ row-count rows
-    pub none : first-bad h names refs rows i index (row-count rows - i) ≡ Nowhere
+    pub at-most : i ≤ row-count table
+    pub none : first-bad h names refs i index (rows-left table i) ≡ NotFound
     pub fours : before % 4 ≡ 0
     pub most : before ≤ highest (h .word)
 
   -- What holds of the next row.
   pub record Next (i index before : ℕ) (c : Cache) : Type 0 where
-    pub lent : Lent names refs (row-at rows i)
-    pub bound : Bounded (measure c before (row-at rows i) (refs-of refs (row-at rows i)))
-    pub begins : row-at rows i .first ≡ index
+    pub lent : Lent names refs (row-at table i)
+    pub bound : Bounded (measure c before (row-at table i) (refs-of refs (row-at table i)))
+    pub begins : row-at table i .first ≡ index
     pub size : length (bytes-at i before c) ≡ size-at i before c
-    pub size-small : size-at i before c ≤ 65664 + row-at rows i .count * 8
-    pub more : left i before c ≡ bytes-at i before c ++ left (i + 1) (row-at rows i .address) (cache-on i before c)
-    pub halfway : Halfway (i + 1) (index + row-at rows i .count) (row-at rows i .address)
+    pub size-small : size-at i before c ≤ 65664 + row-at table i .count * 8
+    pub more : left i before c ≡ bytes-at i before c ++ left (i + 1) (row-at table i .address) (cache-on i before c)
+    pub halfway : Halfway (i + 1) (index + row-at table i .count) (row-at table i .address)
 
-  pub next : (i index before : ℕ) (c : Cache) → Word (h .word) → Halfway i index before → i < row-count rows → Next i index before c
-  unfolding recs-from put-records rec-of bare plan-of planned put-record cache-after measure
+  pub next : (i index before : ℕ) (c : Cache) → Word (h .word) → Halfway i index before → i < row-count table → Next i index before c
+  unfolding recs put-records rec-of bare plan-of planned put-record cache-after measure
   next i index before c w v l =
-      let r : Row = row-at rows i in
-      let n : row-count rows - i ≡ suc (row-count rows - (i + 1)) = omega arith in
-      let b = none-bad h names refs rows (row-count rows - (i + 1)) i index (rw n at (v .none)) in
+      let r : Row = row-at table i in
+      let n = left-next table i l in
+      let b = none-bad h names refs i index r (rows-left table (i + 1)) (rw n at (v .none)) in
       let g : Good h index (rec-of names refs r) = good-of h names refs index r (b .0) in
       let t : Lent names refs r = lent-of h names refs index r (b .0) in
       let p : Plan = plan i before c in
@@ -87,11 +86,11 @@ module _ (h : Facts) (names refs rows : List ℕ) where
         begins = g .first;
         size = length-planned before p r _ _ (length-refs-of refs r (t .span)) (length-name-of names r (t .named));
         size-small = let z = size-most p r k in let y = t .short in omega arith;
-        more = rw (n, s, bare-same);
+        more = rw (n, bare-same);
         halfway = record { at-most = omega arith; none = rw (← s) at (b .1); fours = g .fours; most = g .most };
       }
 
   -- no row is left
-  pub left-none : (i before : ℕ) (c : Cache) → row-count rows ≤ i → left i before c ≡ be 1 3
-  unfolding recs-from put-records
-  left-none i before c l = let n : row-count rows - i ≡ 0 = omega arith in rw n
+  pub left-none : (i before : ℕ) (c : Cache) → row-count table ≤ i → left i before c ≡ be 1 3
+  unfolding recs put-records
+  left-none i before c l = rw (rows-none table i l)

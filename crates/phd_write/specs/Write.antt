@@ -12,11 +12,12 @@ use Rattle.layout_put.specs.Put.{join, be}
 use Rattle.phd.specs.Phd.{limit, opening, empty}
 use Rattle.phd.specs.declared.classes.Cache.{Cache}
 use Rattle.phd.specs.declared.Facts.{Facts}
-use Rattle.phd_rows.specs.Rows.{Rec, vm-text, recs}
-use Rattle.phd_rows.specs.Good.{good-header, bad-of}
-use Rattle.phd_rows.specs.Judged.{Outcome, judged}
-use Rattle.phd_rows.specs.declared.Found.the-variants.{Nowhere}
-use Rattle.phd_rows.specs.declared.Written.{Written}
+use Rattle.table.specs.Rows.{Rec, recs, rows-of}
+use Rattle.table.specs.declared.Row.{Row}
+use Rattle.phd_rows.specs.Good.{good-header, bad-of, vm-text}
+use Rattle.table.specs.CheckOrder.{Outcome, judged}
+use Rattle.table.specs.declared.Answer.{Answer}
+use Rattle.table.specs.declared.Search.the-variants.{NotFound}
 use Rattle.phd_put.specs.Record.{put-record, cache-after}
 
 -- ---- the bytes of a dump
@@ -54,16 +55,23 @@ put-dump names h rs = put-header names h ++ put-records h 0 empty rs
 unfoldable pub has-room : ℕ → List ℕ → Bool
 has-room room dump = both (leb (length dump) room) (leb (length dump) limit)
 
--- What writing the whole rows and their references under the header h gives, with the name bytes lent and `room` bytes of
--- output. The writer asks for no class.
-unfoldable pub writing : Facts → List ℕ → List ℕ → List ℕ → ℕ → Outcome
-writing h names refs rows room =
+-- What writing rows and their references under the header h gives, with the name bytes passed in and an output of `room` bytes. The
+-- writer looks for no class.
+unfoldable pub write-rows : Facts → (names refs : List ℕ) → List Row → ℕ → Outcome
+write-rows h names refs rows room =
     let dump : List ℕ = put-dump names h (recs names refs rows) in
-    judged (good-header h names rows refs) (bad-of h names refs rows) Nowhere (has-room room dump) dump
+    judged (good-header h names rows refs) (bad-of h names refs rows) NotFound (has-room room dump) dump
 
--- What asking for the size of that dump answers: the same tests in the same order, with no room asked for but the size limit. With
--- 0 the place is how many bytes the dump has.
-unfoldable pub write-sizing : Facts → List ℕ → List ℕ → List ℕ → Written
-write-sizing h names refs rows =
+-- What a query for the size of that dump answers: the same checks in the same order, all but that of the output; the size limit
+-- stays. With 0 the place is how many bytes the dump has.
+unfoldable pub write-rows-size : Facts → (names refs : List ℕ) → List Row → Answer
+write-rows-size h names refs rows =
     let dump : List ℕ = put-dump names h (recs names refs rows) in
-    judged (good-header h names rows refs) (bad-of h names refs rows) Nowhere (leb (length dump) limit) dump .answer
+    judged (good-header h names rows refs) (bad-of h names refs rows) NotFound (leb (length dump) limit) dump .answer
+
+-- both, of the whole rows of a table
+abbrev pub writing : Facts → (names refs table : List ℕ) → ℕ → Outcome
+writing h names refs table room = write-rows h names refs (rows-of table) room
+
+abbrev pub write-sizing : Facts → (names refs table : List ℕ) → Answer
+write-sizing h names refs table = write-rows-size h names refs (rows-of table)

@@ -3,19 +3,18 @@ ghost use mathlib.Core.Path.{_≡_};
 ghost use mathlib.Core.Bool.{true};
 ghost use Prim.Native.Nat.{_+_, _≤_, _<_};
 ghost use lib.ListN.{length};
-ghost use lib.Seq.{sets};
+ghost use Rattle.layout_put.specs.Puts.{Puts, Room};
 ghost use Rattle.phd.specs.Phd.{empty};
-ghost use Rattle.phd.specs.Table.{row-count};
-ghost use Rattle.phd_rows.specs.Rows.{refs-of, recs};
-ghost use Rattle.phd_rows.specs.Good.{good-header, first-bad};
-ghost use Rattle.phd_rows.specs.declared.Found.the-variants.{Nowhere};
+ghost use Rattle.table.specs.Rows.{refs-of, recs, rows-of};
+ghost use Rattle.phd_rows.specs.Good.{good-header, bad-of};
+ghost use Rattle.table.specs.declared.Search.the-variants.{NotFound};
 ghost use Rattle.phd_form.specs.Form.{Bounded, measure};
 ghost use Rattle.phd_write.specs.Write.{put-records};
 ghost use Rattle.phd_write.specs.Turns.{plan-at};
 use phd::Cache;
 use phd::Facts;
 use phd_form::Plan;
-use phd_rows::Row;
+use table::Row;
 
 // How a row is written, after a record at the address `before`, with the cache.
 fn plan_row(h: Facts, cache: Cache, before: u64, row: Row, refs: &[u64]) -> Plan
@@ -28,18 +27,18 @@ fn plan_row(h: Facts, cache: Cache, before: u64, row: Row, refs: &[u64]) -> Plan
 
 // How many bytes a dump has, with its header of so many.
 pub fn size(h: Facts, rows: &[u64], refs: &[u64], names: &[u8], header: usize) -> usize
-    requires { ⌜ good-header h (now names) (now rows) (now refs) ≡ true ⌝ }
-    requires { ⌜ first-bad h (now names) (now refs) (now rows) 0 0 (row-count (now rows)) ≡ Nowhere ⌝ }
+    requires { ⌜ good-header h (now names) (rows-of (now rows)) (now refs) ≡ true ⌝ }
+    requires { ⌜ bad-of h (now names) (now refs) (rows-of (now rows)) ≡ NotFound ⌝ }
     requires { ⌜ header < 65570 ⌝ }
-    ensures { λ r. ⌜ r ≡ header + length (put-records h 0 empty (recs (now (names .entry)) (now (refs .entry)) (now (rows .entry)))) ⌝ }
+    ensures { λ r. ⌜ r ≡ header + length (put-records h 0 empty (recs (now (names .entry)) (now (refs .entry)) (rows-of (now (rows .entry))))) ⌝ }
 {
-    let n = rows.len() / phd::ROW;
+    let n = rows.len() / table::ROW;
     let mut cache = Cache::new();
     let mut before: u64 = 0;
     let mut total = header;
     let mut i: usize = 0;
     while i < n {
-        let row = phd_rows::row_at(rows, i);
+        let row = table::row_at(rows, i);
         let sized = phd_put::sizes::record((h.word / 8) as usize, cache, before, row, refs);
         total += sized.size;
         cache = cache.after(sized.cached, row.word);
@@ -49,25 +48,25 @@ pub fn size(h: Facts, rows: &[u64], refs: &[u64], names: &[u8], header: usize) -
     total + 1
 }
 
-// Puts the rows at a place, and the end tag behind them.
-pub fn put(out: &mut [u8], at: usize, h: Facts, rows: &[u64], refs: &[u64], names: &[u8])
-    requires { ⌜ good-header h (now names) (now rows) (now refs) ≡ true ⌝ }
-    requires { ⌜ first-bad h (now names) (now refs) (now rows) 0 0 (row-count (now rows)) ≡ Nowhere ⌝ }
-    requires { ⌜ at + length (put-records h 0 empty (recs (now names) (now refs) (now rows))) ≤ length (now out) ⌝ }
-    ensures { λ _. ⌜ now (out .exit) ≡ sets (now (out .entry)) at (put-records h 0 empty (recs (now (names .entry)) (now (refs .entry)) (now (rows .entry)))) ⌝ }
+// Writes the rows at a place and the end tag after them, and returns the place after it.
+pub fn put(out: &mut [u8], at: usize, h: Facts, rows: &[u64], refs: &[u64], names: &[u8]) -> usize
+    requires { ⌜ good-header h (now names) (rows-of (now rows)) (now refs) ≡ true ⌝ }
+    requires { ⌜ bad-of h (now names) (now refs) (rows-of (now rows)) ≡ NotFound ⌝ }
+    requires { ⌜ Room (now out) at (put-records h 0 empty (recs (now names) (now refs) (rows-of (now rows)))) ⌝ }
+    ensures { λ r. ⌜ Puts (now (out .entry)) at (put-records h 0 empty (recs (now (names .entry)) (now (refs .entry)) (rows-of (now (rows .entry))))) (now (out .exit)) r ⌝ }
 {
-    let n = rows.len() / phd::ROW;
+    let n = rows.len() / table::ROW;
     let mut cache = Cache::new();
     let mut before: u64 = 0;
     let mut to = at;
     let mut i: usize = 0;
     while i < n {
-        let row = phd_rows::row_at(rows, i);
+        let row = table::row_at(rows, i);
         let p = plan_row(h, cache, before, row, refs);
         to = phd_put::put_record(out, to, before, p, row, refs, names);
         cache = cache.after(p.shape.cached, row.word);
         before = row.address;
         i += 1;
     }
-    layout_put::put(out, to, 1, 3);
+    layout_put::put(out, to, 1, 3)
 }

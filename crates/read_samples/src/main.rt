@@ -22,7 +22,7 @@ ghost use Prim.Native.Nat.{_≤_};
 ghost use lib.ListN.{length};
 
 // Room for 48 rows, with five numbers too few for one more, and for 70 references.
-const ROWS: usize = 48 * phd::ROW + 5;
+const ROWS: usize = 48 * table::ROW + 5;
 
 const REFS: usize = 70;
 
@@ -50,7 +50,7 @@ fn kept(table: &[u64], from: usize) -> bool {
 // A reading into untouched tables.
 fn tried(dump: &[u8], rows: &mut [u64], refs: &mut [u64]) -> Trial {
     let r = phd_read::read(dump, rows, refs);
-    let rest = kept(rows, used(rows, r.rows, phd::ROW)) && kept(refs, r.refs);
+    let rest = kept(rows, used(rows, r.rows, table::ROW)) && kept(refs, r.refs);
     Trial {
         reading: r,
         kept: rest,

@@ -3,7 +3,7 @@
 use libc::STDOUT_FILENO;
 use phd::Facts;
 use phd_read::Reading;
-use phd_rows::Written;
+use table::Answer;
 ghost use Prim.Native.Nat.{_≤_, _<_};
 ghost use lib.ListN.{length};
 ghost use Rattle.io.specs.Counts.{Counts};
@@ -104,7 +104,7 @@ pub fn used(table: &[u64], n: usize, width: usize) -> usize
 pub fn tell_whole(r: Reading, rows: &[u64], refs: &[u64]) {
     tell_reading(r);
     tell_facts(r.facts);
-    tell_table(b"row", rows, phd::ROW, used(rows, r.rows, phd::ROW));
+    tell_table(b"row", rows, table::ROW, used(rows, r.rows, table::ROW));
     tell_table(b"refs", refs, 8, used(refs, r.refs, 1));
 }
 
@@ -119,7 +119,7 @@ pub fn within(n: usize, bytes: &[u8]) -> usize
 }
 
 // How many bytes a writing says that it wrote, at most all that there are.
-pub fn written(w: Written, out: &[u8]) -> usize
+pub fn written(w: Answer, out: &[u8]) -> usize
     ensures { λ r. ⌜ Counts r (now (out .entry)) ⌝ }
 {
     if w.reply != 0 {
@@ -129,7 +129,7 @@ pub fn written(w: Written, out: &[u8]) -> usize
 }
 
 // `reply R place P`
-pub fn tell_written(w: Written) {
+pub fn tell_written(w: Answer) {
     tell(b"reply ", w.reply);
     tell(b" place ", w.place as u64);
 }

@@ -27,7 +27,7 @@ ghost use mathlib.Core.Path.{_≡_};
 ghost use lib.ListN.{length};
 
 // Room for 128 rows, with one number too few for another, and for 160 references.
-const ROWS: usize = 129 * phd::ROW - 1;
+const ROWS: usize = 129 * table::ROW - 1;
 
 const REFS: usize = 160;
 
@@ -118,7 +118,7 @@ fn show(dump: &[u8]) {
     let from = changes::place(dump, r);
     changes::fill(dump, from, 1, &mut rows);
     changes::fill(dump, from, 2, &mut refs);
-    let n = changes::lent(dump, from, 6, used(&rows, r.rows, phd::ROW), &rows);
+    let n = changes::lent(dump, from, 6, used(&rows, r.rows, table::ROW), &rows);
     let m = changes::lent(dump, from, 7, used(&refs, r.refs, 1), &refs);
     let header = changes::header(dump, from, r.facts);
     let mut out = filled(UNTOUCHED);

@@ -18,7 +18,7 @@ ghost use Rattle.io.specs.Counts.{Counts};
 pub const HEAD: usize = 10;
 
 // Room for the numbers of 48 rows, with five too few for one more, and for 70 references.
-pub const ROWS: usize = 48 * phd::ROW + 5;
+pub const ROWS: usize = 48 * table::ROW + 5;
 
 pub const REFS: usize = 70;
 

@@ -5,22 +5,23 @@ use mathlib.Core.Logic.{⊎-elim}
 use Prim.Native.Nat.{_-_}
 use native.Mathlib.Omega.{arith}
 use borrow.Author.Needs.{needs}
-use Rattle.phd.specs.Table.{row-count}
-use Rattle.phd_rows.specs.Judged.{refused, done, judged, classed}
+use Rattle.table.specs.CheckOrder.{refused, done, judged, classed}
+use Rattle.table.specs.Table.{row-count}
+use Rattle.table.specs.Rows.{rows-of}
 use Rattle.classic.specs.Classic.{nowhere, is-lost}
-use Rattle.classic.specs.Search.{Searched, search-begins, search-found, search-next, search-ends}
+use Rattle.table.specs.Search.{Searched, search-begins, search-found, search-next, search-ends}
 use Rattle.classic.proofs.Laws.{lost-test}
 use Rattle.classic.proofs.check_classes.Statement.{statement}
 use Rattle.classic.proofs.check_classes.Tie as tie
 
 abbrev Inv-loop : tie.InvT-loop
-Inv-loop rows n i₀ i = Searched (is-lost rows) rows n i
+Inv-loop rows n i₀ i = Searched (is-lost (rows-of rows)) rows i
 
 abbrev μ-loop : tie.MeasureT-loop
 μ-loop rows n i₀ i = n - i
 
 loop-holds : tie.Need-loop-holds Inv-loop μ-loop
-loop-holds c = search-begins _ _ _
+loop-holds c = search-begins _ _
 
 row-at-requires : tie.Need-row-at-requires Inv-loop μ-loop
 unfolding row-count
@@ -42,25 +43,28 @@ returns c =
     let d = f .before .before .before .before in
     let l = d .before .before in
     let t = lost-test _ (d .row-at .result) _ true (f .class-at .ensures) (f .before .if1 .taken) ∙ ap nowhere (c .enum-told2 .given .1) in
-    ap classed (search-found _ _ _ _ _ (l .loop .inv) (omega arith) (d .row-at .ensures) t)
+    ap classed (search-found _ _ _ _ (l .loop .inv) (omega arith) (d .row-at .ensures) t)
 
 add-i : tie.Need-add-i Inv-loop μ-loop
+unfolding row-count
 add-i c = omega arith
 
 loop-less : tie.Need-loop-less Inv-loop μ-loop
+unfolding row-count
 loop-less c = omega arith
 
 loop-again : tie.Need-loop-again Inv-loop μ-loop
+unfolding row-count
 loop-again c =
     let d = c .before .before .before in
     let l = d .before .before in
-    let test = lost-test (l .before .before .args .rows .now) (d .row-at .result) in
-    search-next _ _ _ _ _ (l .loop .inv) (omega arith) (d .row-at .ensures)
+    let test = lost-test (rows-of (l .before .before .args .rows .now)) (d .row-at .result) in
+    search-next _ _ _ _ (l .loop .inv) (omega arith) (d .row-at .ensures)
     (⊎-elim (λ o. test _ true (o .1 .ensures) (o .0 .taken) ∙ ap nowhere (o .3 .given .1)) (λ o. test _ false refl (o .left)) (c .if1 .came))
 
 returns-2 : tie.Need-returns-2 Inv-loop μ-loop
 unfolding row-count classed judged refused done
-returns-2 c = ap classed (search-ends _ _ _ _ (c .before .loop .inv) (omega arith))
+returns-2 c = ap classed (search-ends _ _ _ (c .before .loop .inv) (omega arith))
 
 pub check-classes-spec : {M : Type 1} → statement M
 check-classes-spec =

@@ -2,20 +2,21 @@
 use mathlib.Core.Path.{sym, _∙_}
 use Prim.Native.Nat.{_-_}
 use native.Mathlib.Omega.{arith}
-use Rattle.phd.specs.Table.{row-count}
+use Rattle.table.specs.Table.{row-count}
+use Rattle.table.specs.Rows.{all-at}
 use Rattle.classic.specs.Classic.{signature, is-class-named}
-use Rattle.classic.specs.Search.{Searched, search-begins, search-found, search-next, search-ends}
+use Rattle.table.specs.Search.{Searched, search-begins, search-found, search-next, search-ends}
 use Rattle.classic.proofs.class_named.Statement.{statement}
 use Rattle.classic.proofs.class_named.Tie as tie
 
 abbrev Inv-loop : tie.InvT-loop
-Inv-loop names rows prim n i₀ i = Searched (is-class-named names (signature prim)) rows n i
+Inv-loop names rows prim n i₀ i = Searched (is-class-named names (signature prim)) rows i
 
 abbrev μ-loop : tie.MeasureT-loop
 μ-loop names rows prim n i₀ i = n - i
 
 loop-holds : tie.Need-loop-holds Inv-loop μ-loop
-loop-holds c = search-begins _ _ _
+loop-holds c = search-begins _ _
 
 row-at-requires : tie.Need-row-at-requires Inv-loop μ-loop
 unfolding row-count
@@ -26,30 +27,33 @@ unfolding row-count
 named-requires c κs =
     let l = c .before .before in
     let s = l .before .before .before in
-    (s .pre .0, rw (c .row-at .ensures) (s .pre .1 .row (l .loop .i) (omega arith) .named))
+    (s .pre .0, rw (c .row-at .ensures) (all-at _ _ (l .loop .i) (s .pre .1 .row) (omega arith) .named))
 
 returns : tie.Need-returns Inv-loop μ-loop
 unfolding row-count
 returns c =
     let d = c .before .before in
     let l = d .before .before in
-    search-found _ _ _ _ _ (l .loop .inv) (omega arith) (d .row-at .ensures) (sym (c .before .named .ensures) ∙ c .if1 .taken)
+    search-found _ _ _ _ (l .loop .inv) (omega arith) (d .row-at .ensures) (sym (c .before .named .ensures) ∙ c .if1 .taken)
 
 add-i : tie.Need-add-i Inv-loop μ-loop
+unfolding row-count
 add-i c = omega arith
 
 loop-less : tie.Need-loop-less Inv-loop μ-loop
+unfolding row-count
 loop-less c = omega arith
 
 loop-again : tie.Need-loop-again Inv-loop μ-loop
+unfolding row-count
 loop-again c =
     let d = c .before .before in
     let l = d .before .before in
-    search-next _ _ _ _ _ (l .loop .inv) (omega arith) (d .row-at .ensures) (sym (c .before .named .ensures) ∙ c .if1 .left)
+    search-next _ _ _ _ (l .loop .inv) (omega arith) (d .row-at .ensures) (sym (c .before .named .ensures) ∙ c .if1 .left)
 
 returns-2 : tie.Need-returns-2 Inv-loop μ-loop
 unfolding row-count
-returns-2 c = search-ends _ _ _ _ (c .before .loop .inv) (omega arith)
+returns-2 c = search-ends _ _ _ (c .before .loop .inv) (omega arith)
 
 pub class-named-spec : {M : Type 1} → statement M
 class-named-spec =

@@ -4,7 +4,8 @@ use mathlib.Core.List.{[], _∷_}
 use Prim.Native.Nat.{_/_}
 use native.Mathlib.Omega.{arith}
 use Rattle.layout_put.specs.Puts.{puts-then, room-behind, room-first}
-use Rattle.classic.specs.Classic.{numeral, address}
+use Rattle.digits.specs.Digits.{numeral}
+use Rattle.classic.specs.Classic.{address}
 use Rattle.classic_put.proofs.put_address.Statement.{statement}
 use Rattle.classic_put.proofs.put_address.Tie as tie
 

@@ -4,7 +4,7 @@ use mathlib.Core.List.{List, [], _∷_, _++_}
 use Prim.Native.Nat.{ℕ}
 use borrow.Author.Needs.{needs}
 use Rattle.layout_put.specs.Puts.{Room, puts-then, room-behind, room-first}
-use Rattle.phd_rows.specs.Rows.{refs-of}
+use Rattle.table.specs.Rows.{refs-of, rows-of}
 use Rattle.classic.specs.Classic.{address, listed}
 use Rattle.classic_row.specs.Row.{row-text, entry-line}
 use Rattle.classic_row.proofs.RowLaws.{entry-small, text-is}
@@ -25,7 +25,7 @@ abbrev rest : tie.After-word-of → List ℕ
 rest c = second c ++ (0x0A ∷ [])
 
 text : (c : tie.After-word-of) → let a = start c .args in
-    row-text (a .word) (a .names .now) (a .refs .now) (a .rows .now) (a .row) ≡ first c ++ ((0x0A ∷ []) ++ rest c)
+    row-text (a .word) (a .names .now) (a .refs .now) (rows-of (a .rows .now)) (a .row) ≡ first c ++ ((0x0A ∷ []) ++ rest c)
 text c = text-is _ _ _ _ _ _ _ (c .before .entry-of .ensures) (c .word-of .ensures)
 
 -- the room for it, and for what is left of it

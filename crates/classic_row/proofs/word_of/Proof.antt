@@ -2,8 +2,8 @@
 use mathlib.Core.Path.{sym, ap, _∙_}
 use borrow.Author.Needs.{needs}
 use borrow.Author.Tests.{ne-eqb}
-use Rattle.classic.specs.Classic.{found-row, word-of}
-use Rattle.classic.specs.Search.{found-below}
+use Rattle.table.specs.Search.{found-row, found-in, found-is}
+use Rattle.classic.specs.Classic.{word-of}
 use Rattle.classic_row.proofs.word_of.Statement.{statement}
 use Rattle.classic_row.proofs.word_of.Tie as tie
 
@@ -23,14 +23,14 @@ returns c =
     rw (d .before .if1 .taken, ← d .class-named .ensures, c .enum-told .given .1)
 
 row-at-requires : tie.Need-row-at-requires
-row-at-requires c κs = found-below _ _ _ (sym (c .before .before .before .class-named .ensures) ∙ c .before .found .given .1)
+row-at-requires c κs = found-in _ _ _ (sym (c .before .before .before .class-named .ensures) ∙ c .before .found .given .1)
 
 returns-2 : tie.Need-returns-2
-unfolding found-row word-of
+unfolding word-of
 returns-2 c =
     let d = c .before .before in
     let n = d .before .before in
-    rw (n .before .if1 .taken, ← n .class-named .ensures, d .found .given .1) (ap (λ r. r .address) (c .row-at .ensures))
+    rw (n .before .if1 .taken) (ap (λ r. r .address) (c .row-at .ensures ∙ sym (found-is _ _ _ (sym (n .class-named .ensures) ∙ d .found .given .1))))
 
 returns-3 : tie.Need-returns-3
 unfolding word-of

@@ -4,7 +4,8 @@ use mathlib.Core.Path.{refl, sym}
 use Prim.Native.Nat.{_≤_}
 use native.Mathlib.Omega.{arith}
 use lib.ListN.{length}
-use Rattle.phd_rows.specs.Judged.{refused-keeps, done-stores}
+use Rattle.table.specs.Rows.{rows-of}
+use Rattle.table.specs.CheckOrder.{refused-keeps, done-stores}
 use Rattle.phd_rows.specs.Kept.{word-of}
 use Rattle.classic.specs.Classic.{text-of}
 use Rattle.classic.specs.Fine.{all-short, all-linked}
@@ -24,7 +25,7 @@ returns c =
     refused-keeps _ _ 17 0 (s .too-small refl (omega arith))
 
 -- it is put only where there is room for it
-enough : (c : tie.Else1) → let a = begin c .args in length (text-of (a .header) (a .names .now) (a .refs .now) (a .rows .now)) ≤ length (a .out .now)
+enough : (c : tie.Else1) → let a = begin c .args in length (text-of (a .header) (a .names .now) (a .refs .now) (rows-of (a .rows .now))) ≤ length (a .out .now)
 enough c = let s = begin c .pre .size-is in omega arith
 
 put-requires : tie.Need-put-requires
@@ -32,21 +33,21 @@ put-requires c κs =
     let d = c .before in
     let a = begin d .args in
     let p = begin d .pre in
-    (good-vm-of _ _ _ _ (p .right), version-room (a .header) (a .names .now) (a .refs .now) (a .rows .now) _ (p .tally-is) (a .out .now) (enough d))
+    (good-vm-of _ _ _ _ (p .right), version-room (a .header) (a .names .now) (a .refs .now) (rows-of (a .rows .now)) _ (p .tally-is) (a .out .now) (enough d))
 
 put-requires-2 : tie.Need-put-requires-2
 put-requires-2 c κs =
     let d = c .before .before .before .before .before in
     let a = begin d .args in
     let p = begin d .pre in
-    (word-of _ _ _ _ (p .right .0), (all-short _ _ _ _ (p .right), (all-linked _ _ _ _ (p .right), rows-room (a .header) (a .names .now) (a .refs .now) (a .rows .now) _ (p .tally-is) _ (enough d) (c .before .before .before .put .ensures))))
+    (word-of _ _ _ _ (p .right .0), (all-short _ _ _ _ (p .right), (all-linked _ _ _ _ (p .right), rows-room (a .header) (a .names .now) (a .refs .now) (rows-of (a .rows .now)) _ (p .tally-is) _ (enough d) (c .before .before .before .put .ensures))))
 
 put-requires-3 : tie.Need-put-requires-3
 put-requires-3 c κs =
     let d = c .before .before .before .before .before .before .before .before .before in
     let a = begin d .args in
     let p = begin d .pre in
-    (totalled _ _ _ _ _ (p .tally-is) (p .right), trailers-room (a .header) (a .names .now) (a .refs .now) (a .rows .now) _ (p .tally-is) _ (enough d) (c .before .before .before .before .before .before .before .put .ensures) (c .before .before .before .put2 .ensures))
+    (totalled _ _ _ _ _ (p .tally-is) (p .right), trailers-room (a .header) (a .names .now) (a .refs .now) (rows-of (a .rows .now)) _ (p .tally-is) _ (enough d) (c .before .before .before .before .before .before .before .put .ensures) (c .before .before .before .put2 .ensures))
 
 same-length : tie.Need-same-length
 same-length c = search needs

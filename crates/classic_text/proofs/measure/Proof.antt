@@ -1,12 +1,14 @@
 -- `measure` meets its contract: the header and the rows, then the classes, then the size.
 use borrow.Author.Needs.{needs}
-use Rattle.phd_rows.specs.Judged.{AllRight, checked-right, classed-right}
+use Rattle.table.specs.Rows.{rows-of}
+use Rattle.phd_rows.specs.Good.{AllRight}
+use Rattle.table.specs.CheckOrder.{checked-right, classed-right}
 use Rattle.classic_text.specs.Ways.{check-stops, class-stops}
 use Rattle.classic_text.proofs.measure.Statement.{statement}
 use Rattle.classic_text.proofs.measure.Tie as tie
 
 -- the header and the rows were found good
-right : (c : tie.Else1) → let a = c .before .before .before .before .before .before .args in AllRight (a .header) (a .names .now) (a .refs .now) (a .rows .now)
+right : (c : tie.Else1) → let a = c .before .before .before .before .before .before .args in AllRight (a .header) (a .names .now) (a .refs .now) (rows-of (a .rows .now))
 right c = checked-right _ _ _ (c .before .before .check .ensures) (c .if1 .left)
 
 check-requires : tie.Need-check-requires

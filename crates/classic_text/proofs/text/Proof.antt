@@ -1,7 +1,7 @@
 -- `text` meets its contract: a refusal before a byte is put, or what `fit` gives.
 use borrow.Author.Needs.{needs}
 use mathlib.Core.Path.{subst}
-use Rattle.phd_rows.specs.Judged.{refused-keeps}
+use Rattle.table.specs.CheckOrder.{refused-keeps}
 use Rattle.classic_text.specs.Ways.{asked-split}
 use Rattle.classic_text.specs.Measures.{Measures}
 use Rattle.classic_text.proofs.text.Statement.{statement}

@@ -9,14 +9,18 @@ cast-out : tie.Need-cast-out
 cast-out c = search needs
 
 slice-write-out : tie.Need-slice-write-out
+unfolding be
 slice-write-out c = search needs
+
+add-result : tie.Need-add-result
+add-result c = search needs
 
 same-length : tie.Need-same-length
 same-length c = search needs
 
 returns : tie.Need-returns
 unfolding be
-returns c = refl
+returns c = record { out = refl; place = refl }
 
 pub put1-spec : {M : Type 1} → statement M
-put1-spec = tie.close (tie.spec cast-out slice-write-out same-length returns)
+put1-spec = tie.close (tie.spec cast-out slice-write-out add-result same-length returns)

@@ -1,27 +1,31 @@
 -- `put2` meets its contract: the bytes of a number are the highest, then the others.
 use borrow.Author.Needs.{needs}
-use Rattle.layout_put.specs.Stores.{be-parts}
+use mathlib.Core.Path.{refl}
+use mathlib.Core.List.{[], _∷_}
+use Prim.Native.Nat.{_/_}
+use Rattle.layout_put.specs.Put.{be}
+use Rattle.layout_put.specs.Bytes.{be-parts}
+use Rattle.layout_put.specs.Partly.{Partly, begin, fits, next, ends}
 use Rattle.layout_put.proofs.put2.Statement.{statement}
 use Rattle.layout_put.proofs.put2.Tie as tie
 
-put1-requires : tie.Need-put1-requires
-put1-requires c κs = search needs
+abbrev none : tie.Start → Partly
+none c = let a = c .args in begin (a .out .now) (a .at) (be 1 (a .value / 256) ∷ be 1 (a .value) ∷ []) (be-parts 1 1 (a .value)) (c .pre)
 
-add-put1 : tie.Need-add-put1
-add-put1 c = search needs
+abbrev high : tie.After-put1 → Partly
+high c = next (none (c .before .before .before)) (c .put1 .ensures)
+
+put1-requires : tie.Need-put1-requires
+put1-requires c κs = fits (none (c .before .before))
 
 put1-requires-2 : tie.Need-put1-requires-2
-put1-requires-2 c κs = search needs
+put1-requires-2 c κs = fits (high (c .before .before .before))
 
 same-length : tie.Need-same-length
 same-length c = search needs
 
 returns : tie.Need-returns
-returns c =
-    let p = c .before .before in
-    let q = p .before .before .before .before in
-    let a = q .before .before .before .args in
-    be-parts (a .out .now) (a .at) 1 1 (a .value) (q .put1 .ensures) (p .put12 .ensures)
+returns c = let p = c .before .before in ends (next (high (p .before .before .before .before)) (p .put12 .ensures)) refl
 
 pub put2-spec : {M : Type 1} → statement M
-put2-spec = tie.close (tie.spec put1-requires add-put1 put1-requires-2 same-length returns)
+put2-spec = tie.close (tie.spec put1-requires put1-requires-2 same-length returns)

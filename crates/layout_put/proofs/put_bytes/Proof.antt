@@ -1,24 +1,28 @@
--- `put_bytes` meets its contract: storing the bytes that are left, from here, is storing all of them.
+-- `put_bytes` meets its contract: writing the bytes that are left, from here, is writing all of them.
 use borrow.Author.Needs.{needs}
-use mathlib.Core.Path.{_≡_, refl, sym, _∙_}
+use mathlib.Core.Path.{_≡_, refl}
+use mathlib.Core.List.{[], _∷_}
 use Prim.Native.Nat.{_+_, _-_, _≤_}
 use native.Mathlib.Nat.{add-zero, sub-zero}
 use native.Mathlib.Omega.{arith}
-use lib.ListN.{length, take, drop, length-set}
-use lib.Seq.{sets}
-use Rattle.layout_put.proofs.Laws.{store-next}
+use lib.ListN.{length, take, drop, getD}
+use Rattle.layout.specs.Parts.{length-part}
+use Rattle.layout_put.specs.Puts.{Rest, rest-begins, rest-next, rest-ends}
+use Rattle.layout_put.proofs.Laws.{next}
 use Rattle.layout_put.proofs.put_bytes.Statement.{statement}
 use Rattle.layout_put.proofs.put_bytes.Tie as tie
 
 abbrev Inv-loop : tie.InvT-loop
 Inv-loop out₀ at bytes place n i₀ out i =
-    (i ≤ n) × (length out ≡ length out₀) × (sets out (at + i) (take (n - i) (drop (place + i) bytes)) ≡ sets out₀ at (take n (drop place bytes)))
+    (i ≤ n) × (at + n ≤ length out) × Rest out₀ at (take n (drop place bytes)) out (at + i) (take (n - i) (drop (place + i) bytes))
 
 abbrev μ-loop : tie.MeasureT-loop
 μ-loop out₀ at bytes place n i₀ out i = n - i
 
 loop-holds : tie.Need-loop-holds Inv-loop μ-loop
-loop-holds c = (omega arith, refl, simp (add-zero, sub-zero))
+loop-holds c =
+    let a = c .args in
+    (omega arith, rw (length-part (a .bytes .now) (a .place) (a .n) (c .pre .0)) at (c .pre .1), simp (add-zero, sub-zero) (rest-begins _ _ _))
 
 add-out : tie.Need-add-out Inv-loop μ-loop
 add-out c = search needs
@@ -43,9 +47,14 @@ loop-again c =
     let l = c .before .before in
     let a = l .before .args in (
       omega arith,
-      simp length-set (l .loop .inv .1),
-      sym (store-next (a .bytes .now) (a .place) (a .n) (l .loop .i) (omega arith) (omega arith) (l .loop .out) (a .at)) ∙ l .loop .inv .2,
+      search needs,
+      rest-next {xs = getD (a .bytes .now) (a .place + l .loop .i) 0 ∷ []}
+          (rw (next (a .bytes .now) (a .place) (a .n) (l .loop .i) (omega arith) (omega arith)) at (l .loop .inv .2))
+          (record { out = refl; place = omega arith }),
     )
+
+add-result : tie.Need-add-result Inv-loop μ-loop
+add-result c = search needs
 
 same-length : tie.Need-same-length Inv-loop μ-loop
 same-length c = search needs
@@ -53,8 +62,10 @@ same-length c = search needs
 returns : tie.Need-returns Inv-loop μ-loop
 returns c =
     let l = c .before in
-    let e : l .before .args .n - l .loop .i ≡ 0 = omega arith in
-    rw e at (l .loop .inv .2)
+    let a = l .before .args in
+    let e : a .n - l .loop .i ≡ 0 = omega arith in
+    let f : l .loop .i ≡ a .n = omega arith in
+    rest-ends (rw (e, f) at (l .loop .inv .2))
 
 pub put-bytes-spec : {M : Type 1} → statement M
 put-bytes-spec =
@@ -70,5 +81,6 @@ put-bytes-spec =
     add-i
     loop-less
     loop-again
+    add-result
     same-length
     returns)

@@ -1,23 +1,24 @@
 -- `put_each` meets its contract: storing the bytes that are left, from the first on, is storing all of them.
 use mathlib.Core.Path.{_≡_, refl, sym, _∙_}
-use Prim.Native.Nat.{_≤_}
+use Prim.Native.Nat.{_+_, _≤_}
 use native.Mathlib.Omega.{arith}
 use lib.ListN.{length, length-set}
 use lib.Seq.{sets}
 use Rattle.layout_put.specs.Put.{be}
+use Rattle.layout_put.specs.Bytes.{length-be}
 use Rattle.layout_put.proofs.Laws.{put-step}
 use Rattle.layout_put.proofs.put_each.Statement.{statement}
 use Rattle.layout_put.proofs.put_each.Tie as tie
 
 abbrev Inv-loop : tie.InvT-loop
 Inv-loop out₀ at n value rest₀ k₀ out rest k =
-    (k ≤ n) × (length out ≡ length out₀) × (sets out at (be k rest) ≡ sets out₀ at (be n value))
+    (k ≤ n) × (at + n ≤ length out) × (length out ≡ length out₀) × (sets out at (be k rest) ≡ sets out₀ at (be n value))
 
 abbrev μ-loop : tie.MeasureT-loop
 μ-loop out₀ at n value rest₀ k₀ out rest k = k
 
 loop-holds : tie.Need-loop-holds Inv-loop μ-loop
-loop-holds c = (omega arith, refl, refl)
+loop-holds c = (omega arith, rw length-be at (c .pre), refl, refl)
 
 sub-k : tie.Need-sub-k Inv-loop μ-loop
 sub-k c = omega arith
@@ -39,8 +40,12 @@ loop-again c =
     let l = c .before in (
       omega arith,
       simp length-set (l .loop .inv .1),
-      sym (put-step (l .loop .out) _ (l .loop .k) (l .loop .rest) (omega arith)) ∙ l .loop .inv .2,
+      simp length-set (l .loop .inv .2),
+      sym (put-step (l .loop .out) _ (l .loop .k) (l .loop .rest) (omega arith)) ∙ l .loop .inv .3,
     )
+
+add-result : tie.Need-add-result Inv-loop μ-loop
+add-result c = omega arith
 
 same-length : tie.Need-same-length Inv-loop μ-loop
 same-length c = omega arith
@@ -50,7 +55,7 @@ unfolding be
 returns c =
     let l = c .before in
     let e : l .loop .k ≡ 0 = omega arith in
-    rw e at (l .loop .inv .2)
+    record { out = rw e at (l .loop .inv .3); place = rw length-be }
 
 pub put-each-spec : {M : Type 1} → statement M
 put-each-spec =
@@ -65,5 +70,6 @@ put-each-spec =
     slice-write-out
     loop-less
     loop-again
+    add-result
     same-length
     returns)

@@ -1,36 +1,46 @@
--- `put_links` meets its contract: storing the references that are left, from here, is storing all of them.
+-- `put_links` meets its contract: writing the references that are left, from here, is writing all of them.
 use borrow.Author.Needs.{needs}
-use mathlib.Core.Path.{_≡_, refl, sym, _∙_}
-use Prim.Native.Nat.{_+_, _-_, _≤_}
+use mathlib.Core.Path.{_≡_}
+use mathlib.Core.List.{List, _++_}
+use Prim.Native.Nat.{ℕ, _+_, _-_, _≤_}
 use native.Mathlib.Nat.{add-zero, sub-zero}
 use native.Mathlib.Omega.{arith}
-use lib.ListN.{length, take, drop}
-use lib.Seq.{sets, length-sets}
-use Rattle.layout_put.specs.Put.{links}
-use Rattle.layout_put.proofs.Laws.{length-next, links-put}
+use lib.ListN.{take, drop, getD}
+use Rattle.layout_put.specs.Put.{be, gap, complement, links}
+use Rattle.layout_put.specs.Puts.{Rest, rest-begins, rest-next, rest-room, rest-ends, room-first}
+use Rattle.layout_put.proofs.Laws.{links-next}
 use Rattle.layout_put.proofs.put_links.Statement.{statement}
 use Rattle.layout_put.proofs.put_links.Tie as tie
 
 abbrev Inv-loop : tie.InvT-loop
 Inv-loop out₀ at w a refs first count to₀ i₀ out to i =
-    let left = links w a (take (count - i) (drop (first + i) refs)) in
-    let all = links w a (take count (drop first refs)) in
-    (i ≤ count) × (length out ≡ length out₀) × (to + length left ≡ at + length all) × (sets out to left ≡ sets out₀ at all)
+    (i ≤ count) × Rest out₀ at (links w a (take count (drop first refs))) out to (links w a (take (count - i) (drop (first + i) refs)))
 
 abbrev μ-loop : tie.MeasureT-loop
 μ-loop out₀ at w a refs first count to₀ i₀ out to i = count - i
 
--- where the references behind the next one end
-ends : (c : tie.In-loop Inv-loop μ-loop) → let l = c .before in let a = l .before .before .before .args in
-    l .loop .to + a .w + length (links (a .w) (a .a) (take (a .count - (l .loop .i + 1)) (drop (a .first + (l .loop .i + 1)) (a .refs .now))))
-    ≡ a .at + length (links (a .w) (a .a) (take (a .count) (drop (a .first) (a .refs .now))))
-ends c =
-    let l = c .before in
-    let a = l .before .before .before .args in
-    omega (arith, length-next (a .refs .now) (a .first) (a .count) (l .loop .i) (omega arith) (omega arith) (a .w) (a .a))
+abbrev start : tie.In-loop Inv-loop μ-loop → tie.Start Inv-loop μ-loop
+start c = c .before .before .before .before
+
+-- what is left: the next reference and those after it
+abbrev one : tie.In-loop Inv-loop μ-loop → List ℕ
+one c = let a = start c .args in be (a .w) (complement (gap (a .a) (getD (a .refs .now) (a .first + c .before .loop .i) 0)))
+
+abbrev others : tie.In-loop Inv-loop μ-loop → List ℕ
+others c =
+    let a = start c .args in
+    let i = c .before .loop .i in
+    links (a .w) (a .a) (take (a .count - (i + 1)) (drop (a .first + (i + 1)) (a .refs .now)))
+
+left : (c : tie.In-loop Inv-loop μ-loop) → let a = start c .args in let l = c .before .loop in
+    Rest (a .out .now) (a .at) (links (a .w) (a .a) (take (a .count) (drop (a .first) (a .refs .now)))) (l .out) (l .to) (one c ++ others c)
+left c =
+    let a = start c .args in
+    let l = c .before .loop in
+    rw (links-next (a .refs .now) (a .first) (a .count) (l .i) (omega arith) (omega arith) (a .w) (a .a)) at (l .inv .1)
 
 loop-holds : tie.Need-loop-holds Inv-loop μ-loop
-loop-holds c = (omega arith, refl, simp (add-zero, sub-zero), simp (add-zero, sub-zero))
+loop-holds c = (omega arith, simp (add-zero, sub-zero) (rest-begins _ _ _))
 
 add-r : tie.Need-add-r Inv-loop μ-loop
 add-r c = search needs
@@ -46,13 +56,9 @@ raw-gap-requires c κs = search needs
 
 put-requires : tie.Need-put-requires Inv-loop μ-loop
 put-requires c κs =
-    let e = ends (c .before .before .before) in
-    omega arith
-
-add-to : tie.Need-add-to Inv-loop μ-loop
-add-to c =
-    let e = ends (c .before .before .before .before .before .before) in
-    omega arith
+    let d = c .before .before .before in
+    let l = d .before .loop in
+    rw (c .raw-gap .ensures) (room-first (l .out) (l .to) (one d) (others d) (rest-room (left d) (start d .pre .1)))
 
 add-i : tie.Need-add-i Inv-loop μ-loop
 add-i c = search needs
@@ -63,14 +69,7 @@ loop-less c = search needs
 loop-again : tie.Need-loop-again Inv-loop μ-loop
 loop-again c =
     let p = c .before .before in
-    let l = p .before .before .before .before .before in
-    let a = l .before .before .before .args in
-    let put = rw (p .before .raw-gap .ensures) at (p .put .ensures) in (
-      omega arith,
-      rw (p .put .ensures, length-sets) (l .loop .inv .1),
-      ends (p .before .before .before .before),
-      rw put (sym (links-put (a .refs .now) (a .first) (a .count) (l .loop .i) (omega arith) (omega arith) (a .w) (a .a) (l .loop .out) (l .loop .to)) ∙ l .loop .inv .3),
-    )
+    (omega arith, rest-next (left (p .before .before .before .before)) (rw (p .before .raw-gap .ensures) at (p .put .ensures)))
 
 same-length : tie.Need-same-length Inv-loop μ-loop
 same-length c = search needs
@@ -80,7 +79,7 @@ unfolding links
 returns c =
     let l = c .before in
     let e : l .before .before .before .args .count - l .loop .i ≡ 0 = omega arith in
-    (sym (add-zero _) ∙ rw e at (l .loop .inv .2), rw e at (l .loop .inv .3))
+    rest-ends (rw e at (l .loop .inv .1))
 
 pub put-links-spec : {M : Type 1} → statement M
 put-links-spec =
@@ -94,7 +93,6 @@ put-links-spec =
     shared-slice-read-r
     raw-gap-requires
     put-requires
-    add-to
     add-i
     loop-less
     loop-again

@@ -1,7 +1,7 @@
 -- `count_all` meets its contract: what is counted, and what the rows that are left add to it, is the sum over all.
 use Prim.Native.Nat.{_-_}
 use native.Mathlib.Omega.{arith}
-use Rattle.phd.specs.Table.{row-count}
+use Rattle.table.specs.Table.{row-count}
 use Rattle.phd_counts.specs.Counting.{Counting, counting-begins, counting-next, counting-small, counting-ends}
 use Rattle.phd_counts.proofs.count_all.Statement.{statement}
 use Rattle.phd_counts.proofs.count_all.Tie as tie

@@ -2,7 +2,7 @@
 use borrow.Author.Needs.{needs}
 use native.Mathlib.Omega.{arith}
 use Rattle.layout.specs.Values.{one-most}
-use Rattle.phd_rows.specs.Rows.{of-kind}
+use Rattle.table.specs.Rows.{of-kind}
 use Rattle.phd_counts.specs.Counting.{counted-is}
 use Rattle.phd_counts.proofs.counted.Statement.{statement}
 use Rattle.phd_counts.proofs.counted.Tie as tie

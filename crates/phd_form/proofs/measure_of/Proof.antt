@@ -1,7 +1,7 @@
 -- `measure_of` meets its contract: each field is what its call gives.
 use borrow.Author.Needs.{needs}
 use Rattle.phd_form.specs.Form.{measure}
-use Rattle.phd_rows.specs.Rows.{refs-of}
+use Rattle.table.specs.Rows.{refs-of}
 use Rattle.phd_form.proofs.measure_of.Statement.{statement}
 use Rattle.phd_form.proofs.measure_of.Tie as tie
 

@@ -1,13 +1,14 @@
 -- `nothing` meets its contract.
 use mathlib.Core.Path.{refl}
-use Rattle.phd.specs.Phd.{nothing, no-facts}
-use Rattle.phd.specs.Table.{row-count}
+use Rattle.phd.specs.Phd.{no-facts}
+use Rattle.reading.specs.Reading.{nothing as nothing-of}
+use Rattle.table.specs.Table.{row-count}
 use Rattle.phd_read.specs.Answer.{answer}
 use Rattle.phd_read.proofs.nothing.Statement.{statement}
 use Rattle.phd_read.proofs.nothing.Tie as tie
 
 returns : tie.Need-returns
-unfolding answer nothing no-facts row-count
+unfolding answer nothing-of no-facts row-count
 returns c = refl
 
 pub nothing-spec : {M : Type 1} → statement M

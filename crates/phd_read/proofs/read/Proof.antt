@@ -5,12 +5,13 @@ use Prim.Native.Nat.{_≤_}
 use native.Mathlib.Omega.{arith}
 use lib.ListN.{length}
 use Rattle.layout.specs.Layout.{whole, stops, run, inside}
-use Rattle.phd.specs.Phd.{limit, header, nothing}
-use Rattle.phd.specs.Table.{row-count}
+use Rattle.phd.specs.Phd.{limit, header, phd, capacity}
+use Rattle.table.specs.Table.{row-count}
 use Rattle.phd_header.specs.Header.{header-outcome, header-word}
-use Rattle.layout.specs.Lent.{stored}
+use Rattle.table.specs.Buffer.{stored}
 use Rattle.phd_read.specs.Answer.{answer}
-use Rattle.phd_read.specs.Steps.{reading-over, reading-opens, reading-stops}
+use Rattle.reading.specs.Reading.{nothing as nothing-of}
+use Rattle.reading.specs.Steps.{reading-over, reading-opens, reading-stops}
 use Rattle.phd_read.proofs.read.Statement.{statement}
 use Rattle.phd_read.proofs.read.Tie as tie
 
@@ -30,10 +31,10 @@ nothing-requires : tie.Need-nothing-requires
 nothing-requires c κs = search needs
 
 returns : tie.Need-returns
-unfolding limit nothing stored
+unfolding limit nothing-of stored
 returns c =
     let a = c .before .before .before .before .before .args in
-    rw (reading-over (a .dump .now) (length (a .rows .now)) (length (a .refs .now)) (c .before .if1 .taken)) (c .nothing .ensures, (refl, refl))
+    rw (reading-over phd (a .dump .now) (capacity (length (a .rows .now)) (length (a .refs .now))) (c .before .if1 .taken)) (c .nothing .ensures, (refl, refl))
 
 read-header-requires : tie.Need-read-header-requires
 read-header-requires c κs = search needs
@@ -70,14 +71,14 @@ returns-2 c =
     let d = c .before .before .before .before .before .before .before .before in
     let a = d .before .before .before .before .before .before .before .args in
     let r = c .before .before .before .before .read-records .ensures in
-    rw (reading-opens (a .dump .now) (length (a .rows .now)) (length (a .refs .now)) _ _ (within (d .before .before .before)) (opened d)) (r .0, (r .1 .0, r .1 .1))
+    rw (reading-opens phd (a .dump .now) (capacity (length (a .rows .now)) (length (a .refs .now))) _ _ (within (d .before .before .before)) (opened d)) (r .0, (r .1 .0, r .1 .1))
 
 returns-3 : tie.Need-returns-3
-unfolding answer nothing stored row-count
+unfolding answer nothing-of stored row-count
 returns-3 c =
     let d = c .before .before .before .before in
     let a = d .before .before .before .before .before .before .before .args in
-    rw (reading-stops (a .dump .now) (length (a .rows .now)) (length (a .refs .now)) _ (within (d .before .before .before)) (refused d), c .nothing2 .ensures, c .before .before .reply-of .ensures, c .before .missing-of .ensures) (refl, (refl, refl))
+    rw (reading-stops phd (a .dump .now) (capacity (length (a .rows .now)) (length (a .refs .now))) _ (within (d .before .before .before)) (refused d), c .nothing2 .ensures, c .before .before .reply-of .ensures, c .before .missing-of .ensures) (refl, (refl, refl))
 
 pub read-spec : {M : Type 1} → statement M
 read-spec =

@@ -3,13 +3,14 @@ use borrow.Author.Needs.{needs}
 use mathlib.Core.Path.{_≡_, sym, _∙_}
 use mathlib.Core.Bool.{true}
 use Rattle.phd_rows.specs.Good.{good-header}
-use Rattle.phd_rows.specs.Judged.{refused, done, judged, checked}
+use Rattle.table.specs.Rows.{rows-of}
+use Rattle.table.specs.CheckOrder.{refused, done, judged, checked}
 use Rattle.phd_rows.specs.Kept.{word-of}
 use Rattle.phd_rows.proofs.check.Statement.{statement}
 use Rattle.phd_rows.proofs.check.Tie as tie
 
 -- the header was found good
-good : (c : tie.Then1) → let a = c .before .before .before .before .before .args in good-header (a .header) (a .names .now) (a .rows .now) (a .refs .now) ≡ true
+good : (c : tie.Then1) → let a = c .before .before .before .before .before .args in good-header (a .header) (a .names .now) (rows-of (a .rows .now)) (a .refs .now) ≡ true
 good c = sym (c .before .header-good .ensures) ∙ c .if1 .taken
 
 header-good-requires : tie.Need-header-good-requires

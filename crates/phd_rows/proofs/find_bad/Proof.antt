@@ -1,19 +1,18 @@
 -- `find_bad` meets its contract: what is left of the rows, of a row's references and of its name, from here, says what the whole says.
-use mathlib.Core.Path.{_≡_, sym, ap, _∙_}
+use mathlib.Core.Path.{_≡_, refl, sym, ap, _∙_}
 use mathlib.Core.Bool.{true, false}
 use mathlib.Core.Logic.{⊎-elim}
 use Prim.Native.Nat.{_+_, _-_, _≤_, _<_}
-use native.Mathlib.Nat.{sub-zero}
 use native.Mathlib.Omega.{arith}
 use lib.ListN.{length, take, drop}
 use borrow.Author.Needs.{needs}
 use borrow.Author.Tests.{not-true, not-false}
 use Rattle.layout.specs.Numbers.{within}
-use Rattle.phd.specs.Table.{row-count}
-use Rattle.phd_rows.specs.Rows.{row-at, refs-of, name-of}
-use Rattle.phd_rows.specs.Good.{good-numbers, good-refs, good-row, first-bad}
+use Rattle.table.specs.Rows.{row-at, refs-of, name-of, rows-of, rows-left}
+use Rattle.table.specs.Table.{row-count}
+use Rattle.phd_rows.specs.Good.{good-numbers, good-refs, good-row, first-bad, bad-of}
 use Rattle.phd_rows.specs.Kept.{Lent, first-by, lent-by}
-use Rattle.phd_rows.proofs.Laws.{fails-at, ref-bad, ref-good, byte-bad, byte-good, bad-here, bad-later, row-good, whole-refs, whole-name}
+use Rattle.phd_rows.proofs.Laws.{fails-at, ref-bad, ref-good, byte-bad, byte-good, bad-here, bad-later, bad-none, row-good, whole-refs, whole-name}
 use Rattle.phd_rows.proofs.find_bad.Statement.{statement}
 use Rattle.phd_rows.proofs.find_bad.Tie as tie
 
@@ -33,7 +32,7 @@ abbrev μ-loop2 : tie.MeasureT-loop2
 
 abbrev Inv-rows : tie.InvT-rows
 Inv-rows facts names refs rows n top index₀ i₀ index i =
-    (i ≤ n) × (first-bad facts names refs rows i index (n - i) ≡ first-bad facts names refs rows 0 0 n)
+    (i ≤ n) × (first-bad facts names refs i index (rows-left rows i) ≡ bad-of facts names refs (rows-of rows))
 
 abbrev μ-rows : tie.MeasureT-rows
 μ-rows facts names refs rows n top index₀ i₀ index i = n - i
@@ -61,7 +60,7 @@ highest-of-requires : tie.Need-highest-of-requires Inv-loop μ-loop Inv-loop2 μ
 highest-of-requires c κs = search needs
 
 rows-holds : tie.Need-rows-holds Inv-loop μ-loop Inv-loop2 μ-loop2 Inv-rows μ-rows
-rows-holds c = (omega arith, simp sub-zero)
+rows-holds c = (omega arith, refl)
 
 row-at-requires : tie.Need-row-at-requires Inv-loop μ-loop Inv-loop2 μ-loop2 Inv-rows μ-rows
 unfolding row-count
@@ -164,7 +163,7 @@ rows-again c =
     let d = good-from c in
     let w = head d in
     let a = start w .args in
-    let l = bad-later (a .facts) (a .names .now) (a .refs .now) (a .rows .now) (w .rows .i) (w .rows .index) (row-count (a .rows .now)) (omega arith) (passed c) in
+    let l = bad-later (a .facts) (a .names .now) (a .refs .now) (a .rows .now) (w .rows .i) (w .rows .index) (omega arith) (passed c) in
     (omega arith, rw (d .before .before .row-at .ensures) (sym l ∙ w .rows .inv .1))
 
 -- the row at which the loop was left before its end is bad: by each of the three ways out
@@ -189,14 +188,14 @@ unfolding row-count
 returns c =
     let w = c .before .before in
     let a = start w .args in
-    sym (bad-here (a .facts) (a .names .now) (a .refs .now) (a .rows .now) (w .rows .i) (w .rows .index) _ (omega arith) (left-at (c .before) (omega arith))) ∙ w .rows .inv .1
+    sym (bad-here (a .facts) (a .names .now) (a .refs .now) (a .rows .now) (w .rows .i) (w .rows .index) (omega arith) (left-at (c .before) (omega arith))) ∙ w .rows .inv .1
 
 returns-2 : tie.Need-returns-2 Inv-loop μ-loop Inv-loop2 μ-loop2 Inv-rows μ-rows
-unfolding first-bad row-count
+unfolding row-count
 returns-2 c =
     let w = c .before .before in
-    let e : row-count (start w .args .rows .now) - w .rows .i ≡ 0 = omega arith in
-    rw e at (w .rows .inv .1)
+    let a = start w .args in
+    sym (bad-none (a .facts) (a .names .now) (a .refs .now) (a .rows .now) (w .rows .i) (w .rows .index) (omega arith)) ∙ w .rows .inv .1
 
 pub find-bad-spec : {M : Type 1} → statement M
 find-bad-spec =

@@ -1,7 +1,8 @@
 -- `header_good` meets its contract: its tests, joined.
 use lib.Dec.{eqb}
 use borrow.Author.Needs.{needs}
-use Rattle.phd.specs.Table.{row-count}
+use Rattle.table.specs.Table.{row-count}
+use Rattle.table.specs.Rows.{length-rows}
 use Rattle.phd_rows.specs.Good.{good-header}
 use Rattle.phd_rows.proofs.Laws.{joined, either-joined}
 use Rattle.phd_rows.proofs.header_good.Statement.{statement}
@@ -14,7 +15,7 @@ returns : tie.Need-returns
 unfolding good-header row-count
 returns c =
     let f = c .before .before .before .before .before .before .args .facts in
-    rw (either-joined (eqb (f .word) 32) (eqb (f .word) 64), c .vm-good .ensures) (joined _ _)
+    rw (length-rows, either-joined (eqb (f .word) 32) (eqb (f .word) 64), c .vm-good .ensures) (joined _ _)
 
 pub header-good-spec : {M : Type 1} → statement M
 header-good-spec = tie.close (tie.spec vm-good-requires returns)

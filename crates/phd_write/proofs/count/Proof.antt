@@ -2,6 +2,7 @@
 use mathlib.Core.Path.{_≡_}
 use native.Mathlib.Omega.{arith}
 use lib.ListN.{length}
+use Rattle.table.specs.Rows.{rows-of}
 use Rattle.phd.specs.Phd.{limit}
 use Rattle.phd_rows.specs.Kept.{vm-of, Vm, vm-lent}
 use Rattle.phd_write.specs.Terms.{dump-of}
@@ -15,7 +16,7 @@ vm : (c : tie.Start) → Vm (c .args .names .now) (c .args .header .vm)
 vm c = vm-lent _ _ (vm-of _ _ _ _ (c .pre .0))
 
 -- the size that was found is the dump's
-found : (c : tie.After-size2) → let a = c .before .before .before .before .before .args in c .size2 .result ≡ length (dump-of (a .header) (a .names .now) (a .refs .now) (a .rows .now))
+found : (c : tie.After-size2) → let a = c .before .before .before .before .before .args in c .size2 .result ≡ length (dump-of (a .header) (a .names .now) (a .refs .now) (rows-of (a .rows .now)))
 found c = sized _ _ _ _ _ _ (c .before .size .ensures) (c .size2 .ensures)
 
 size-requires : tie.Need-size-requires

@@ -3,7 +3,7 @@ use borrow.Author.Needs.{needs}
 use mathlib.Core.Path.{_≡_, sym}
 use native.Mathlib.Omega.{arith}
 use lib.ListN.{length}
-use Rattle.phd_rows.specs.Judged.{refused-keeps, done-stores}
+use Rattle.table.specs.CheckOrder.{refused-keeps, done-stores}
 use Rattle.phd_write.specs.Write.{writing}
 use Rattle.phd_write.specs.Ways.{said-0, asked-split}
 use Rattle.phd_write.proofs.write.Statement.{statement}
@@ -24,7 +24,7 @@ writes : (c : tie.Else2) → let a = c .before .before .before .before .before .
 writes c = asked-split _ _ _ _ _ _ (c .before .before .before .before .write-size .ensures) .done .1 (c .before .before .if1 .left, omega arith)
 
 put-requires : tie.Need-put-requires
-put-requires c κs = let s = said-0 _ _ _ _ _ (writes (c .before)) in (s .0, s .1)
+put-requires c κs = let s = said-0 _ _ _ _ _ (writes (c .before)) in (s .0, omega (arith, s .1))
 
 same-length : tie.Need-same-length
 same-length c = search needs
@@ -34,7 +34,7 @@ returns-3 c =
     let d = c .before .before .before .before in
     let s = said-0 _ _ _ _ _ (writes d) in
     let p = asked-split _ _ _ _ _ _ (d .before .before .before .before .write-size .ensures) in
-    (sym (p .same (writes d)), done-stores _ _ _ _ (s .3) (s .1) (c .before .before .put .ensures))
+    (sym (p .same (writes d)), done-stores _ _ _ _ (s .3) (s .1) (c .before .before .put .ensures .out))
 
 pub write-spec : {M : Type 1} → statement M
 write-spec =

@@ -8,7 +8,8 @@ use lib.Dec.{eqb}
 use Prim.Native.Nat.{ℕ}
 use Rattle.layout_put.specs.Put.{join}
 use Rattle.layout_put.specs.Partly.{Partly, begin, next, fits, ends}
-use Rattle.classic.specs.Classic.{ascii, array-type}
+use Rattle.digits.specs.Digits.{ascii}
+use Rattle.classic.specs.Classic.{array-type}
 use Rattle.classic_row.specs.Row.{entry-name}
 use Rattle.classic_row.proofs.parts.put_array.Statement.{statement}
 use Rattle.classic_row.proofs.parts.put_array.Tie as tie
@@ -42,8 +43,8 @@ outer t =
 abbrev outer-first : tie.After-put-all2 → Partly
 outer-first p = next (outer (p .before .before .before)) (p .put-all2 .ensures)
 
-abbrev outer-second : tie.After-put-part2 → Partly
-outer-second q = next (outer-first (q .before .before .before .before)) (q .put-part2 .ensures)
+abbrev outer-second : tie.After-put-bytes2 → Partly
+outer-second q = next (outer-first (q .before .before .before .before)) (q .put-bytes2 .ensures)
 
 is-array-requires : tie.Need-is-array-requires
 is-array-requires c κs = search needs
@@ -54,14 +55,14 @@ slice-aggregate-put-all c = search needs
 put-all-requires : tie.Need-put-all-requires
 put-all-requires c κs = fits (inner (c .before .before))
 
-put-part-requires : tie.Need-put-part-requires
-put-part-requires c κs = let p = c .before .before .before in (p .before .before .before .before .before .before .before .pre .0, fits (inner-first p))
+put-bytes-requires : tie.Need-put-bytes-requires
+put-bytes-requires c κs = let p = c .before .before .before in (p .before .before .before .before .before .before .before .pre .0, fits (inner-first p))
 
 same-length : tie.Need-same-length
 same-length c = search needs
 
 returns : tie.Need-returns
-returns c = let q = c .before .before in ends (next (inner-first (q .before .before .before .before)) (q .put-part .ensures)) refl
+returns c = let q = c .before .before in ends (next (inner-first (q .before .before .before .before)) (q .put-bytes .ensures)) refl
 
 slice-aggregate-put-all-2 : tie.Need-slice-aggregate-put-all-2
 slice-aggregate-put-all-2 c = search needs
@@ -69,8 +70,8 @@ slice-aggregate-put-all-2 c = search needs
 put-all-requires-2 : tie.Need-put-all-requires-2
 put-all-requires-2 c κs = fits (outer (c .before .before))
 
-put-part-requires-2 : tie.Need-put-part-requires-2
-put-part-requires-2 c κs = let p = c .before .before .before in (p .before .before .before .before .before .before .before .pre .0, fits (outer-first p))
+put-bytes-requires-2 : tie.Need-put-bytes-requires-2
+put-bytes-requires-2 c κs = let p = c .before .before .before in (p .before .before .before .before .before .before .before .pre .0, fits (outer-first p))
 
 slice-aggregate-put-all-3 : tie.Need-slice-aggregate-put-all-3
 slice-aggregate-put-all-3 c = search needs
@@ -91,12 +92,12 @@ put-array-spec =
     is-array-requires
     slice-aggregate-put-all
     put-all-requires
-    put-part-requires
+    put-bytes-requires
     same-length
     returns
     slice-aggregate-put-all-2
     put-all-requires-2
-    put-part-requires-2
+    put-bytes-requires-2
     slice-aggregate-put-all-3
     put-all-requires-3
     same-length-2

@@ -5,8 +5,9 @@ use mathlib.Core.List.{List, [], _∷_}
 use Prim.Native.Nat.{ℕ}
 use Rattle.layout_put.specs.Put.{join}
 use Rattle.layout_put.specs.Partly.{Partly, begin, next, fits, ends}
-use Rattle.phd_rows.specs.declared.Row.{Row}
-use Rattle.classic.specs.Classic.{figure, address}
+use Rattle.table.specs.declared.Row.{Row}
+use Rattle.digits.specs.Digits.{figure}
+use Rattle.classic.specs.Classic.{address}
 use Rattle.classic_row.specs.Row.{mark, entry-type, entry-line}
 use Rattle.classic_row.specs.declared.Entry.{Entry}
 use Rattle.classic_row.proofs.parts.put_first.Statement.{statement}

@@ -59,9 +59,9 @@ returns-2 c =
     let t = q .before .before in
     rw (ne-eqb _ _ (t .before .if1 .left), t .if2 .taken) (q .put-array .ensures)
 
-put-part-requires : tie.Need-put-part-requires
+put-bytes-requires : tie.Need-put-bytes-requires
 unfolding entry-type
-put-part-requires c κs =
+put-bytes-requires c κs =
     let t = c .before in
     let s = t .before .before .before .before in
     (s .pre .1 .0, rw (ne-eqb _ _ (t .before .if1 .left), ne-eqb _ _ (t .if2 .left)) at (s .pre .1 .1))
@@ -74,7 +74,7 @@ unfolding entry-type
 returns-3 c =
     let q = c .before .before in
     let t = q .before .before in
-    rw (ne-eqb _ _ (t .before .if1 .left), ne-eqb _ _ (t .if2 .left)) (q .put-part .ensures)
+    rw (ne-eqb _ _ (t .before .if1 .left), ne-eqb _ _ (t .if2 .left)) (q .put-bytes .ensures)
 
 pub put-type-spec : {M : Type 1} → statement M
 put-type-spec =
@@ -89,6 +89,6 @@ put-type-spec =
     put-array-requires
     same-length-2
     returns-2
-    put-part-requires
+    put-bytes-requires
     same-length-3
     returns-3)

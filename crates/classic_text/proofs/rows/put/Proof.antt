@@ -2,7 +2,7 @@
 use borrow.Author.Needs.{needs}
 use Prim.Native.Nat.{_-_, _<_}
 use native.Mathlib.Omega.{arith}
-use Rattle.phd.specs.Table.{row-count}
+use Rattle.table.specs.Table.{row-count}
 use Rattle.classic_text.specs.Loops.{Putting, putting-begins, putting-ends, putting-room, putting-next, row-short, row-linked}
 use Rattle.classic_text.proofs.rows.put.Statement.{statement}
 use Rattle.classic_text.proofs.rows.put.Tie as tie

@@ -2,7 +2,7 @@
 use borrow.Author.Needs.{needs}
 use Prim.Native.Nat.{_-_, _<_}
 use native.Mathlib.Omega.{arith}
-use Rattle.phd.specs.Table.{row-count}
+use Rattle.table.specs.Table.{row-count}
 use Rattle.classic_text.specs.Loops.{Sizing, sizing-begins, sizing-ends, sizing-small, sizing-next, row-short}
 use Rattle.classic_text.proofs.rows.size.Statement.{statement}
 use Rattle.classic_text.proofs.rows.size.Tie as tie

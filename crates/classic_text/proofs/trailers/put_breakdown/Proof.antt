@@ -5,7 +5,7 @@ use mathlib.Core.List.{List, [], _∷_}
 use Prim.Native.Nat.{ℕ}
 use Rattle.layout_put.specs.Put.{join}
 use Rattle.layout_put.specs.Partly.{Partly, begin, next, fits, ends}
-use Rattle.classic.specs.Classic.{figure}
+use Rattle.digits.specs.Digits.{figure}
 use Rattle.classic_text.specs.Parts.{breakdown-by}
 use Rattle.phd_counts.specs.declared.Tally.{Tally}
 use Rattle.classic_text.proofs.trailers.put_breakdown.Statement.{statement}

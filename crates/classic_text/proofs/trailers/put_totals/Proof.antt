@@ -6,7 +6,7 @@ use Prim.Native.Nat.{ℕ, _+_}
 use native.Mathlib.Omega.{arith}
 use Rattle.layout_put.specs.Put.{join}
 use Rattle.layout_put.specs.Partly.{Partly, begin, next, fits, ends}
-use Rattle.classic.specs.Classic.{ascii, figure}
+use Rattle.digits.specs.Digits.{ascii, figure}
 use Rattle.classic_text.specs.Parts.{totals-by}
 use Rattle.phd_counts.specs.declared.Tally.{Tally}
 use Rattle.classic_text.proofs.trailers.put_totals.Statement.{statement}

@@ -2,8 +2,8 @@
 use borrow.Author.Needs.{needs}
 use Prim.Native.Nat.{_+_, _≤_}
 use native.Mathlib.Omega.{arith}
-use Rattle.classic.specs.Classic.{places}
-use Rattle.classic_put.specs.Digits.{places-most}
+use Rattle.digits.specs.Digits.{places}
+use Rattle.digits.specs.Lengths.{places-most}
 use Rattle.classic_text.specs.Sizes.{length-trailers}
 use Rattle.classic_text.proofs.trailers.size.Statement.{statement}
 use Rattle.classic_text.proofs.trailers.size.Tie as tie

@@ -14,8 +14,8 @@ none c = let a = c .args in begin (a .out .now) 0 (parts (a .names .now) (a .vm)
 abbrev words : tie.After-put-all → Partly
 words c = next (none (c .before .before .before .before .before)) (c .put-all .ensures)
 
-abbrev string : tie.After-put-part → Partly
-string c = let d = c .before .before in next-as (words (d .before .before .before)) (c .put-part .ensures) (rw (d .if1 .taken))
+abbrev string : tie.After-put-bytes → Partly
+string c = let d = c .before .before in next-as (words (d .before .before .before)) (c .put-bytes .ensures) (rw (d .if1 .taken))
 
 abbrev no-string : tie.Else1 → Partly
 no-string c = next-as (words (c .before .before .before)) (puts-none _ _) (rw (c .if1 .left))
@@ -26,8 +26,8 @@ slice-aggregate-put-all c = search needs
 put-all-requires : tie.Need-put-all-requires
 put-all-requires c κs = fits (none (c .before .before .before .before))
 
-put-part-requires : tie.Need-put-part-requires
-put-part-requires c κs =
+put-bytes-requires : tie.Need-put-bytes-requires
+put-bytes-requires c κs =
     let d = c .before in
     let w = d .before .before .before in
     let e = d .if1 .taken in
@@ -57,7 +57,7 @@ put-spec =
     (tie.spec
     slice-aggregate-put-all
     put-all-requires
-    put-part-requires
+    put-bytes-requires
     put-byte-requires
     same-length
     returns

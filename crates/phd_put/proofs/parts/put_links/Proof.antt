@@ -1,53 +1,48 @@
--- `put_links` meets its contract: the count, and the references behind it.
+-- `put_links` meets its contract: the count, and the references after it.
 use borrow.Author.Needs.{needs}
-use native.Mathlib.Omega.{arith}
-use Prim.Native.Nat.{_+_, _≤_}
-use lib.ListN.{length, length-append}
-use Rattle.layout_put.specs.Put.{links}
-use Rattle.layout_put.specs.Bytes.{length-be}
-use Rattle.phd_rows.specs.Rows.{refs-of}
+use mathlib.Core.Path.{_≡_, refl}
+use mathlib.Core.List.{List, [], _∷_, append-nil}
+use Prim.Native.Nat.{ℕ}
+use Rattle.layout_put.specs.Put.{join, be, links}
+use Rattle.layout_put.specs.Partly.{Partly, begin, fits, next, ends}
+use Rattle.phd.specs.declared.Shape.{Shape}
+use Rattle.table.specs.Rows.{refs-of}
+use Rattle.table.specs.declared.Row.{Row}
 use Rattle.phd_put.specs.Record.{put-links}
-use Rattle.layout_put.specs.Stores.{be-two}
 use Rattle.phd_put.proofs.parts.put_links.Statement.{statement}
 use Rattle.phd_put.proofs.parts.put_links.Tie as tie
 
-room : (c : tie.Start) → c .args .at + (c .args .sh .counted + length (links (c .args .sh .link) (c .args .row .address) (refs-of (c .args .refs .now) (c .args .row)))) ≤ length (c .args .out .now)
+abbrev parts : Shape → Row → List ℕ → List (List ℕ)
+parts sh r refs = be (sh .counted) (r .count) ∷ links (sh .link) (r .address) refs ∷ []
+
+in-parts : (sh : Shape) (r : Row) (refs : List ℕ) → put-links sh r refs ≡ join (parts sh r refs)
 unfolding put-links
-room c = rw (length-append, length-be) at (c .pre .1)
+in-parts sh r refs = rw append-nil
 
--- the places after the count and after the references
-abbrev start : tie.After-struct-known → tie.Start
-start c = c .before .before .before .before .before .before .before
+abbrev none : tie.Start → Partly
+none c =
+    let a = c .args in
+    let refs = refs-of (a .refs .now) (a .row) in
+    begin (a .out .now) (a .at) (parts (a .sh) (a .row) refs) (in-parts (a .sh) (a .row) refs) (c .pre .1)
 
-abbrev first : tie.After-slice-known3 → tie.After-struct-known
-first c = c .before .before .before .before
+abbrev count : tie.After-put → Partly
+count c = next (none (c .before .before .before .before)) (c .put .ensures)
 
 put-requires : tie.Need-put-requires
-put-requires c κs = let r = room (c .before .before .before) in omega arith
-
-add-links : tie.Need-add-links
-add-links c = let r = room (start c) in search needs
+put-requires c κs = fits (none (c .before .before .before))
 
 put-links-requires : tie.Need-put-links-requires
 unfolding refs-of
-put-links-requires c κs = let r = room (start (c .before)) in (start (c .before) .pre .0, omega arith)
+put-links-requires c κs =
+    let p = c .before .before .before in
+    (p .before .before .before .before .pre .0, fits (count p))
 
 same-length : tie.Need-same-length
 same-length c = search needs
 
 returns : tie.Need-returns
-unfolding put-links refs-of
-returns c =
-    let a = start (first c) .args in
-    let l = c .before .before .put-links .ensures in
-    (rw (length-append, length-be) (omega (arith, l .0)), be-two (a .out .now) (a .at) _ _ _ (first c .before .before .before .put .ensures) (l .1))
+unfolding refs-of
+returns c = let q = c .before .before in ends (next (count (q .before .before .before .before)) (q .put-links .ensures)) refl
 
 pub put-links-spec : {M : Type 1} → statement M
-put-links-spec =
-    tie.close
-    (tie.spec
-    put-requires
-    add-links
-    put-links-requires
-    same-length
-    returns)
+put-links-spec = tie.close (tie.spec put-requires put-links-requires same-length returns)

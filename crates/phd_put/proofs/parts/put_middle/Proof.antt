@@ -1,82 +1,57 @@
--- `put_middle` meets its contract: the instance size, the hash and the superclass word, one behind the other.
+-- `put_middle` meets its contract: the instance size, the hash and the superclass word, one after the other.
 use borrow.Author.Needs.{needs}
-use native.Mathlib.Omega.{arith}
-use mathlib.Core.Path.{_≡_}
-use Prim.Native.Nat.{_+_, _^_, _≤_, _<_}
-use lib.ListN.{length}
+use mathlib.Core.Path.{_≡_, refl}
+use mathlib.Core.List.{List, [], _∷_}
+use Prim.Native.Nat.{ℕ}
+use Rattle.layout_put.specs.Put.{join, be}
+use Rattle.layout_put.specs.Partly.{Partly, begin, fits, next, ends}
 use Rattle.phd.specs.Phd.{hash-bytes}
+use Rattle.phd.specs.declared.Shape.{Shape}
+use Rattle.table.specs.declared.Row.{Row}
 use Rattle.phd_put.specs.Record.{put-middle}
-use Rattle.phd_put.specs.Sizes.{length-middle}
-use Rattle.layout_put.specs.Stores.{be-three}
 use Rattle.phd_put.proofs.parts.put_middle.Statement.{statement}
 use Rattle.phd_put.proofs.parts.put_middle.Tie as tie
 
-room : (c : tie.Start) → c .args .at + (c .args .sh .inst + hash-bytes (c .args .row .hashkind) + c .args .sh .superclass) ≤ length (c .args .out .now)
-room c = rw length-middle at (c .pre)
+-- with b bytes of the hash
+abbrev parts : Shape → Row → ℕ → List (List ℕ)
+parts sh r b = be (sh .inst) (r .size) ∷ be b (r .hash) ∷ be (sh .superclass) (r .word) ∷ []
 
--- its length is below 2^63
-fits : (c : tie.Start) → length (c .args .out .now) < 2 ^ 63
-fits c = search needs
+in-parts : (sh : Shape) (r : Row) (b : ℕ) → b ≡ hash-bytes (r .hashkind) → put-middle sh r ≡ join (parts sh r b)
+unfolding put-middle
+in-parts sh r b e = rw e
 
--- the places after the first, the second and the third number
-abbrev start : tie.After-struct-known → tie.Start
-start c = c .before .before .before .before .before .before .before
+-- what is left before the first field, and after each
+abbrev none : tie.After-hash-bytes-of → Partly
+none c =
+    let s = c .before .before in
+    let a = s .args in
+    begin (a .out .now) (a .at) (parts (a .sh) (a .row) (c .hash-bytes-of .result)) (in-parts (a .sh) (a .row) _ (c .hash-bytes-of .ensures)) (s .pre)
 
-abbrev first : tie.After-slice-known3 → tie.After-struct-known
-first c = c .before .before .before .before
+abbrev inst : tie.After-put → Partly
+inst c = next (none (c .before .before)) (c .put .ensures)
 
-abbrev second : tie.After-struct-known2 → tie.After-slice-known3
-second c = c .before .before .before .before .before
-
--- the bytes of the hash
-bytes : (c : tie.After-struct-known) → c .before .before .before .before .before .hash-bytes-of .result ≡ hash-bytes (start c .args .row .hashkind)
-bytes c = c .before .before .before .before .before .hash-bytes-of .ensures
+abbrev hash : tie.After-put2 → Partly
+hash c = next (inst (c .before .before .before .before)) (c .put2 .ensures)
 
 hash-bytes-of-requires : tie.Need-hash-bytes-of-requires
 hash-bytes-of-requires c κs = search needs
 
 put-requires : tie.Need-put-requires
-put-requires c κs = let r = room (c .before .before .before) in omega arith
-
-add-hash : tie.Need-add-hash
-add-hash c = let r = room (start c) in search needs
+put-requires c κs = fits (none (c .before))
 
 put-requires-2 : tie.Need-put-requires-2
-put-requires-2 c κs = let r = room (start (c .before)) in let b = bytes (c .before) in omega arith
-
-add-superclass : tie.Need-add-superclass
-add-superclass c = let r = room (start (first c)) in let b = bytes (first c) in let f = fits (start (first c)) in omega arith
+put-requires-2 c κs = fits (inst (c .before .before .before))
 
 put-requires-3 : tie.Need-put-requires-3
-put-requires-3 c κs = let r = room (start (first (c .before))) in let b = bytes (first (c .before)) in omega arith
-
-add-result : tie.Need-add-result
-add-result c = let r = room (start (first (second c))) in let b = bytes (first (second c)) in let f = fits (start (first (second c))) in omega arith
+put-requires-3 c κs = fits (hash (c .before .before .before))
 
 same-length : tie.Need-same-length
 same-length c = search needs
 
 returns : tie.Need-returns
-unfolding put-middle
-returns c =
-    let e = first (second c) in
-    let a = start e .args in
-    let b = bytes e in (
-      rw (length-middle (a .sh) (a .row)) (omega arith),
-      rw (← b)
-          (be-three (a .out .now) (a .at) _ _ _ _ _ _ (e .before .before .before .put .ensures) (second c .before .before .put2 .ensures) (c .before .before .before .put3 .ensures)),
-    )
+returns c = let p = c .before .before in ends (next (hash (p .before .before .before .before)) (p .put3 .ensures)) refl
 
 pub put-middle-spec : {M : Type 1} → statement M
 put-middle-spec =
     tie.close
-    (tie.spec
-    hash-bytes-of-requires
-    put-requires
-    add-hash
-    put-requires-2
-    add-superclass
-    put-requires-3
-    add-result
-    same-length
-    returns)
+    (tie.spec hash-bytes-of-requires put-requires put-requires-2 put-requires-3 same-length returns)

@@ -1,61 +1,48 @@
--- `put_name` meets its contract: the length, and the bytes of the name behind it.
+-- `put_name` meets its contract: the length, and the bytes of the name after it.
 use borrow.Author.Needs.{needs}
-use native.Mathlib.Omega.{arith}
-use Prim.Native.Nat.{_+_, _^_, _≤_, _<_}
-use lib.ListN.{length}
-use Rattle.phd_rows.specs.Rows.{name-of}
+use mathlib.Core.Path.{_≡_, refl}
+use mathlib.Core.List.{List, [], _∷_, append-nil}
+use Prim.Native.Nat.{ℕ}
+use Rattle.layout_put.specs.Put.{join, be}
+use Rattle.layout_put.specs.Partly.{Partly, begin, fits, next, ends}
+use Rattle.phd.specs.declared.Shape.{Shape}
+use Rattle.table.specs.Rows.{name-of}
+use Rattle.table.specs.declared.Row.{Row}
 use Rattle.phd_put.specs.Record.{put-name}
-use Rattle.phd_rows.specs.Kept.{length-name-of}
-use Rattle.phd_put.specs.Sizes.{length-name}
-use Rattle.layout_put.specs.Stores.{be-two}
 use Rattle.phd_put.proofs.parts.put_name.Statement.{statement}
 use Rattle.phd_put.proofs.parts.put_name.Tie as tie
 
-room : (c : tie.Start) → c .args .at + (c .args .sh .name + c .args .row .namelen) ≤ length (c .args .out .now)
-room c = rw (length-name, length-name-of _ (c .args .row) (c .pre .0)) at (c .pre .1)
+abbrev parts : Shape → Row → List ℕ → List (List ℕ)
+parts sh r name = be (sh .name) (r .namelen) ∷ name ∷ []
 
--- its length is below 2^63
-fits : (c : tie.Start) → length (c .args .out .now) < 2 ^ 63
-fits c = search needs
+in-parts : (sh : Shape) (r : Row) (name : List ℕ) → put-name sh r name ≡ join (parts sh r name)
+unfolding put-name
+in-parts sh r name = rw append-nil
 
--- the places after the length and after the name
-abbrev start : tie.After-struct-known → tie.Start
-start c = c .before .before .before .before .before .before .before
+abbrev none : tie.Start → Partly
+none c =
+    let a = c .args in
+    let name = name-of (a .names .now) (a .row) in
+    begin (a .out .now) (a .at) (parts (a .sh) (a .row) name) (in-parts (a .sh) (a .row) name) (c .pre .1)
 
-abbrev first : tie.After-slice-known3 → tie.After-struct-known
-first c = c .before .before .before .before
+abbrev len : tie.After-put → Partly
+len c = next (none (c .before .before .before .before)) (c .put .ensures)
 
 put-requires : tie.Need-put-requires
-put-requires c κs = let r = room (c .before .before .before) in omega arith
-
-add-name : tie.Need-add-name
-add-name c = let r = room (start c) in search needs
+put-requires c κs = fits (none (c .before .before .before))
 
 put-bytes-requires : tie.Need-put-bytes-requires
-put-bytes-requires c κs = let r = room (start (c .before)) in omega arith
-
-add-result : tie.Need-add-result
-add-result c = let r = room (start (first c)) in let f = fits (start (first c)) in omega arith
+unfolding name-of
+put-bytes-requires c κs =
+    let p = c .before .before .before in
+    (p .before .before .before .before .pre .0, fits (len p))
 
 same-length : tie.Need-same-length
 same-length c = search needs
 
 returns : tie.Need-returns
-unfolding put-name name-of
-returns c =
-    let d = start (first c) in
-    let a = d .args in (
-      rw (length-name, length-name-of _ (a .row) (d .pre .0)) (omega arith),
-      be-two (a .out .now) (a .at) _ _ _ (first c .before .before .before .put .ensures) (c .before .before .put-bytes .ensures),
-    )
+unfolding name-of
+returns c = let q = c .before .before in ends (next (len (q .before .before .before .before)) (q .put-bytes .ensures)) refl
 
 pub put-name-spec : {M : Type 1} → statement M
-put-name-spec =
-    tie.close
-    (tie.spec
-    put-requires
-    add-name
-    put-bytes-requires
-    add-result
-    same-length
-    returns)
+put-name-spec = tie.close (tie.spec put-requires put-bytes-requires same-length returns)

@@ -1,58 +1,40 @@
--- `put_tail` meets its contract: the size, and the true length behind it.
+-- `put_tail` meets its contract: the size, and the true length after it.
 use borrow.Author.Needs.{needs}
-use native.Mathlib.Omega.{arith}
-use Prim.Native.Nat.{_+_, _^_, _≤_, _<_}
-use lib.ListN.{length}
+use mathlib.Core.Path.{_≡_, refl}
+use mathlib.Core.List.{List, [], _∷_, append-nil}
+use Prim.Native.Nat.{ℕ}
+use Rattle.layout_put.specs.Put.{join, be}
+use Rattle.layout_put.specs.Partly.{Partly, begin, fits, next, ends}
+use Rattle.phd.specs.declared.Shape.{Shape}
+use Rattle.table.specs.declared.Row.{Row}
 use Rattle.phd_put.specs.Record.{put-tail}
-use Rattle.phd_put.specs.Sizes.{length-tail}
-use Rattle.layout_put.specs.Stores.{be-two}
 use Rattle.phd_put.proofs.parts.put_tail.Statement.{statement}
 use Rattle.phd_put.proofs.parts.put_tail.Tie as tie
 
-room : (c : tie.Start) → c .args .at + (c .args .sh .size + c .args .sh .truelen) ≤ length (c .args .out .now)
-room c = rw length-tail at (c .pre)
+abbrev parts : Shape → Row → List (List ℕ)
+parts sh r = be (sh .size) (r .size) ∷ be (sh .truelen) (r .len) ∷ []
 
--- its length is below 2^63
-fits : (c : tie.Start) → length (c .args .out .now) < 2 ^ 63
-fits c = search needs
+in-parts : (sh : Shape) (r : Row) → put-tail sh r ≡ join (parts sh r)
+unfolding put-tail
+in-parts sh r = rw append-nil
 
--- the places after the first and the second number
-abbrev start : tie.After-struct-known → tie.Start
-start c = c .before .before .before .before .before .before
+abbrev none : tie.Start → Partly
+none c = let a = c .args in begin (a .out .now) (a .at) (parts (a .sh) (a .row)) (in-parts (a .sh) (a .row)) (c .pre)
 
-abbrev first : tie.After-struct-known2 → tie.After-struct-known
-first c = c .before .before .before .before .before
+abbrev size : tie.After-put → Partly
+size c = next (none (c .before .before .before)) (c .put .ensures)
 
 put-requires : tie.Need-put-requires
-put-requires c κs = let r = room (c .before .before) in omega arith
-
-add-truelen : tie.Need-add-truelen
-add-truelen c = let r = room (start c) in search needs
+put-requires c κs = fits (none (c .before .before))
 
 put-requires-2 : tie.Need-put-requires-2
-put-requires-2 c κs = let r = room (start (c .before)) in omega arith
-
-add-result : tie.Need-add-result
-add-result c = let r = room (start (first c)) in let f = fits (start (first c)) in omega arith
+put-requires-2 c κs = fits (size (c .before .before .before))
 
 same-length : tie.Need-same-length
 same-length c = search needs
 
 returns : tie.Need-returns
-unfolding put-tail
-returns c =
-    let a = start (first c) .args in (
-      rw (length-tail (a .sh) (a .row)) (omega arith),
-      be-two (a .out .now) (a .at) _ _ _ (first c .before .before .before .put .ensures) (c .before .before .before .put2 .ensures),
-    )
+returns c = let p = c .before .before in ends (next (size (p .before .before .before .before)) (p .put2 .ensures)) refl
 
 pub put-tail-spec : {M : Type 1} → statement M
-put-tail-spec =
-    tie.close
-    (tie.spec
-    put-requires
-    add-truelen
-    put-requires-2
-    add-result
-    same-length
-    returns)
+put-tail-spec = tie.close (tie.spec put-requires put-requires-2 same-length returns)

@@ -5,7 +5,7 @@ use Prim.Native.Nat.{_+_, _*_, _^_, _≤_, _<_}
 use native.Mathlib.Nat.{mul-le-mul-left}
 use native.Mathlib.Omega.{arith}
 use Rattle.phd.specs.Shapes.{hash-narrow}
-use Rattle.phd_rows.specs.Rows.{refs-of}
+use Rattle.table.specs.Rows.{refs-of}
 use Rattle.phd_form.specs.Form.{measure}
 use Rattle.phd_form.specs.declared.Measure.{Measure}
 use Rattle.phd.specs.Shapes.{width-le}

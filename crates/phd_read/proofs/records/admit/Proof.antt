@@ -3,7 +3,7 @@ use borrow.Author.Needs.{needs}
 use Prim.Native.Nat.{_+_, _*_, _≤_}
 use native.Mathlib.Omega.{arith}
 use lib.ListN.{length}
-use Rattle.phd.specs.Phd.{row-width}
+use Rattle.table.specs.Table.{row-width}
 use Rattle.phd_read.proofs.StepLaws.{stays-rows, stays-refs}
 use Rattle.phd_read.proofs.records.admit.Statement.{statement}
 use Rattle.phd_read.proofs.records.admit.Tie as tie

@@ -5,8 +5,11 @@ use Prim.Native.Nat.{ℕ, _-_}
 use native.Mathlib.Omega.{arith}
 use lib.ListN.{length}
 use Rattle.phd_read.specs.Stepping.{Halfway, Does, Went, Stayed}
-use Rattle.phd_read.proofs.LoopLaws.{begins, further, goes-on, answers, rows-end, refs-end}
-use Rattle.phd_read.specs.declared.records.How.the-variants.{Goes, Ends}
+use Rattle.phd.specs.Phd.{phd}
+use Rattle.reading.specs.Stepping.{begins, further, goes-on, rows-end, refs-end}
+use Rattle.phd_read.specs.Lawful.{lawful}
+use Rattle.phd_read.proofs.LoopLaws.{answers}
+use Rattle.reading.specs.declared.StepResult.the-variants.{Continue, End}
 use Rattle.phd_read.proofs.records.read_records.Statement.{statement}
 use Rattle.phd_read.proofs.records.read_records.Tie as tie
 
@@ -25,14 +28,14 @@ begin c = c .before .before .before .before .before .before .before .before
 
 -- what the step did
 module _ (c : tie.After-step Inv-loop μ-loop) where
-  went : c .step .result .how ≡ Goes → let l = turn c in let a = begin c .args in
+  went : c .step .result .how ≡ Continue → let l = turn c in let a = begin c .args in
       Went (a .facts) (a .s .now) (l .loop .cursor) (l .loop .rows) (l .loop .refs) (c .step .last .1 .1 .0) (c .step .last .1 .1 .1 .0) (c .step .result .cursor)
   went e =
       let l = turn c in
       let a = begin c .args in
       subst (Does (a .facts) (a .s .now) (l .loop .cursor) (l .loop .rows) (l .loop .refs) (c .step .last .1 .1 .0) (c .step .last .1 .1 .1 .0) (c .step .result .cursor)) e (c .step .ensures)
 
-  stayed : (reply place missing : ℕ) → c .step .result .how ≡ Ends reply place missing → let l = turn c in let a = begin c .args in
+  stayed : (reply place missing : ℕ) → c .step .result .how ≡ End reply place missing → let l = turn c in let a = begin c .args in
       Stayed (a .facts) (a .s .now) (l .loop .cursor) (l .loop .rows) (l .loop .refs) (c .step .last .1 .1 .0) (c .step .last .1 .1 .1 .0) (c .step .result .cursor) reply place missing
   stayed reply place missing e =
       let l = turn c in
@@ -45,7 +48,7 @@ new-requires c κs = search needs
 loop-holds : tie.Need-loop-holds Inv-loop μ-loop
 loop-holds c =
     let a = c .before .before .before .before .args in
-    rw (c .new .ensures) (begins (a .rows .now) (a .refs .now) (omega arith))
+    rw (c .new .ensures) (begins phd lawful (a .rows .now) (a .refs .now) (omega arith))
 
 step-requires : tie.Need-step-requires Inv-loop μ-loop
 step-requires c κs = (c .before .before .loop .inv .fits, c .before .before .before .before .before .before .before .pre .2)
@@ -57,14 +60,14 @@ loop-less : tie.Need-loop-less Inv-loop μ-loop
 loop-less c =
     let d = c .before .before .before .before .before .before .before in
     let g = went d (c .enum-told .given .1) in
-    let f = further (turn d .loop .inv) g in
+    let f = further phd lawful (turn d .loop .inv) g in
     let i = g .fits .at-in in
     omega arith
 
 loop-again : tie.Need-loop-again Inv-loop μ-loop
 loop-again c =
     let d = c .before .before .before .before .before .before .before in
-    goes-on (turn d .loop .inv) (begin d .pre .1) (went d (c .enum-told .given .1))
+    goes-on phd lawful (turn d .loop .inv) (begin d .pre .1) (went d (c .enum-told .given .1))
 
 enum-known-how : tie.Need-enum-known-how Inv-loop μ-loop
 enum-known-how c = search needs
@@ -85,7 +88,7 @@ returns : tie.Need-returns Inv-loop μ-loop
 returns c =
     let d = c .before .before .before .before .before .before .before .before in
     let g = stayed d _ _ _ (c .before .how .given .1) in
-    (answers (turn d .loop .inv) g, (rows-end (turn d .loop .inv) g, refs-end (turn d .loop .inv) g))
+    (answers (turn d .loop .inv) g, (rows-end phd lawful (turn d .loop .inv) g, refs-end phd lawful (turn d .loop .inv) g))
 
 pub read-records-spec : {M : Type 1} → statement M
 read-records-spec =

@@ -4,11 +4,11 @@ use Rattle.phd_read.proofs.StepLaws.{placed, narrow, judged-whole, goes
 use Rattle.phd_read.proofs.records.store.Statement.{statement}
 use Rattle.phd_read.proofs.records.store.Tie as tie
 
-mul-put-row : tie.Need-mul-put-row
-mul-put-row c = search needs
+mul-store-row : tie.Need-mul-store-row
+mul-store-row c = search needs
 
-put-row-requires : tie.Need-put-row-requires
-put-row-requires c κs = search needs
+store-row-requires : tie.Need-store-row-requires
+store-row-requires c κs = search needs
 
 highest-of-requires : tie.Need-highest-of-requires
 highest-of-requires c κs = search needs
@@ -30,15 +30,15 @@ same-length-2 c = search needs
 returns : tie.Need-returns
 returns c =
     let d = c .before .before .before .before .before .before .before .before .before .before .before .before .before .before .before .before in
-    rw (c .advance .ensures, c .before .before .before .before .before .before .before .before .before .put-row .ensures, c .before .before .before .put-refs .ensures, c .before .before .before .before .before .highest-of .ensures)
+    rw (c .advance .ensures, c .before .before .before .before .before .before .before .before .before .store-row .ensures, c .before .before .before .put-refs .ensures, c .before .before .before .before .before .highest-of .ensures)
     (goes (d .args .facts) (d .pre .0 .0) (d .pre .1 .0 .0) (d .pre .1 .0 .1) (d .pre .1 .1 .0) (d .pre .1 .1 .1))
 
 pub store-spec : {M : Type 1} → statement M
 store-spec =
     tie.close
     (tie.spec
-    mul-put-row
-    put-row-requires
+    mul-store-row
+    store-row-requires
     highest-of-requires
     put-refs-requires
     advance-requires

@@ -1,43 +1,76 @@
--- `put_preamble` meets its contract: the parts, one behind the other.
+-- `put_preamble` meets its contract: the parts, one after the other.
 use borrow.Author.Needs.{needs}
-use Rattle.phd_write.proofs.HeaderLaws.{preamble-stored}
+use mathlib.Core.Path.{_≡_, refl}
+use mathlib.Core.List.{List, [], _∷_}
+use Prim.Native.Nat.{ℕ}
+use Rattle.layout_put.specs.Put.{join, be}
+use Rattle.layout_put.specs.Puts.{Puts}
+use Rattle.layout_put.specs.Partly.{Partly, begin, fits, next, ends}
+use Rattle.phd.specs.Phd.{opening}
+use Rattle.phd_write.specs.Write.{put-preamble}
 use Rattle.phd_write.proofs.header.put_preamble.Statement.{statement}
 use Rattle.phd_write.proofs.header.put_preamble.Tie as tie
 
-put-requires : tie.Need-put-requires
-put-requires c κs = search needs
+abbrev parts : ℕ → List (List ℕ)
+parts flags = be 2 18 ∷ opening ∷ be 4 6 ∷ be 4 flags ∷ be 1 1 ∷ []
 
-put-opening-requires : tie.Need-put-opening-requires
-put-opening-requires c κs = search needs
+in-parts : (flags : ℕ) → put-preamble flags ≡ join (parts flags)
+unfolding put-preamble
+in-parts flags = refl
+
+-- what is left at the entry, and after each call
+abbrev none : tie.Start → Partly
+none c = begin (c .args .out .now) 0 (parts (c .args .flags)) (in-parts (c .args .flags)) (c .pre)
+
+abbrev len : tie.After-put → Partly
+len c = next (none (c .before .before .before)) (c .put .ensures)
+
+opened : (c : tie.After-put-all) → let p = len (c .before .before .before .before .before) in
+    Puts (p .out) (p .at) opening (c .put-all .last .0) (c .put-all .result)
+unfolding opening
+opened c = c .put-all .ensures
+
+abbrev text : tie.After-put-all → Partly
+text c = next (len (c .before .before .before .before .before)) (opened c)
+
+abbrev version : tie.After-put2 → Partly
+version c = next (text (c .before .before .before .before)) (c .put2 .ensures)
+
+abbrev bits : tie.After-put3 → Partly
+bits c = next (version (c .before .before .before .before)) (c .put3 .ensures)
+
+put-requires : tie.Need-put-requires
+put-requires c κs = fits (none (c .before .before))
+
+slice-aggregate-put-all : tie.Need-slice-aggregate-put-all
+slice-aggregate-put-all c = search needs
+
+put-all-requires : tie.Need-put-all-requires
+unfolding opening
+put-all-requires c κs = fits (len (c .before .before .before .before))
 
 put-requires-2 : tie.Need-put-requires-2
-put-requires-2 c κs = search needs
+put-requires-2 c κs = fits (text (c .before .before .before))
 
 put-requires-3 : tie.Need-put-requires-3
-put-requires-3 c κs = search needs
+put-requires-3 c κs = fits (version (c .before .before .before))
 
 put-requires-4 : tie.Need-put-requires-4
-put-requires-4 c κs = search needs
+put-requires-4 c κs = fits (bits (c .before .before .before))
 
 same-length : tie.Need-same-length
 same-length c = search needs
 
 returns : tie.Need-returns
-returns c =
-    let d = c .before .before .before .before in
-    let e = d .before .before .before .before in
-    let f = e .before .before .before .before in
-    let g = f .before .before .before .before in
-    let a = g .before .before .before .before .before .args in
-    preamble-stored (a .out .now) (a .flags) (g .before .before .put .ensures) (f .before .before .put-opening .ensures) (e .before .before .put2 .ensures)
-    (d .before .before .put3 .ensures) (c .before .before .put4 .ensures)
+returns c = let p = c .before .before in ends (next (bits (p .before .before .before .before)) (p .put4 .ensures)) refl
 
 pub put-preamble-spec : {M : Type 1} → statement M
 put-preamble-spec =
     tie.close
     (tie.spec
     put-requires
-    put-opening-requires
+    slice-aggregate-put-all
+    put-all-requires
     put-requires-2
     put-requires-3
     put-requires-4

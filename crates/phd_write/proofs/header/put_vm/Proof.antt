@@ -1,90 +1,61 @@
--- `put_vm` meets its contract: the tag, the length and the bytes of the VM string, one behind the other, or nothing.
+-- `put_vm` meets its contract: the tag, the length and the bytes of the VM string, one after the other, or nothing.
 use borrow.Author.Needs.{needs}
-use native.Mathlib.Omega.{arith}
-use mathlib.Core.Path.{_≡_}
-use native.Mathlib.Nat.{add-zero}
-use Prim.Native.Nat.{_+_, _^_, _≤_, _<_}
-use lib.ListN.{length}
+use mathlib.Core.Path.{_≡_, refl}
+use mathlib.Core.Bool.{true}
+use mathlib.Core.List.{List, [], _∷_}
+use Prim.Native.Nat.{ℕ}
+use Rattle.layout.specs.declared.Text.{Text}
+use Rattle.layout_put.specs.Put.{join, be}
+use Rattle.layout_put.specs.Puts.{puts-none}
+use Rattle.layout_put.specs.Partly.{Partly, begin, fits, next, ends}
+use Rattle.phd_rows.specs.Good.{vm-text}
 use Rattle.phd_write.specs.Write.{put-vm}
-use Rattle.phd_write.proofs.HeaderLaws.{vm-there, vm-stored}
 use Rattle.phd_write.proofs.header.put_vm.Statement.{statement}
 use Rattle.phd_write.proofs.header.put_vm.Tie as tie
 
--- the places before the puts, and after each
-abbrev start : tie.Then1 → tie.Start
-start c = c .before .before .before
+abbrev parts : List ℕ → Text → List (List ℕ)
+parts names t = be 1 4 ∷ be 2 (t .len) ∷ vm-text names t ∷ []
 
-abbrev first : tie.After-slice-known2 → tie.Then1
-first c = c .before .before .before .before
+in-parts : (names : List ℕ) (t : Text) → t .there ≡ true → put-vm names t ≡ join (parts names t)
+unfolding put-vm
+in-parts names t e = rw e
 
-abbrev second : tie.After-slice-known3 → tie.After-slice-known2
-second c = c .before .before .before .before
+-- what is left where there is a string, and after each call
+abbrev none : tie.Then1 → Partly
+none c =
+    let s = c .before .before .before in
+    let a = s .args in
+    begin (a .out .now) (a .at) (parts (a .names .now) (a .vm)) (in-parts (a .names .now) (a .vm) (c .if1 .taken)) (s .pre .1)
 
-abbrev third : tie.After-slice-known4 → tie.After-slice-known3
-third c = c .before .before .before .before
+abbrev tag : tie.After-put → Partly
+tag c = next (none (c .before .before)) (c .put .ensures)
 
-size : (c : tie.Then1) → length (put-vm (start c .args .names .now) (start c .args .vm)) ≡ 3 + start c .args .vm .len
-size c = vm-there _ (start c .args .vm) (start c .pre .0) (c .if1 .taken)
-
-room : (c : tie.Then1) → start c .args .at + (3 + start c .args .vm .len) ≤ length (start c .args .out .now)
-room c = rw (size c) at (start c .pre .1)
-
--- its length is below 2^63
-fits : (c : tie.Start) → length (c .args .out .now) < 2 ^ 63
-fits c = search needs
+abbrev len : tie.After-put2 → Partly
+len c = next (tag (c .before .before .before .before)) (c .put2 .ensures)
 
 put-requires : tie.Need-put-requires
-put-requires c κs = let r = room (c .before) in omega arith
-
-add-put : tie.Need-add-put
-add-put c = search needs
+put-requires c κs = fits (none (c .before))
 
 put-requires-2 : tie.Need-put-requires-2
-put-requires-2 c κs = let r = room (first (c .before)) in omega arith
-
-add-put-bytes : tie.Need-add-put-bytes
-add-put-bytes c = search needs
+put-requires-2 c κs = fits (tag (c .before .before .before))
 
 put-bytes-requires : tie.Need-put-bytes-requires
 put-bytes-requires c κs =
-    let d = first (second (c .before)) in
-    let r = room d in
-    (start d .pre .0 .inside (d .if1 .taken), omega arith)
-
-add-result : tie.Need-add-result
-add-result c = search needs
-
-add-result-2 : tie.Need-add-result-2
-add-result-2 c = let d = first (second (third c)) in let r = room d in let f = fits (start d) in omega arith
+    let p = c .before .before .before in
+    let t = p .before .before .before .before .before .before in
+    (t .before .before .before .pre .0 .inside (t .if1 .taken), fits (len p))
 
 same-length : tie.Need-same-length
 same-length c = search needs
 
 returns : tie.Need-returns
-returns c =
-    let e = second (third c) in
-    let d = first e in
-    let a = start d .args in (
-      rw (size d) (omega arith),
-      vm-stored (a .names .now) (a .vm) (a .out .now) (a .at) (d .if1 .taken)
-          (e .before .before .put .ensures) (third c .before .before .put2 .ensures) (c .before .before .put-bytes .ensures),
-    )
+returns c = let p = c .before .before in ends (next (len (p .before .before .before .before)) (p .put-bytes .ensures)) refl
 
 returns-2 : tie.Need-returns-2
 unfolding put-vm
-returns-2 c = (rw (c .if1 .left, add-zero), rw (c .if1 .left))
+returns-2 c = rw (c .if1 .left) (puts-none _ _)
 
 pub put-vm-spec : {M : Type 1} → statement M
 put-vm-spec =
     tie.close
-    (tie.spec
-    put-requires
-    add-put
-    put-requires-2
-    add-put-bytes
-    put-bytes-requires
-    add-result
-    add-result-2
-    same-length
-    returns
-    returns-2)
+    (tie.spec put-requires put-requires-2 put-bytes-requires same-length returns returns-2)

@@ -1,13 +1,12 @@
 -- `put` meets its contract: putting the rows that are left, from here, is putting all of them.
 use borrow.Author.Needs.{needs}
-use mathlib.Core.Path.{_∙_}
 use Prim.Native.Nat.{_-_, _≤_, _<_}
 use native.Mathlib.Omega.{arith}
 use Rattle.phd.specs.Shapes.{Word}
-use Rattle.phd.specs.Table.{row-count}
-use Rattle.phd_rows.specs.Kept.{word-of, few-rows}
+use Rattle.table.specs.Table.{row-count}
+use Rattle.phd_rows.specs.Kept.{word-of, few-whole}
 use Rattle.phd_write.specs.Turns.{Next, next}
-use Rattle.phd_write.specs.Loops.{Putting, putting-begins, putting-ends, row-lent, row-named, row-bound, putting-on, putting-fits}
+use Rattle.phd_write.specs.Loops.{Putting, putting-begins, putting-end-room, putting-ends, row-lent, row-named, row-bound, putting-on, putting-fits}
 use Rattle.phd_write.proofs.rows.put.Statement.{statement}
 use Rattle.phd_write.proofs.rows.put.Tie as tie
 
@@ -65,7 +64,7 @@ after-requires : tie.Need-after-requires Inv-loop μ-loop
 after-requires c κs = search needs
 
 add-i : tie.Need-add-i Inv-loop μ-loop
-add-i c = let d = c .before .before .before .before .before .before .before in let l = inside d in let f = few-rows _ _ _ _ (begin d .pre .0) in omega arith
+add-i c = let d = c .before .before .before .before .before .before .before in let l = inside d in let f = few-whole _ _ _ _ (begin d .pre .0) in omega arith
 
 loop-less : tie.Need-loop-less Inv-loop μ-loop
 loop-less c = search needs
@@ -75,16 +74,16 @@ loop-again c =
     let d = c .before .before .before .before .before .before .before in
     let p = c .before .before .before .put-record .ensures in
     putting-on _ _ _ _ _ _ _ _ (coming d) _ (c .before .before .before .before .before .before .row-at .ensures) _ (c .before .before .before .before .before .plan-row .ensures) _ _ _ _ (turn d .loop .inv) (word (begin d)) (inside d)
-    _ _ _ (p .0) (p .1) (c .after .ensures)
+    _ _ _ p (c .after .ensures)
 
 put-requires : tie.Need-put-requires Inv-loop μ-loop
-put-requires c κs = putting-ends _ _ _ _ _ _ _ _ _ _ _ (c .before .before .loop .inv) (over (c .before)) .0
+put-requires c κs = putting-end-room _ _ _ _ _ _ _ _ _ _ _ (c .before .before .loop .inv) (over (c .before))
 
 same-length : tie.Need-same-length Inv-loop μ-loop
-same-length c = let l = c .before .before .before .before .before .loop .inv .long in omega arith
+same-length c = let l = c .before .before .before .before .before .loop .inv .rest .long in omega arith
 
 returns : tie.Need-returns Inv-loop μ-loop
-returns c = c .before .before .put .ensures ∙ putting-ends _ _ _ _ _ _ _ _ _ _ _ (c .before .before .before .before .before .loop .inv) (over (c .before .before .before .before)) .1
+returns c = putting-ends _ _ _ _ _ _ _ _ _ _ _ (c .before .before .before .before .before .loop .inv) (over (c .before .before .before .before)) _ _ (c .before .before .put .ensures)
 
 pub put-spec : {M : Type 1} → statement M
 put-spec =

@@ -3,10 +3,10 @@ use borrow.Author.Needs.{needs}
 use Prim.Native.Nat.{_-_, _<_}
 use native.Mathlib.Omega.{arith}
 use Rattle.phd.specs.Shapes.{Word}
-use Rattle.phd.specs.Table.{row-count}
-use Rattle.phd_rows.specs.Rows.{row-at}
-use Rattle.phd_put.specs.Formed.{wide}
-use Rattle.phd_rows.specs.Kept.{word-of, few-rows, few-refs}
+use Rattle.table.specs.Rows.{row-at}
+use Rattle.table.specs.Table.{row-count}
+use Rattle.phd_put.specs.Bounds.{wide}
+use Rattle.phd_rows.specs.Kept.{word-of, few-whole, few-refs}
 use Rattle.phd_write.specs.Turns.{Next, next}
 use Rattle.phd_write.specs.Loops.{Sizing, sizing-begins, sizing-ends, row-lent, row-bound, row-short, sizing-small, sizing-on}
 use Rattle.phd_write.proofs.rows.size.Statement.{statement}
@@ -58,14 +58,14 @@ add-total : tie.Need-add-total Inv-loop μ-loop
 add-total c =
     let d = c .before .before .before .before in
     let g = begin d .pre .0 in
-    let z = sizing-small _ _ _ _ _ _ _ _ (coming d) _ (c .before .before .before .row-at .ensures) _ (c .before .record .ensures) _ _ (turn d .loop .inv) (inside d) (few-rows _ _ _ _ g) (few-refs _ _ _ _ g) in
+    let z = sizing-small _ _ _ _ _ _ _ _ (coming d) _ (c .before .before .before .row-at .ensures) _ (c .before .record .ensures) _ _ (turn d .loop .inv) (inside d) (few-whole _ _ _ _ g) (few-refs _ _ _ _ g) in
     omega arith
 
 after-requires : tie.Need-after-requires Inv-loop μ-loop
 after-requires c κs = search needs
 
 add-i : tie.Need-add-i Inv-loop μ-loop
-add-i c = let d = c .before .before .before .before .before in let l = inside d in let f = few-rows _ _ _ _ (begin d .pre .0) in omega arith
+add-i c = let d = c .before .before .before .before .before in let l = inside d in let f = few-whole _ _ _ _ (begin d .pre .0) in omega arith
 
 loop-less : tie.Need-loop-less Inv-loop μ-loop
 loop-less c = search needs
@@ -81,7 +81,7 @@ add-result c =
     let z = c .before .loop .inv in
     let g = c .before .before .before .before .before .before .pre .0 in
     let a = z .halfway .at-most in
-    let b = few-rows _ _ _ _ g in
+    let b = few-whole _ _ _ _ g in
     let d = few-refs _ _ _ _ g in
     let e = z .few in
     let f = z .small in

@@ -1,0 +1,22 @@
+-- In reading order: Terms (what the promises speak of) and Promises (the round trip, and the cuts of a written dump).
+-- The rest is for proofs. Of one record: Fit (what a record must be to be read as it was), Fields (its parts are read back), Entry (it
+-- is read back whole), Forms (a good record in its form is fit, by Formed, Objects and Arrays) and Back (so a good record is read
+-- back). Of a dump: Within (the bytes of records, and which lie within a cut), HeaderBack (the header read back), Handed (record
+-- after record, of any cut), Same (the rows read are the records written), Whole (a whole dump and its cuts) and Good (what was
+-- written is a good dump).
+pub mod Terms
+pub mod Promises
+pub mod Fit
+pub mod Fields
+pub mod Entry
+pub mod Formed
+pub mod Objects
+pub mod Arrays
+pub mod Forms
+pub mod Back
+pub mod Within
+pub mod HeaderBack
+pub mod Handed
+pub mod Same
+pub mod Whole
+pub mod Good

@@ -1,0 +1,32 @@
+-- A row lies within its table, its numbers are those of the table, and they are stored one after another.
+-- Assumes nothing.
+use mathlib.Core.Path.{_≡_, ap, _∙_}
+use mathlib.Core.List.{List}
+use Prim.Native.Nat.{ℕ, suc, _+_, _-_, _*_, _≤_, _<_}
+use native.Mathlib.Omega.{arith}
+use lib.ListN.{length, getD, take, drop, set}
+use lib.Seq.{sets, getD-take, getD-drop, drop-cons}
+use lib.Dec.{T, ltb, lit<}
+use Rattle.table.specs.Table.{row-width, row-count}
+
+-- a row lies within the table
+pub row-room : (rows : List ℕ) (i : ℕ) → i < row-count rows → i * row-width + row-width ≤ length rows
+unfolding row-count
+row-room rows i h = omega arith
+
+-- the numbers of a part of the table that is a row
+pub number-at : (rows : List ℕ) (at k : ℕ) → T (ltb k row-width) → getD (take (at + row-width - at) (drop at rows)) k 0 ≡ getD rows (at + k) 0
+number-at rows at k t =
+    let l : k < at + row-width - at = omega (arith, lit< {m = k} {n = row-width} t) in
+    rw (getD-take, getD-drop)
+
+-- the next of a row's numbers
+pub store-next : (table row : List ℕ) (at i : ℕ) → i < length row
+    → sets table (at + i) (drop i row) ≡ sets (set table (at + i) (getD row i 0)) (at + (i + 1)) (drop (i + 1) row)
+store-next table row at i h =
+    let e : suc (at + i) ≡ at + (i + 1) = omega arith in
+    let f : suc i ≡ i + 1 = omega arith in
+    let x : ℕ = getD row i 0 in
+    ap (sets table (at + i)) (drop-cons row i 0 h)
+    ∙ ap (λ (k : ℕ). sets (set table (at + i) x) k (drop (suc i) row)) e
+    ∙ ap (λ (k : ℕ). sets (set table (at + i) x) (at + (i + 1)) (drop k row)) f

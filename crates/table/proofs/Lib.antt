@@ -1,0 +1,2 @@
+-- Laws of a row within its table.
+pub mod Laws

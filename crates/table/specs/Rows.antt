@@ -1,0 +1,221 @@
+-- The rows of a table, each by its numbers, and the records that they are: 01's "The tables".
+-- A reader must believe `row-at` and `rows-of`, and that two records are the same, in 01's sense, exactly when their `Rec` are equal.
+use mathlib.Core.Path.{_≡_, refl, sym, ap, _∙_}
+use Prim.Native.Nat.{ℕ, zero, suc, _+_, _-_, _≤_, _<_}
+use native.Mathlib.Nat.{zero-add, add-zero, sub-zero}
+use native.Mathlib.Numerals.{add-one}
+use native.Mathlib.Omega.{arith}
+use mathlib.Core.Bool.{Bool}
+use mathlib.Core.List.{List, [], _∷_, _++_}
+use lib.Dec.{eqb}
+use lib.ListN.{length, getD, take, drop, length-append}
+use lib.Seq.{getD-drop, take-all}
+use Rattle.table.specs.Table.{row-width, offset-number, row-count, number, number-after}
+use Rattle.table.specs.declared.Row.{Row}
+
+-- ---- a row
+
+-- the row number i, from 0
+unfoldable pub row-at : List ℕ → ℕ → Row
+row-at rows i =
+    let n : ℕ → ℕ = number rows i in
+    record {
+      kind = n 0;
+      address = n 1;
+      word = n 2;
+      hashkind = n 3;
+      hash = n 4;
+      first = n 5;
+      count = n 6;
+      size = n 7;
+      len = n 8;
+      place = n 9;
+      namelen = n 10;
+      prim = n 11;
+    }
+
+-- a row whose numbers are all 0
+abbrev pub no-row : Row
+no-row = record {
+  kind = 0;
+  address = 0;
+  word = 0;
+  hashkind = 0;
+  hash = 0;
+  first = 0;
+  count = 0;
+  size = 0;
+  len = 0;
+  place = 0;
+  namelen = 0;
+  prim = 0;
+}
+
+-- whether a row is of a kind: 1 class, 2 object, 3 object array, 4 primitive array
+abbrev pub of-kind : ℕ → Row → Bool
+of-kind k r = eqb (r .kind) k
+
+-- a row's references, out of the second table; its name, out of the dump or of the name bytes passed in
+unfoldable pub refs-of : List ℕ → Row → List ℕ
+refs-of refs r = take (r .count) (drop (r .first) refs)
+
+unfoldable pub name-of : List ℕ → Row → List ℕ
+name-of names r = take (r .namelen) (drop (r .place) names)
+
+-- ---- the rows of a table, as a list
+
+-- n rows from number i on
+unfoldable pub rows-from : List ℕ → ℕ → ℕ → List Row
+rows-from table i zero = []
+rows-from table i (suc n) = row-at table i ∷ rows-from table (suc i) n
+
+-- every whole row
+unfoldable pub rows-of : List ℕ → List Row
+rows-of table = rows-from table 0 (row-count table)
+
+-- the row number i of a list
+abbrev pub nth : List Row → ℕ → Row
+nth rows i = getD rows i no-row
+
+-- every row of a list satisfies P
+abbrev pub All : (Row → Type 0) → List Row → Type 0
+All P [] = Unit {0}
+All P (r ∷ rows) = P r × All P rows
+
+-- ---- the records
+
+-- a row without its name's place
+unfoldable pub bare : Row → Row
+bare r = record {
+  kind = r .kind;
+  address = r .address;
+  word = r .word;
+  hashkind = r .hashkind;
+  hash = r .hash;
+  first = r .first;
+  count = r .count;
+  size = r .size;
+  len = r .len;
+  place = 0;
+  namelen = r .namelen;
+  prim = r .prim;
+}
+
+-- A record: all numbers of its row but the name's place and the offset, its references as a list, and its name as bytes.
+pub record Rec : Type 0 where
+  pub row : Row
+  pub refs : List ℕ
+  pub name : List ℕ
+
+unfoldable pub rec-of : List ℕ → List ℕ → Row → Rec
+rec-of names refs r = record { row = bare r; refs = refs-of refs r; name = name-of names r }
+
+-- the records of rows
+unfoldable pub recs : List ℕ → List ℕ → List Row → List Rec
+recs names refs [] = []
+recs names refs (r ∷ rows) = rec-of names refs r ∷ recs names refs rows
+
+-- those of the first n rows of a table
+abbrev pub first-recs : ℕ → (names refs table : List ℕ) → List Rec
+first-recs n names refs table = recs names refs (take n (rows-of table))
+
+-- the numbers of a record's row, its name being at a place and the record itself at an offset
+unfoldable pub numbers : ℕ → ℕ → Rec → List ℕ
+numbers place offset r =
+    let n = r .row in
+    n .kind ∷ n .address ∷ n .word ∷ n .hashkind ∷ n .hash ∷ n .first ∷ n .count ∷ n .size ∷ n .len ∷ place ∷ n .namelen ∷ n .prim
+    ∷ offset ∷ []
+
+-- ---- laws of a row
+
+-- a row is what its numbers are, whatever its offset
+pub row-by : (rows rows′ : List ℕ) (i i′ : ℕ) → ((k : ℕ) → k < row-width → (k ≡ offset-number → ⊥) → number rows i k ≡ number rows′ i′ k) → row-at rows i ≡ row-at rows′ i′
+unfolding row-at
+row-by rows rows′ i i′ e =
+    let n : (k : ℕ) → k < offset-number → number rows i k ≡ number rows′ i′ k = λ k b. e k (omega arith) (λ z. omega arith) in
+    λ j. record {
+      kind = n 0 (omega arith) j;
+      address = n 1 (omega arith) j;
+      word = n 2 (omega arith) j;
+      hashkind = n 3 (omega arith) j;
+      hash = n 4 (omega arith) j;
+      first = n 5 (omega arith) j;
+      count = n 6 (omega arith) j;
+      size = n 7 (omega arith) j;
+      len = n 8 (omega arith) j;
+      place = n 9 (omega arith) j;
+      namelen = n 10 (omega arith) j;
+      prim = n 11 (omega arith) j;
+    }
+
+-- ---- laws of the list: how a loop over a table goes through it
+
+length-from : (table : List ℕ) (n i : ℕ) → length (rows-from table i n) ≡ n
+unfolding rows-from
+length-from table zero i = refl
+length-from table (suc n) i = ap suc (length-from table n (suc i))
+
+pub length-rows : (table : List ℕ) → length (rows-of table) ≡ row-count table
+unfolding rows-of
+length-rows table = length-from table (row-count table) 0
+
+-- the rows from number i on
+abbrev pub rows-left : List ℕ → ℕ → List Row
+rows-left table i = drop i (rows-of table)
+
+drop-from : (table : List ℕ) (n i k : ℕ) → drop i (rows-from table k n) ≡ rows-from table (k + i) (n - i)
+unfolding rows-from
+drop-from table n zero k = rw (add-zero, sub-zero)
+drop-from table zero (suc i) k = let e : 0 - suc i ≡ 0 = omega arith in rw e
+drop-from table (suc n) (suc i) k =
+    let e : k + suc i ≡ suc k + i = omega arith in
+    let f : suc n - suc i ≡ n - i = omega arith in
+    rw (e, f) (drop-from table n i (suc k))
+
+left-from : (table : List ℕ) (i : ℕ) → rows-left table i ≡ rows-from table i (row-count table - i)
+unfolding rows-of
+left-from table i = rw zero-add at (drop-from table (row-count table) i 0)
+
+module _ (table : List ℕ) (i : ℕ) where
+  -- one more row, and those after it
+  pub left-next : i < row-count table → rows-left table i ≡ row-at table i ∷ rows-left table (i + 1)
+  unfolding rows-from
+  left-next l =
+      let e : row-count table - i ≡ suc (row-count table - (i + 1)) = omega arith in
+      rw (left-from table i, left-from table (i + 1), e, add-one)
+
+  -- none is left
+  pub left-none : row-count table ≤ i → rows-left table i ≡ []
+  unfolding rows-from
+  left-none l = let e : row-count table - i ≡ 0 = omega arith in rw (left-from table i, e)
+
+  -- the row number i of the list
+  pub nth-row : i < row-count table → nth (rows-of table) i ≡ row-at table i
+  nth-row l = rw add-zero at (sym (getD-drop i (rows-of table) 0 no-row)) ∙ rw (left-next l)
+
+-- what holds of every row holds of each by its number
+module _ (P : Row → Type 0) where
+  pub all-nth : (rows : List Row) (i : ℕ) → All P rows → i < length rows → P (nth rows i)
+  all-nth [] i a l = absurd (omega arith)
+  all-nth (r ∷ rows) zero a l = a .0
+  all-nth (r ∷ rows) (suc i) a l = all-nth rows i (a .1) (omega arith)
+
+  pub all-at : (table : List ℕ) (i : ℕ) → All P (rows-of table) → i < row-count table → P (row-at table i)
+  all-at table i a l = let m : i < length (rows-of table) = rw (length-rows table) l in rw (nth-row table i l) at (all-nth (rows-of table) i a m)
+
+-- rows after a first one
+module _ (row table : List ℕ) (l : length row ≡ row-width) where
+  from-after : (n i : ℕ) → rows-from (row ++ table) (suc i) n ≡ rows-from table i n
+  unfolding rows-from
+  from-after zero i = refl
+  from-after (suc n) i = rw (row-by (row ++ table) table (suc i) i (λ k _ _. number-after row table l i k), from-after n (suc i))
+
+  pub rows-after : rows-of (row ++ table) ≡ row-at (row ++ table) 0 ∷ rows-of table
+  unfolding rows-of rows-from row-count
+  rows-after =
+      let c : row-count (row ++ table) ≡ suc (row-count table) = simp length-append (omega arith) in
+      rw (c, from-after (row-count table) 0)
+
+-- the records of as many rows as a table has are those of all its rows
+pub all-recs : (names refs table : List ℕ) → first-recs (row-count table) names refs table ≡ recs names refs (rows-of table)
+all-recs names refs table = rw (take-all (row-count table) (rows-of table) (omega (arith, length-rows table)))
