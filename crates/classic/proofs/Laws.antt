@@ -11,7 +11,7 @@ use lib.ListN.{length, getD}
 use borrow.Author.Tests.{eqb-true, eqb-false}
 use Rattle.layout.specs.Numbers.{both}
 use Rattle.layout.specs.Values.{both-left, both-right}
-use Rattle.layout.proofs.Laws.{part-cons}
+use Rattle.layout.specs.Parts.{part-cons}
 use Rattle.phd.specs.Phd.{same}
 use Rattle.table.specs.Rows.{name-of}
 use Rattle.phd_rows.specs.Good.{every}

@@ -1,19 +1,19 @@
 -- Laws of digits, two's complement and exact sums, as the functions compute them.
 use mathlib.Core.Path.{_≡_, refl, sym, ap, _∙_}
 use mathlib.Core.Bool.{true, false}
-use mathlib.Core.List.{List, _∷_}
+use mathlib.Core.List.{List}
 use Prim.Native.Nat.{ℕ, zero, suc, _+_, _-_, _*_, _^_, _≤_, _<_}
 use native.Mathlib.Nat.{pow-suc, pow-le-pow-right, mul-suc, two-pow-succ, zero-add}
 use native.Mathlib.Numerals.{add-one}
 use native.Mathlib.Omega.{arith}
 use lib.ListN.{length, take, drop, getD}
-use lib.Seq.{drop-cons}
 use lib.Arith.{digits-lt}
 use lib.Pow.{pow-add}
 use lib.Dec.{leb, ltb}
 use lib.IntN.{ℤ, pos, negsuc, _-ℤ_}
 use lib.Signed.{ltZ}
 use borrow.Author.Tests.{lt-ltb, le-ltb, ltb-true, le-leb, lt-leb}
+use Rattle.layout.specs.Parts.{part-next}
 use Rattle.layout.specs.Numbers.{pick, both, value-after, signed, step, moved, in-range, counted, within}
 use Rattle.layout.specs.declared.Step.the-variants.{Up, Down}
 use Rattle.layout.specs.declared.Maybe.the-variants.{Just, Nothing}
@@ -35,19 +35,11 @@ seven i h k = omega (arith, pow-le-pow-right {n = 256} (omega arith) {i = i} {j 
 pub word : (n : ℕ) → n ≤ 8 → 256 ^ n ≤ 2 ^ 64
 word n h = pow-le-pow-right {n = 256} (omega arith) {i = n} {j = 8} h
 
--- the first of the elements at a place, and those after it
-pub part-cons : (s : List ℕ) (k m : ℕ) → k < length s → take (suc m) (drop k s) ≡ getD s k 0 ∷ take m (drop (suc k) s)
-part-cons s k m h = rw (drop-cons s k 0)
-
 -- a byte read
 pub byte-read : (s : List ℕ) (at n i v : ℕ) → i < n → at + n ≤ length s
     → value-after v (take (n - i) (drop (at + i) s)) ≡ value-after (v * 256 + getD s (at + i) 0) (take (n - (i + 1)) (drop (at + (i + 1)) s))
 unfolding value-after
-byte-read s at n i v h room =
-    let e : n - i ≡ suc (n - (i + 1)) = omega arith in
-    let f : suc (at + i) ≡ at + (i + 1) = omega arith in
-    let g : at + i < length s = omega arith in
-    rw (e, part-cons s (at + i) (n - (i + 1)) g, f)
+byte-read s at n i v h room = rw (part-next s at n i h room)
 
 -- ---- two's complement
 
@@ -122,11 +114,7 @@ module _ (s : List ℕ) (at n i low high : ℕ) (h : i < n) (room : at + n ≤ l
   within-step : within low high (take (n - i) (drop (at + i) s))
       ≡ both (both (leb low (getD s (at + i) 0)) (leb (getD s (at + i) 0) high)) (within low high (take (n - (i + 1)) (drop (at + (i + 1)) s)))
   unfolding within
-  within-step =
-      let e : n - i ≡ suc (n - (i + 1)) = omega arith in
-      let f : suc (at + i) ≡ at + (i + 1) = omega arith in
-      let g : at + i < length s = omega arith in
-      rw (e, part-cons s (at + i) (n - (i + 1)) g, f)
+  within-step = rw (part-next s at n i h room)
 
   pub below-low : getD s (at + i) 0 < low → within low high (take (n - i) (drop (at + i) s)) ≡ false
   below-low l = rw (within-step, lt-leb _ _ l)

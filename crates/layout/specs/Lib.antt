@@ -1,5 +1,5 @@
 -- Numbers (bytes, two's complement, exact sums), Layout (the language in which records are laid out, and its laws), Fields (the
--- kinds of field that dumps are made of) and Parts (the length of a part of a list). Then what holds of every layout: Cuts (more
+-- kinds of field that dumps are made of) and Parts (the length of a part of a list, and its next element). Then what holds of every layout: Cuts (more
 -- bytes, fewer bytes) and Values (what is given, what is refused).
 pub mod Numbers
 pub mod Layout

@@ -1,4 +1,4 @@
--- Laws of storing bytes from the last to the first, of the least widths, and of the next of a table's numbers.
+-- Laws of storing digits from the last to the first, of the least widths, and of the next of a table's numbers.
 use mathlib.Core.Path.{_≡_, refl, ap, _∙_}
 use mathlib.Core.Bool.{Bool, true, false}
 use mathlib.Core.List.{List, [], _∷_, _++_}
@@ -12,7 +12,7 @@ use lib.Seq.{sets, set-comm}
 use lib.IntN.{pos, negsuc}
 use borrow.Author.Tests.{le-leb, lt-leb, le-ltb, lt-ltb}
 use Rattle.layout.specs.Numbers.{pick}
-use Rattle.layout.proofs.Laws.{part-cons}
+use Rattle.layout.specs.Parts.{part-next}
 use Rattle.layout_put.specs.Put.{be, gap, code, fits, widest, most, links, complement}
 use Rattle.layout_put.specs.Bytes.{length-be}
 
@@ -24,14 +24,24 @@ sets-snoc (a ∷ vs) l i x =
     let d : i ≡ suc i + length vs → ⊥ = λ h. omega arith in
     rw e (sets-snoc vs (set l i a) (suc i) x ∙ ap (λ (m : List ℕ). sets m (suc i) vs) (set-comm l i (suc i + length vs) a x d))
 
--- a byte of a number put
+-- The digits of a number in the base b, k of them, each written by `glyph`: the last may go first, and then the others, which are
+-- those of the number's quotient.
+pub digit-step : (digits : ℕ → ℕ → List ℕ) (b : ℕ) (glyph : ℕ → ℕ)
+    → ((k n : ℕ) → length (digits k n) ≡ k)
+    → ((k n : ℕ) → digits (suc k) n ≡ digits k (n / b) ++ (glyph (n % b) ∷ []))
+    → (out : List ℕ) (at k n : ℕ) → 0 < k
+    → sets out at (digits k n) ≡ sets (set out (at + (k - 1)) (glyph (n % b))) at (digits (k - 1) (n / b))
+digit-step digits b glyph long last out at k n h =
+    let e : k ≡ suc (k - 1) = omega arith in
+    ap (λ (j : ℕ). sets out at (digits j n)) e
+    ∙ ap (sets out at) (last (k - 1) n)
+    ∙ sets-snoc (digits (k - 1) (n / b)) out at (glyph (n % b))
+    ∙ ap (λ (j : ℕ). sets (set out (at + j) (glyph (n % b))) at (digits (k - 1) (n / b))) (long (k - 1) (n / b))
+
+-- a byte of a number written
 pub put-step : (out : List ℕ) (at k v : ℕ) → 0 < k → sets out at (be k v) ≡ sets (set out (at + (k - 1)) (v % 256)) at (be (k - 1) (v / 256))
 unfolding be
-put-step out at k v h =
-    let e : k ≡ suc (k - 1) = omega arith in
-    ap (λ (x : ℕ). sets out at (be x v)) e
-    ∙ sets-snoc (be (k - 1) (v / 256)) out at (v % 256)
-    ∙ ap (λ (x : ℕ). sets (set out (at + x) (v % 256)) at (be (k - 1) (v / 256))) (length-be (k - 1) (v / 256))
+put-step = digit-step be 256 (λ d. d) length-be (λ k n. refl)
 
 -- ---- the least width code
 
@@ -102,13 +112,6 @@ code-most a b = elim (decLe a b) [
 -- ---- the next of the numbers from a place on
 
 module _ (l : List ℕ) (at n i : ℕ) (h : i < n) (room : at + n ≤ length l) where
-  pub next : take (n - i) (drop (at + i) l) ≡ getD l (at + i) 0 ∷ take (n - (i + 1)) (drop (at + (i + 1)) l)
-  next =
-      let e : n - i ≡ suc (n - (i + 1)) = omega arith in
-      let f : suc (at + i) ≡ at + (i + 1) = omega arith in
-      let g : at + i < length l = omega arith in
-      rw (e, part-cons l (at + i) (n - (i + 1)) g, f)
-
   -- its width, by its distance
   pub widest-next : (m a d : ℕ) → gap a (getD l (at + i) 0) ≡ pick (leb a (getD l (at + i) 0)) (pos d) (negsuc d)
       → widest (code (pos m)) a (take (n - i) (drop (at + i) l))
@@ -116,10 +119,10 @@ module _ (l : List ℕ) (at n i : ℕ) (h : i < n) (room : at + n ≤ length l) 
   unfolding widest
   widest-next m a d e =
       let c = ap (most (code (pos m))) (code-gap a (getD l (at + i) 0) d e) ∙ code-most m d in
-      rw next (ap (λ (k : ℕ). widest k a (take (n - (i + 1)) (drop (at + (i + 1)) l))) c)
+      rw (part-next l at n i h room) (ap (λ (k : ℕ). widest k a (take (n - (i + 1)) (drop (at + (i + 1)) l))) c)
 
   -- as a reference
   pub links-next : (w a : ℕ) → links w a (take (n - i) (drop (at + i) l))
       ≡ be w (complement (gap a (getD l (at + i) 0))) ++ links w a (take (n - (i + 1)) (drop (at + (i + 1)) l))
   unfolding links
-  links-next w a = rw next
+  links-next w a = rw (part-next l at n i h room)

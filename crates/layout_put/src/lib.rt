@@ -83,8 +83,8 @@ fn put4(out: &mut [u8], at: usize, value: u64) -> usize
     put2(out, low, value)
 }
 
-// Writes the lowest n bytes of a number, the highest first. Fields of 1, 2, 4 and 8 bytes are written at once.
-pub fn put(out: &mut [u8], at: usize, n: usize, value: u64) -> usize
+// Writes the lowest n bytes of a number, by the width: fields of 1, 2, 4 and 8 bytes at once.
+fn put_width(out: &mut [u8], at: usize, n: usize, value: u64) -> usize
     requires { ⌜ Room (now out) at (be n value) ⌝ }
     ensures { λ r. ⌜ Puts (now (out .entry)) at (be n value) (now (out .exit)) r ⌝ }
 {
@@ -105,6 +105,16 @@ pub fn put(out: &mut [u8], at: usize, n: usize, value: u64) -> usize
         return put4(out, low, value);
     }
     put_each(out, at, n, value)
+}
+
+// Writes the lowest n bytes of a number, the highest first. The next offset depends on no branch, so that a mispredicted width
+// does not delay it.
+pub fn put(out: &mut [u8], at: usize, n: usize, value: u64) -> usize
+    requires { ⌜ Room (now out) at (be n value) ⌝ }
+    ensures { λ r. ⌜ Puts (now (out .entry)) at (be n value) (now (out .exit)) r ⌝ }
+{
+    put_width(out, at, n, value);
+    at + n
 }
 
 // How far it is from one address to another, in fours: n for a gap of n, and for one of -1 - n.

@@ -9,7 +9,7 @@ use lib.ListN.{length, take, drop, getD}
 use lib.Dec.{leb, ltb}
 use borrow.Author.Tests.{lt-ltb, le-ltb, le-leb, lt-leb}
 use Rattle.layout.specs.Numbers.{both, value-after, value}
-use Rattle.layout.proofs.Laws.{part-cons}
+use Rattle.layout.specs.Parts.{part-cons}
 use Rattle.layout_quick.specs.Quick.{far, clear, target}
 
 -- ---- bytes

@@ -267,7 +267,7 @@ pub record Before : Type 0 where
 abbrev pub carried : ℕ → Cache → Before
 carried a c = record { address = a; cache = c }
 
--- What comes next: the end tag, or a record with its row, its references, where they stand, and its address and the cache after it.
+-- What comes next: the end tag, or a record with its row, its references, where they are, and its address and the cache after it.
 abbrev pub Item : Type 0
 Item = Reading.Item Span Before
 
@@ -324,7 +324,7 @@ phd = record {
   entry = λ h k. entry h (k .address) (k .cache);
 }
 
--- What stands between records, what a reading gives, and what a record does.
+-- The state between records, what a reading gives, and what a record does.
 abbrev pub State : Type 0
 State = Reading.State phd
 

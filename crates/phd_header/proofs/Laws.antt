@@ -9,7 +9,7 @@ use lib.Seq.{drop-cons}
 use lib.Dec.{eqb}
 use borrow.Author.Tests.{eq-eqb, ne-eqb}
 use Rattle.layout.specs.Numbers.{both}
-use Rattle.layout.proofs.Laws.{part-cons}
+use Rattle.layout.specs.Parts.{part-next}
 use Rattle.phd.specs.Phd.{same}
 
 -- the n bytes of s at a place, against those of t, from the byte i on
@@ -18,12 +18,9 @@ module _ (s t : List ℕ) (at n i : ℕ) (h : i < n) (room : at + n ≤ length s
       ≡ both (eqb (getD s (at + i) 0) (getD t i 0)) (same (take (n - (i + 1)) (drop (at + (i + 1)) s)) (drop (i + 1) t))
   unfolding same
   same-step =
-      let e : n - i ≡ suc (n - (i + 1)) = omega arith in
-      let f : suc (at + i) ≡ at + (i + 1) = omega arith in
-      let g : at + i < length s = omega arith in
       let k : suc i ≡ i + 1 = omega arith in
       let l : i < length t = omega arith in
-      rw (e, part-cons s (at + i) (n - (i + 1)) g, f, drop-cons t i 0 l, k)
+      rw (part-next s at n i h room, drop-cons t i 0 l, k)
 
   pub same-on : getD s (at + i) 0 ≡ getD t i 0
       → same (take (n - i) (drop (at + i) s)) (drop i t) ≡ same (take (n - (i + 1)) (drop (at + (i + 1)) s)) (drop (i + 1) t)

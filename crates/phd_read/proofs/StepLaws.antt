@@ -1,4 +1,4 @@
--- What a step does, by what was found at a cursor: by the laws of any format, and by where a record's references stand.
+-- What a step does, by what was found at a cursor: by the laws of any format, and by where a record's references are.
 use mathlib.Core.Path.{_≡_}
 use mathlib.Core.List.{List}
 use Prim.Native.Nat.{ℕ, _+_, _*_, _≤_, _<_}

@@ -1,4 +1,4 @@
--- The counts that are handed out.
+-- The counts that are returned.
 -- Assumes nothing.
 use mathlib.Core.Path.{_≡_, refl}
 use Prim.Native.Nat.{ℕ, _*_}
@@ -11,7 +11,7 @@ use Rattle.reading.specs.Capacity.{reading-keeps}
 use Rattle.phd_read.specs.Answer.{answer}
 use Rattle.phd_read.specs.Lawful.{lawful}
 
--- The counts that are handed out are those of what is stored.
+-- The counts that are returned are those of what is stored.
 pub counts : (s : List ℕ) (R F : ℕ) → (answer (reading s R F) .rows * row-width ≡ length (reading s R F .rows)) × (answer (reading s R F) .refs ≡ length (reading s R F .refs))
 unfolding answer row-count
 counts s R F = let k = reading-keeps phd lawful s (capacity R F) in (omega arith, refl)

@@ -1,8 +1,8 @@
 -- In reading order: Answer (what a caller gets of a reading) and Promises (what holds of it).
--- The rest are the proofs on the way: Links (a record that was read, and where its references and its tag stand), Replies (which
+-- The rest are the proofs on the way: Links (a record that was read, and where its references and its tag are), Replies (which
 -- replies a layout refuses with), Lawful (so this is a format as `reading` asks), Rooms (the counts), Offsets (a row's tag), Ranges
 -- (addresses and references), Lengths (a row's length); Stored (a record's references as they are stored) and Stepping (what a step
--- does to the lent tables), for the functions' contracts.
+-- does to the caller's tables), for the functions' contracts.
 pub mod Answer
 pub mod Stored
 pub mod Stepping

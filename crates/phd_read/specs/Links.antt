@@ -1,4 +1,4 @@
--- What holds of a record that was read from a dump: its row's numbers, its address, and where its references stand.
+-- What holds of a record that was read from a dump: its row's numbers, its address, and where its references are.
 -- Assumes nothing.
 use mathlib.Core.Path.{_≡_, refl, subst}
 use Prim.Native.Nat.{ℕ, zero, suc, _+_, _≤_, _<_}

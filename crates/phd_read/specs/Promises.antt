@@ -33,7 +33,7 @@ pub record Sound (r : Result) (R F : ℕ) : Type 0 where
   -- it stores no more than there is room for
   pub rows-fit : length (r .rows) ≤ R
   pub refs-fit : length (r .refs) ≤ F
-  -- the counts that are handed out are those of the whole rows and of the references stored
+  -- the counts that are returned are those of the whole rows and of the references stored
   pub rows-counted : answer r .rows * row-width ≡ length (r .rows)
   pub refs-counted : answer r .refs ≡ length (r .refs)
   -- the address of each row lies in 0 to 2^W - 1, and each reference in 1 to 2^W - 1
@@ -136,7 +136,7 @@ pub settles : (s t : List ℕ) (R R′ F F′ : ℕ) → length (s ++ t) ≤ lim
     → (reading (s ++ t) R′ F′ .reply ≡ 1 → ⊥) → reading s R F .missing ≤ length t
 settles s t R R′ F F′ l p q = reading-settles phd s t (capacity R F) (capacity R′ F′) l (record { rows = p; refs = q })
 
--- And what makes it whole goes at least as far: its end tag stands behind them, whatever follows that.
+-- And what makes it whole goes at least as far: its end tag is after them, whatever follows that.
 pub completes : (s t : List ℕ) (R R′ F F′ : ℕ) → length (s ++ t) ≤ limit → R ≤ R′ → F ≤ F′ → reading s R F .reply ≡ 1
     → reading (s ++ t) R′ F′ .reply ≡ 0 → length s + reading s R F .missing ≤ reading (s ++ t) R′ F′ .place
 completes s t R R′ F F′ l p q e = reading-completes phd s t (capacity R F) (capacity R′ F′) l (record { rows = p; refs = q }) e lawful

@@ -23,7 +23,7 @@ use Rattle.phd_round_trip.specs.Forms.{form-sound}
 unfoldable pub name-place : Facts → ℕ → ℕ → Cache → Rec → ℕ
 name-place h p before c r = name-at p (plan-of h before c r) (r .row)
 
--- and where its references stand
+-- and where its references are
 unfoldable pub refs-place : Facts → ℕ → ℕ → Cache → Rec → Span
 refs-place h p before c r = span-at p (plan-of h before c r) (r .row)
 

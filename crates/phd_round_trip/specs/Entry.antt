@@ -56,7 +56,7 @@ span-in q sh r = record { place = length-at q sh r + (sh .name + r .namelen) + s
 unfoldable pub name-at : ℕ → Plan → Row → ℕ
 name-at p pl r = name-in (fields-at p pl) (pl .shape) r
 
--- where its references stand
+-- where its references are
 unfoldable pub span-at : ℕ → Plan → Row → Span
 span-at p pl r = span-in (fields-at p pl) (pl .shape) r
 

@@ -1,4 +1,4 @@
--- The records of a written dump, and of any cut of it, read one after another: which are handed out, and with which reply.
+-- The records of a written dump, and of any cut of it, read one after another: which are returned, and with which reply.
 -- Assumes nothing.
 use mathlib.Core.Path.{_≡_, refl, sym}
 use Prim.Native.Nat.{ℕ, zero, suc, _+_, _*_, _%_, _≤_, _<_}

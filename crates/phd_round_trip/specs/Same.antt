@@ -63,7 +63,7 @@ take-over xs ys j l = let e : length xs + (j - length xs) ≡ j = omega arith in
 
 -- ---- the rows of a written dump
 
--- what is asked of records put after one at the address `before`, their references standing behind `refs`
+-- what is asked of records put after one at the address `before`, their references after `refs`
 pub record Put (h : Facts) (before : ℕ) (refs : List ℕ) (rs : List Rec) : Type 0 where
   pub word : Word (h .word)
   pub good : AllGood h (length refs) rs

@@ -14,7 +14,7 @@ use Rattle.layout.specs.declared.Text.{Text}
 use Rattle.table.specs.Table.{row-count}
 use Rattle.phd.specs.Phd.{highest, hash-bytes}
 use Rattle.phd.specs.declared.Facts.{Facts}
-use Rattle.layout.proofs.Laws.{part-cons}
+use Rattle.layout.specs.Parts.{part-until}
 use Rattle.table.specs.Rows.{row-at, refs-of, name-of, rows-left, left-next, left-none}
 use Rattle.phd_rows.specs.Good.{every, good-vm, good-numbers, good-ref, good-refs, good-row, first-bad}
 use Rattle.table.specs.declared.Row.{Row}
@@ -121,10 +121,7 @@ module _ (names : List ℕ) (t : Text) (there : t .there ≡ true) where
 ref-step : (refs : List ℕ) (top j last : ℕ) → j < last → last ≤ length refs
     → good-refs top (take (last - j) (drop j refs)) ≡ both (good-ref top (getD refs j 0)) (good-refs top (take (last - (j + 1)) (drop (j + 1) refs)))
 unfolding good-refs
-ref-step refs top j last h room =
-    let e : last - j ≡ suc (last - (j + 1)) = omega arith in
-    let g : j < length refs = omega arith in
-    rw (e, part-cons refs j (last - (j + 1)) g, add-one)
+ref-step refs top j last h room = rw (part-until refs j last h room)
 
 pub ref-bad : (refs : List ℕ) (top j last : ℕ) → j < last → last ≤ length refs → good-ref top (getD refs j 0) ≡ false
     → good-refs top (take (last - j) (drop j refs)) ≡ false
@@ -153,10 +150,7 @@ byte-step : (names : List ℕ) (k end : ℕ) → k < end → end ≤ length name
     → within 0x21 0x7E (take (end - k) (drop k names))
     ≡ both (not (ltb (getD names k 0) 0x21 || ltb 0x7E (getD names k 0))) (within 0x21 0x7E (take (end - (k + 1)) (drop (k + 1) names)))
 unfolding within
-byte-step names k end h room =
-    let e : end - k ≡ suc (end - (k + 1)) = omega arith in
-    let g : k < length names = omega arith in
-    rw (e, part-cons names k (end - (k + 1)) g, add-one, ← byte-test (getD names k 0))
+byte-step names k end h room = rw (part-until names k end h room, ← byte-test (getD names k 0))
 
 pub byte-bad : (names : List ℕ) (k end : ℕ) → k < end → end ≤ length names → ltb (getD names k 0) 0x21 || ltb 0x7E (getD names k 0) ≡ true
     → within 0x21 0x7E (take (end - k) (drop k names)) ≡ false

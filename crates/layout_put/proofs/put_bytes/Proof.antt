@@ -6,9 +6,8 @@ use Prim.Native.Nat.{_+_, _-_, _≤_}
 use native.Mathlib.Nat.{add-zero, sub-zero}
 use native.Mathlib.Omega.{arith}
 use lib.ListN.{length, take, drop, getD}
-use Rattle.layout.specs.Parts.{length-part}
+use Rattle.layout.specs.Parts.{length-part, part-next}
 use Rattle.layout_put.specs.Puts.{Rest, rest-begins, rest-next, rest-ends}
-use Rattle.layout_put.proofs.Laws.{next}
 use Rattle.layout_put.proofs.put_bytes.Statement.{statement}
 use Rattle.layout_put.proofs.put_bytes.Tie as tie
 
@@ -49,7 +48,7 @@ loop-again c =
       omega arith,
       search needs,
       rest-next {xs = getD (a .bytes .now) (a .place + l .loop .i) 0 ∷ []}
-          (rw (next (a .bytes .now) (a .place) (a .n) (l .loop .i) (omega arith) (omega arith)) at (l .loop .inv .2))
+          (rw (part-next (a .bytes .now) (a .place) (a .n) (l .loop .i) (omega arith) (omega arith)) at (l .loop .inv .2))
           (record { out = refl; place = omega arith }),
     )
 
