@@ -107,8 +107,7 @@ fn put_width(out: &mut [u8], at: usize, n: usize, value: u64) -> usize
     put_each(out, at, n, value)
 }
 
-// Writes the lowest n bytes of a number, the highest first. The next offset depends on no branch, so that a mispredicted width
-// does not delay it.
+// Writes the lowest n bytes of a number, the highest first. The next offset is worked out apart from the branches on the width.
 pub fn put(out: &mut [u8], at: usize, n: usize, value: u64) -> usize
     requires { ⌜ Room (now out) at (be n value) ⌝ }
     ensures { λ r. ⌜ Puts (now (out .entry)) at (be n value) (now (out .exit)) r ⌝ }
