@@ -82,6 +82,13 @@ enum phd_reply {
     PHD_NO_CLASS = 18        /* of a text: a row's class is not among the rows: the first such row, from 0 */
 };
 
+/* How many rows, and how many references, a dump of dump_len bytes gives at most: its header has 31 bytes at least, a record two, and a
+ * reference one. A reading into PHD_MOST_ROWS(dump_len) rows never ends with PHD_NO_ROW, and one into
+ * PHD_MOST_REFERENCES(dump_len) numbers never with PHD_NO_REFERENCES. Few dumps need as much: smaller tables may be tried first,
+ * and larger ones after either reply. */
+#define PHD_MOST_REFERENCES(dump_len) ((dump_len) < 31 ? 0 : (dump_len) - 31)
+#define PHD_MOST_ROWS(dump_len) (PHD_MOST_REFERENCES(dump_len) / 2)
+
 /* Reads a dump: its rows go to the start of `rows`, PHD_ROW numbers to each, and its references to the start of `refs`.
  * Whatever the reply, the records before its place are stored whole, and nothing else in the tables has changed. */
 uint64_t phd_read(const uint8_t *dump, size_t dump_len, uint64_t *rows, size_t rows_len, uint64_t *refs, size_t refs_len,

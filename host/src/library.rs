@@ -24,6 +24,17 @@ pub type Facts = [u64; 16];
 /// A header to write: W, all hashed, from OpenJ9, VM string there, its place and its length in the name bytes.
 pub type Header = [u64; 6];
 
+/// How many rows, and how many references, a dump of so many bytes gives at most: its header has 31 bytes at least, a record two,
+/// and a reference one. A table of that size never ends a reading with 13 or 14. (Proved: `bounded`, `rows-never-full` and
+/// `refs-never-full` in crates/phd_read/specs/Promises.antt.)
+pub fn most_rows(dump_len: usize) -> usize {
+    dump_len.saturating_sub(31) / 2
+}
+
+pub fn most_references(dump_len: usize) -> usize {
+    dump_len.saturating_sub(31)
+}
+
 /// Writing or text, as the library has it: a slice is a pointer and a length, as two words.
 type Making = unsafe extern "C" fn(
     header: *const Header,

@@ -1,7 +1,7 @@
 -- Laws of widths: what the least width codes are, and that the widths they name hold what was measured.
 -- Assumes nothing.
 use mathlib.Core.Path.{_≡_, refl}
-use Prim.Native.Nat.{ℕ, _+_, _-_, _/_, _^_, _≤_, _<_}
+use Prim.Native.Nat.{ℕ, zero, suc, _+_, _-_, _/_, _^_, _≤_, _<_}
 use mathlib.Core.Bool.{Bool, true, false}
 use mathlib.Core.List.{List, [], _∷_}
 use native.Mathlib.Nat.{pow-le-pow-right}
@@ -11,6 +11,7 @@ use lib.Dec.{leb, lit<}
 use lib.IntN.{ℤ, pos, negsuc}
 use borrow.Author.Tests.{le-leb, lt-leb, lt-ltb, ltb-true, leb-true, leb-false}
 use Rattle.layout.specs.Numbers.{pick}
+use Rattle.layout.specs.Values.{pick-either}
 use Rattle.layout_put.specs.Put.{gap, fits, code, most, widest}
 
 -- ---- what a width holds
@@ -42,13 +43,18 @@ gap-fits n a b p q = elim (decLe a b) [
 
 pub code-lt : (g : ℤ) → code g < 4
 unfolding code
-code-lt g = by (fits 1 g) (fits 2 g) (fits 4 g)
-  where
-    by : (a b c : Bool) → pick a 0 (pick b 1 (pick c 2 3)) < 4
-    by true b c = lit< tt
-    by false true c = lit< tt
-    by false false true = lit< tt
-    by false false false = lit< tt
+code-lt g =
+    pick-either (λ c. c < 4) (fits 1 g) _ _ (lit< tt)
+    (pick-either (λ c. c < 4) (fits 2 g) _ _ (lit< tt) (pick-either (λ c. c < 4) (fits 4 g) _ _ (lit< tt) (lit< tt)))
+
+-- Where the width of a code holds a number, the number's own code is no greater.
+pub code-least : (g : ℤ) (k : ℕ) → fits (2 ^ k) g ≡ true → code g ≤ k
+unfolding code
+code-least g zero h = rw h (omega arith)
+code-least g (suc zero) h = rw h (pick-either (λ c. c ≤ 1) (fits 1 g) _ _ (omega arith) (omega arith))
+code-least g (suc (suc zero)) h =
+    rw h (pick-either (λ c. c ≤ 2) (fits 1 g) _ _ (omega arith) (pick-either (λ c. c ≤ 2) (fits 2 g) _ _ (omega arith) (omega arith)))
+code-least g (suc (suc (suc k))) h = omega (arith, code-lt g)
 
 -- what 8 bytes hold is held by the width of its code
 pub code-fits : (g : ℤ) → fits 8 g ≡ true → fits (2 ^ code g) g ≡ true
@@ -80,6 +86,13 @@ most-right a b = by (leb a b) refl
     by : (x : Bool) → leb a b ≡ x → b ≤ pick x b a
     by true e = omega arith
     by false e = omega (arith, leb-false a b e)
+
+pub most-le : (a b k : ℕ) → a ≤ k → b ≤ k → most a b ≤ k
+most-le a b k p q = by (leb a b)
+  where
+    by : (x : Bool) → pick x b a ≤ k
+    by true = q
+    by false = p
 
 pub most-lt : (a b k : ℕ) → a < k → b < k → most a b < k
 most-lt a b k p q = by (leb a b)
@@ -117,3 +130,9 @@ widest-fits m a (r ∷ rs) h =
     let p : c ≤ n = most-right m c in
     let q : n ≤ widest n a rs = widest-first n a rs in
     (code-more (gap a r) (widest n a rs) (omega arith) (h .0), widest-fits n a rs (h .1))
+
+-- and no lesser one holds them
+pub widest-least : (k m a : ℕ) (rs : List ℕ) → m ≤ k → AllFit (2 ^ k) a rs → widest m a rs ≤ k
+unfolding widest
+widest-least k m a [] l h = l
+widest-least k m a (r ∷ rs) l h = widest-least k _ a rs (most-le m _ k l (code-least (gap a r) k (h .0))) (h .1)

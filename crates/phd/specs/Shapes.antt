@@ -1,13 +1,15 @@
--- Laws of the shapes of records: W is 32 or 64, and every field has at most 8 bytes.
--- Assumes nothing.
-use mathlib.Core.Path.{_≡_}
+-- Laws of the shapes of records: W is 32 or 64, every field has at most 8 bytes, and how many bytes a record has by its shape.
+-- A reader must believe `record-bytes`.
+use mathlib.Core.Path.{_≡_, refl}
 use mathlib.Core.Logic.{_⊎_}
 use mathlib.Core.Bool.{Bool, true, false}
-use Prim.Native.Nat.{ℕ, _/_, _%_, _≤_, _<_}
-use native.Mathlib.Nat.{pow-le-pow-right}
+use Prim.Native.Nat.{ℕ, _+_, _*_, _/_, _%_, _≤_, _<_}
+use native.Mathlib.Nat.{pow-le-pow-right, one-le-pow, mul-le-mul-left, mul-one}
 use native.Mathlib.Omega.{arith}
-use lib.Dec.{eqb}
+use lib.Dec.{ltb, eqb}
 use Rattle.layout.specs.Numbers.{pick}
+use Rattle.layout.specs.Values.{one-most}
+use Rattle.table.specs.declared.Row.{Row}
 use Rattle.phd.specs.Phd.{bit, width, shape, hash-bytes}
 use Rattle.phd.specs.declared.Shape.{Shape}
 use Rattle.phd.specs.declared.Form.{Form}
@@ -79,11 +81,69 @@ link-narrow w ObjectArray t f = width-le _ (omega arith)
 link-narrow w Primitive t f = omega arith
 link-narrow w LongPrimitive t f = omega arith
 
-pick-hash : (a b : Bool) → pick a 4 (pick b 2 0) ≤ 8
+pick-hash : (a b : Bool) → pick a 4 (pick b 2 0) ≤ 4
 pick-hash true b = omega arith
 pick-hash false true = omega arith
 pick-hash false false = omega arith
 
-pub hash-narrow : (k : ℕ) → hash-bytes k ≤ 8
+-- a hash has four bytes at most
+hash-most : (k : ℕ) → hash-bytes k ≤ 4
 unfolding hash-bytes
-hash-narrow k = pick-hash (eqb k 2) (eqb k 3)
+hash-most k = pick-hash (eqb k 2) (eqb k 3)
+
+pub hash-narrow : (k : ℕ) → hash-bytes k ≤ 8
+hash-narrow k = omega (arith, hash-most k)
+
+-- ---- the bytes of a record
+
+-- How many bytes a record has: the tag t, the flag byte where there is one, and the fields of its shape in file order. Of its row, the
+-- hash kind, the length of the name and the count of references bear on it.
+unfoldable pub record-bytes : ℕ → Shape → Row → ℕ
+record-bytes t sh r =
+    1 + pick (ltb t 0x20) 1 0
+    + (sh .gap + sh .word + sh .len)
+    + (sh .inst + hash-bytes (r .hashkind) + sh .superclass)
+    + (sh .name + r .namelen)
+    + (sh .counted + r .count * sh .link)
+    + (sh .size + sh .truelen)
+
+-- a width code stands for a byte at least
+width-some : (c : ℕ) → 1 ≤ width c
+unfolding width
+width-some c = one-le-pow c 2 (omega arith)
+
+-- references of a width, one byte at least for each and eight at most
+refs-bytes : (c k : ℕ) → c < 4 → (k ≤ k * width c) × (k * width c ≤ k * 8)
+refs-bytes c k l = (let p = mul-le-mul-left k (width-some c) in omega (arith, mul-one k), mul-le-mul-left k (width-le c l))
+
+-- A record has two bytes at least, its tag and its gap, and one for each reference. (Its count is in a field, or else in the shape.)
+pub record-least : (w : ℕ) (fm : Form) (t f : ℕ) (r : Row) → (shape w fm t f .counted ≡ 0 → r .count ≡ shape w fm t f .count)
+    → 2 + r .count ≤ record-bytes t (shape w fm t f) r
+unfolding shape record-bytes
+record-least w Short t f r e = omega (arith, width-some (t / 0x04 % 2), refs-bytes (t % 4) (r .count) (omega arith) .0)
+record-least w Medium t f r e = omega (arith, width-some (t / 0x04 % 2), refs-bytes (t % 4) (r .count) (omega arith) .0)
+record-least w Long t f r e = omega (arith, refs-bytes (f / 0x10 % 4) (r .count) (omega arith) .0)
+record-least w Class t f r e = omega (arith, refs-bytes (f / 0x10 % 4) (r .count) (omega arith) .0)
+record-least w ObjectArray t f r e = omega (arith, refs-bytes (f / 0x10 % 4) (r .count) (omega arith) .0)
+record-least w Primitive t f r e = omega (arith, e refl)
+record-least w LongPrimitive t f r e = omega (arith, e refl)
+
+-- And it has 34 at most beside its name, and eight for each reference: an object array with a long gap, a long word and an int hash.
+pub record-most : (w : ℕ) (fm : Form) (t f : ℕ) (r : Row) → w ≤ 8 → record-bytes t (shape w fm t f) r ≤ 34 + r .namelen + r .count * 8
+unfolding shape record-bytes
+record-most w fm t f r h = by fm
+  where
+    flag : pick (ltb t 0x20) 1 0 ≤ 1
+    flag = one-most (ltb t 0x20)
+
+    hash : hash-bytes (r .hashkind) ≤ 4
+    hash = hash-most (r .hashkind)
+
+    by : (fm : Form) → record-bytes t (shape w fm t f) r ≤ 34 + r .namelen + r .count * 8
+    by Short = omega (arith, flag, hash, width-le (t / 0x04 % 2) (omega arith), refs-bytes (t % 4) (r .count) (omega arith) .1)
+    by Medium = omega (arith, flag, hash, width-le (t / 0x04 % 2) (omega arith), refs-bytes (t % 4) (r .count) (omega arith) .1)
+    by Long = omega (arith, flag, hash, width-le (f / 0x40 % 4) (omega arith), refs-bytes (f / 0x10 % 4) (r .count) (omega arith) .1)
+    by Class = omega (arith, flag, hash, width-le (f / 0x40 % 4) (omega arith), refs-bytes (f / 0x10 % 4) (r .count) (omega arith) .1)
+    by ObjectArray = omega (arith, flag, hash, width-le (f / 0x40 % 4) (omega arith), refs-bytes (f / 0x10 % 4) (r .count) (omega arith) .1)
+    by Primitive = omega (arith, flag, hash, width-le (t % 4) (omega arith))
+    by LongPrimitive = omega (arith, flag, hash, pick-le (bit 0x10 f) w h)

@@ -6,10 +6,10 @@ use mathlib.Core.Bool.{Bool, true, false}
 use lib.ListN.{getD}
 use lib.Dec.{ltb, eqb, lit<}
 use native.Mathlib.Omega.{arith}
-use borrow.Author.Tests.{eqb-true, ne-eqb}
+use borrow.Author.Tests.{eqb-true, eq-eqb, ne-eqb}
 use Rattle.layout.specs.Numbers.{pick, both, either}
 use Rattle.layout.specs.Values.{both-left, both-right}
-use Rattle.layout.specs.declared.Maybe.the-variants.{Just}
+use Rattle.layout.specs.declared.Maybe.the-variants.{Just, Nothing}
 use Rattle.phd.specs.Phd.{bit, slot, moved-bit, hashed-bit}
 use Rattle.phd.specs.declared.classes.Cache.{Cache}
 use Rattle.phd_form.specs.Form.{holds, slot-of, hash-flags, class-flags}
@@ -78,23 +78,6 @@ class-bits false (suc zero) q f a n e = absurd (n refl)
 class-bits false (suc (suc zero)) q f a n e = rw (bit-yes 8 f (omega arith)) (record { clear = refl; kind = refl })
 class-bits false (suc (suc (suc k))) q f a n e = absurd (omega (arith, a .below refl))
 
-pub hash-flags-lt : (k : ℕ) → hash-flags k < 16
-unfolding hash-flags
-hash-flags-lt k = by (eqb k 2) (eqb k 1)
-  where
-    by : (a b : Bool) → pick a 3 (pick b 1 0) < 16
-    by true b = lit< tt
-    by false true = lit< tt
-    by false false = lit< tt
-
-pub class-flags-lt : (k : ℕ) → class-flags k < 16
-unfolding class-flags
-class-flags-lt k = by (eqb k 2)
-  where
-    by : (a : Bool) → pick a 8 0 < 16
-    by true = lit< tt
-    by false = lit< tt
-
 -- ---- tags and flag bytes, as numbers
 
 pub short-tag : (s n g c : ℕ) → s < 4 → n ≤ 3 → g < 2 → c < 4 → let t = 0x80 + 0x20 * s + 0x08 * n + 0x04 * g + c in
@@ -146,3 +129,37 @@ slot-le c w = any c w .0
 
 pub slot-back : (c : Cache) (w : ℕ) → slot-of c w < 4 → slot c (slot-of c w) ≡ Just w
 slot-back c w = any c w .1
+
+-- a class word that is in a filled slot is found
+holds-by : (c : Cache) (w i : ℕ) → slot c i ≡ Just w → holds c w i ≡ true
+unfolding slot holds
+holds-by c w i h = by (ltb i (c .puts)) h
+  where
+    by : (b : Bool) → pick b (Just (getD (c .words) i 0)) Nothing ≡ Just w → both b (eqb (getD (c .words) i 0) w) ≡ true
+    by true g = let z : getD (c .words) i 0 ≡ w = cc in eq-eqb _ _ z
+    by false g = let z : _≡_ {A = ℕ} 0 1 = cc in absurd (omega arith)
+
+pick-lt : (b : Bool) (x y k : ℕ) → x < k → y < k → pick b x y < k
+pick-lt true x y k p q = p
+pick-lt false x y k p q = q
+
+pub slot-found : (c : Cache) (w i : ℕ) → i < 4 → slot c i ≡ Just w → slot-of c w < 4
+unfolding slot-of
+slot-found c w i l h = by i l (holds-by c w i h)
+  where
+    x₀ : Bool
+    x₀ = holds c w 0
+
+    x₁ : Bool
+    x₁ = holds c w 1
+
+    x₂ : Bool
+    x₂ = holds c w 2
+
+    by : (i : ℕ) → i < 4 → holds c w i ≡ true → pick x₀ 0 (pick x₁ 1 (pick x₂ 2 (pick (holds c w 3) 3 4))) < 4
+    by zero l e = rw e (lit< tt)
+    by (suc zero) l e = rw e (pick-lt x₀ 0 1 4 (lit< tt) (lit< tt))
+    by (suc (suc zero)) l e = rw e (pick-lt x₀ 0 (pick x₁ 1 2) 4 (lit< tt) (pick-lt x₁ 1 2 4 (lit< tt) (lit< tt)))
+    by (suc (suc (suc zero))) l e =
+        rw e (pick-lt x₀ 0 (pick x₁ 1 (pick x₂ 2 3)) 4 (lit< tt) (pick-lt x₁ 1 (pick x₂ 2 3) 4 (lit< tt) (pick-lt x₂ 2 3 4 (lit< tt) (lit< tt))))
+    by (suc (suc (suc (suc i)))) l e = absurd (omega arith)

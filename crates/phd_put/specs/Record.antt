@@ -2,12 +2,13 @@
 -- shapes says. A field that a form lacks has no bytes. A reader must believe these definitions; that a reader takes the
 -- bytes for the record that was put is proved.
 use mathlib.Core.Path.{_≡_}
-use Prim.Native.Nat.{ℕ, _+_, _*_, _/_, _≤_}
+use Prim.Native.Nat.{ℕ, _+_, _/_, _≤_}
 use mathlib.Core.List.{List, [], _∷_, _++_}
 use lib.Dec.{ltb}
 use Rattle.layout.specs.Numbers.{pick}
 use Rattle.layout_put.specs.Put.{join, be, gap, complement, links}
 use Rattle.phd.specs.Phd.{hash-bytes, put}
+use Rattle.phd.specs.Shapes.{record-bytes}
 use Rattle.phd.specs.declared.classes.Cache.{Cache}
 use Rattle.phd.specs.declared.Facts.{Facts}
 use Rattle.phd.specs.declared.Shape.{Shape}
@@ -75,15 +76,8 @@ unfoldable pub cache-after : Facts → ℕ → Cache → Rec → Cache
 cache-after h before c r = pick (plan-of h before c r .shape .cached) (put c (r .row .word)) c
 
 -- how many bytes a plan has for a row
-unfoldable pub size-of : Plan → Row → ℕ
-size-of p r =
-    let sh = p .shape in
-    1 + pick (ltb (p .tag) 0x20) 1 0
-    + (sh .gap + sh .word + sh .len)
-    + (sh .inst + hash-bytes (r .hashkind) + sh .superclass)
-    + (sh .name + r .namelen)
-    + (sh .counted + r .count * sh .link)
-    + (sh .size + sh .truelen)
+abbrev pub size-of : Plan → Row → ℕ
+size-of p r = record-bytes (p .tag) (p .shape) r
 
 -- that, and whether the class word goes to the cache
 unfoldable pub sized : Plan → Row → Sized

@@ -9,14 +9,16 @@ use lib.Dec.{leb, ltb, eqb, lit<}
 use borrow.Author.Tests.{le-leb, lt-leb, le-ltb, lt-ltb, eq-eqb, ne-eqb}
 use Rattle.layout.specs.Numbers.{pick, both}
 use Rattle.phd.specs.Phd.{bit, width, hash-bytes, shape}
+use Rattle.phd.specs.Shapes.{record-bytes}
 use Rattle.phd.specs.declared.Form.{Form}
 use Rattle.phd.specs.declared.Form.the-variants.{Short, Medium, Long, Class, ObjectArray, Primitive, LongPrimitive}
 use Rattle.table.specs.declared.Row.{Row}
 use Rattle.phd_form.specs.Form.{Bounded, flagged, object-form, form-of, tag-of, hash-flags, class-flags, flags-of, planned}
+use Rattle.phd_form.specs.Least.{hash-flags-lt, class-flags-lt, CanHold, overhead, object-held}
 use Rattle.phd_form.specs.declared.Measure.{Measure}
 use Rattle.phd_form.specs.declared.Plan.{Plan}
-use Rattle.phd_put.specs.Record.{size-of, sized}
-use Rattle.phd_put.specs.Bits.{hash-flags-lt, class-flags-lt, short-tag, medium-tag, primitive-tag, long-flags, array-flags}
+use Rattle.phd_put.specs.Record.{sized}
+use Rattle.phd_put.specs.Bits.{short-tag, medium-tag, primitive-tag, long-flags, array-flags}
 use Rattle.phd_put.specs.declared.sizes.Sized.{Sized}
 
 abbrev pub made : ℕ → Bool → Sized
@@ -62,33 +64,33 @@ module _ (w : ℕ) (m : Measure) (r : Row) (b : Bounded m) where
   chosen fm e = ap (λ (f : Form). sized (formed f) r) e
 
   short-sized : m .slot < 4 → m .count ≤ 3 → m .gap < 2 → sized (formed Short) r ≡ made (1 + rest m r) false
-  unfolding sized size-of tag-of flags-of shape
+  unfolding sized record-bytes tag-of flags-of shape
   short-sized s n g =
       let t : ℕ = 0x80 + 0x20 * m .slot + 0x08 * m .count + 0x04 * m .gap + m .link in
       let k = short-tag (m .slot) (m .count) (m .gap) (m .link) s n g (b .link-most) in
       rw (le-ltb t 0x20 (omega arith), k .4, k .5) (ap (λ (x : ℕ). made x false) (omega arith))
 
   medium-sized : m .count ≤ 7 → m .gap < 2 → sized (formed Medium) r ≡ made (1 + w + rest m r) true
-  unfolding sized size-of tag-of flags-of shape
+  unfolding sized record-bytes tag-of flags-of shape
   medium-sized n g =
       let t : ℕ = 0x40 + 0x08 * m .count + 0x04 * m .gap + m .link in
       let k = medium-tag (m .count) (m .gap) (m .link) n g (b .link-most) in
       rw (le-ltb t 0x20 (omega arith), k .3, k .4) (ap (λ (x : ℕ). made x true) (omega arith))
 
   long-sized : sized (formed Long) r ≡ made (6 + w + rest m r) true
-  unfolding sized size-of tag-of flags-of shape
+  unfolding sized record-bytes tag-of flags-of shape
   long-sized =
       let k = long-flags (m .gap) (m .link) (hash-flags (m .hashkind)) (b .gap-most) (b .link-most) (hash-flags-lt (m .hashkind)) in
       rw (k .1, k .2) (ap (λ (x : ℕ). made x true) (omega arith))
 
   pub class-sized : m .kind ≡ 1 → sized (planned w m) r ≡ made (12 + w + rest m r) false
-  unfolding sized size-of tag-of flags-of shape form-of
+  unfolding sized record-bytes tag-of flags-of shape form-of
   class-sized e =
       let k = long-flags (m .gap) (m .link) (class-flags (m .hashkind)) (b .gap-most) (b .link-most) (class-flags-lt (m .hashkind)) in
       chosen Class (rw (eq-eqb (m .kind) 1 e)) ∙ rw (k .1, k .2) (ap (λ (x : ℕ). made x false) (omega arith))
 
   pub objects-sized : m .kind ≡ 3 → sized (planned w m) r ≡ made (14 + w + rest m r) false
-  unfolding sized size-of tag-of flags-of shape form-of
+  unfolding sized record-bytes tag-of flags-of shape form-of
   objects-sized e =
       let k = long-flags (m .gap) (m .link) (hash-flags (m .hashkind)) (b .gap-most) (b .link-most) (hash-flags-lt (m .hashkind)) in
       chosen ObjectArray (rw (ne-eqb (m .kind) 1 (omega arith), ne-eqb (m .kind) 2 (omega arith), eq-eqb (m .kind) 3 e))
@@ -122,8 +124,24 @@ module _ (w : ℕ) (m : Measure) (r : Row) (b : Bounded m) where
   object-planned e =
       chosen (object-form m) (rw (ne-eqb (m .kind) 1 (omega arith), eq-eqb (m .kind) 2 e)) ∙ object-formed (flagged (m .hashkind)) refl
 
+  -- in a form that can hold it, an object has that form's bytes beside those of its gap, its hash and its references
+  held-sized : (fm : Form) → CanHold fm m → sized (formed fm) r .size ≡ overhead w fm + rest m r
+  held-sized Short x = ap (λ (y : Sized). y .size) (short-sized (x .3) (x .2) (x .1))
+  held-sized Medium x = ap (λ (y : Sized). y .size) (medium-sized (x .2) (x .1))
+  held-sized Long x = ap (λ (y : Sized). y .size) long-sized
+  held-sized Class x = absurd x
+  held-sized ObjectArray x = absurd x
+  held-sized Primitive x = absurd x
+  held-sized LongPrimitive x = absurd x
+
+  pub object-bytes : m .kind ≡ 2 → sized (planned w m) r .size ≡ overhead w (object-form m) + rest m r
+  unfolding form-of
+  object-bytes e =
+      ap (λ (y : Sized). y .size) (chosen (object-form m) (rw (ne-eqb (m .kind) 1 (omega arith), eq-eqb (m .kind) 2 e)))
+      ∙ held-sized (object-form m) (object-held m)
+
   primitive-sized : sized (formed Primitive) r ≡ made (5 + 2 * width (m .pair) + fixed r) false
-  unfolding sized size-of tag-of flags-of shape
+  unfolding sized record-bytes tag-of flags-of shape
   primitive-sized =
       let t : ℕ = 0x20 + 0x04 * m .prim + m .pair in
       let k = primitive-tag (m .prim) (m .pair) (b .prim-most) (b .pair-most) in
@@ -132,7 +150,7 @@ module _ (w : ℕ) (m : Measure) (r : Row) (b : Bounded m) where
   -- v says whether the gap and the length are words or bytes, of u bytes then
   long-primitive-sized : (v u : ℕ) → v < 2 → pick (eqb v 1) w 1 ≡ u → pick (eqb (m .pair) 0) 0 1 ≡ v
       → sized (formed LongPrimitive) r ≡ made (6 + 2 * u + fixed r) false
-  unfolding sized size-of tag-of flags-of shape bit
+  unfolding sized record-bytes tag-of flags-of shape bit
   long-primitive-sized v u l e f =
       let k = array-flags (m .prim) v (hash-flags (m .hashkind)) (b .prim-most) l (hash-flags-lt (m .hashkind)) in
       rw (f, k .2, e) (ap (λ (x : ℕ). made x false) (omega arith))

@@ -4,15 +4,15 @@ use mathlib.Core.Path.{_≡_}
 use Prim.Native.Nat.{ℕ, _+_, _*_, _≤_}
 use native.Mathlib.Nat.{mul-le-mul-left}
 use native.Mathlib.Omega.{arith}
-use mathlib.Core.Bool.{Bool, true, false}
 use mathlib.Core.List.{List}
 use lib.ListN.{length, length-append}
 use lib.Dec.{ltb}
 use Rattle.layout.specs.Numbers.{pick}
+use Rattle.layout.specs.Values.{one-most}
 use Rattle.layout_put.specs.Bytes.{length-be}
 use Rattle.layout_put.specs.Stores.{length-links as length-of-links}
 use Rattle.phd.specs.Phd.{hash-bytes}
-use Rattle.phd.specs.Shapes.{Narrow, hash-narrow}
+use Rattle.phd.specs.Shapes.{Narrow, hash-narrow, record-bytes}
 use Rattle.phd.specs.declared.Shape.{Shape}
 use Rattle.phd_form.specs.declared.Plan.{Plan}
 use Rattle.table.specs.declared.Row.{Row}
@@ -45,24 +45,20 @@ length-tail sh r = simp (length-append, length-be)
 -- a record whole, with as many references and bytes of its name as its row says
 pub length-planned : (before : ℕ) (p : Plan) (r : Row) (refs name : List ℕ) → length refs ≡ r .count → length name ≡ r .namelen
     → length (put-planned before p r refs name) ≡ size-of p r
-unfolding put-planned put-fields size-of
+unfolding put-planned put-fields record-bytes
 length-planned before p r refs name e f =
     let sh : Shape = p .shape in
     simp (length-append, length-tag p, length-front before sh r, length-middle sh r, length-name sh r name, length-links sh r refs, length-tail sh r, e, f) (omega arith)
 
 -- ---- no sum of these leaves 64 bits
 
-pub flag-most : (b : Bool) → pick b 1 0 ≤ 1
-flag-most true = omega arith
-flag-most false = omega arith
-
 pub links-most : (sh : Shape) (n : ℕ) → sh .link ≤ 8 → n * sh .link ≤ n * 8
 links-most sh n h = mul-le-mul-left n h
 
 pub size-most : (p : Plan) (r : Row) → Narrow (p .shape) → size-of p r ≤ 128 + r .namelen + r .count * 8
-unfolding size-of
+unfolding record-bytes
 size-most p r n =
-    let a = flag-most (ltb (p .tag) 0x20) in
+    let a = one-most (ltb (p .tag) 0x20) in
     let b = hash-narrow (r .hashkind) in
     let c = links-most (p .shape) (r .count) (n .link) in
     omega arith

@@ -1,7 +1,7 @@
 -- The promises about reading, of `reading` and of what a caller sees of it, in reading order.
 -- A reader must believe the statements and their records. Assumes nothing.
 use mathlib.Core.Path.{_≡_, ap}
-use Prim.Native.Nat.{ℕ, suc, _+_, _*_, _≤_, _<_}
+use Prim.Native.Nat.{ℕ, suc, _+_, _-_, _*_, _≤_, _<_}
 use mathlib.Core.Bool.{true}
 use mathlib.Core.List.{List, _∷_, _++_, map}
 use lib.ListN.{length, take, length-append, length-drop}
@@ -23,6 +23,7 @@ use Rattle.phd_read.specs.Lawful.{lawful, always}
 use Rattle.phd_read.specs.Offsets.{TagAt, reading-traced, reading-tagged}
 use Rattle.phd_read.specs.Replies.{reading-answers}
 use Rattle.phd_read.specs.Counts.{counts}
+use Rattle.phd_read.specs.Bounds.{rows-most, refs-most, RowBytes, reading-bounded, rows-enough, refs-enough, row-bytes}
 
 -- ---- demand 1, of reading
 
@@ -118,6 +119,35 @@ one-each s R F i l = counted phd _ s (capacity R F) always _ _ i l (came-from s 
 pub one-by-one : (s : List ℕ) (R F i : ℕ) (l : i < row-count (reading s R F .rows)) → suc i < row-count (reading s R F .rows)
     → offset-of (reading s R F .rows) (suc i) ≡ came-from s R F .each i l .end
 one-by-one s R F i l k = next-behind phd _ s (capacity R F) always _ _ i k (came-from s R F .each i l) (came-from s R F .each (suc i) k)
+
+-- ---- how much a dump of a given length can give
+
+-- What holds of a reading of the bytes s, whatever its tables are.
+pub record Bounded (s : List ℕ) (r : Result) : Type 0 where
+  -- it stores no more rows, and no more references, than (n - 31) / 2 and n - 31, of n bytes
+  pub rows : answer r .rows ≤ rows-most (length s)
+  pub refs : answer r .refs ≤ refs-most (length s)
+  -- nor so many of both: the header has 31 bytes at least, a row's record two, and a reference one
+  pub together : answer r .rows * 2 + answer r .refs ≤ length s - 31
+
+pub bounded : (s : List ℕ) (R F : ℕ) → Bounded s (reading s R F)
+unfolding answer
+bounded s R F = let b = reading-bounded s R F in record { rows = omega (arith, b); refs = omega (arith, b); together = b }
+
+-- A table with a row for so many rows is never too small for a row, and one with a number for so many references never for references:
+-- neither 13 nor 14 comes.
+pub rows-never-full : (s : List ℕ) (R F : ℕ) → rows-most (length s) * row-width ≤ R → reading s R F .reply ≡ 13 → ⊥
+rows-never-full = rows-enough
+
+pub refs-never-full : (s : List ℕ) (R F : ℕ) → refs-most (length s) ≤ F → reading s R F .reply ≡ 14 → ⊥
+refs-never-full = refs-enough
+
+-- The record of each stored row, from its offset to its end, has at least two bytes and one for each reference, and at most 34, those of
+-- its name, and eight for each reference.
+pub bytes-of-row : (s : List ℕ) (R F i : ℕ) (l : i < row-count (reading s R F .rows))
+    → RowBytes (reading s R F .rows) i (offset-of (reading s R F .rows) i) (came-from s R F .each i l .end)
+unfolding came-from
+bytes-of-row s R F i l = rw (came-from s R F .each i l .offset) (row-bytes s R F i l)
 
 -- ---- how much is missing
 

@@ -31,7 +31,7 @@ use Rattle.phd_round_trip.specs.Within.{AllGood}
 use Rattle.phd_round_trip.specs.Back.{refs-place, row-back, length-row, record-back}
 
 -- the end tag is read as the end
-end-back : (h : Facts) (before : ℕ) (c : Cache) (index p : ℕ) → Reads p (entry h before c index) (be 1 3) over
+pub end-back : (h : Facts) (before : ℕ) (c : Cache) (index p : ℕ) → Reads p (entry h before c index) (be 1 3) over
 unfolding from-tag
 end-back h before c index p =
     reads-entry h before c index p

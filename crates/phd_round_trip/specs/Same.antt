@@ -14,7 +14,7 @@ use Rattle.phd.specs.Phd.{highest}
 use Rattle.phd.specs.Shapes.{Word}
 use Rattle.phd.specs.declared.classes.Cache.{Cache}
 use Rattle.phd.specs.declared.Facts.{Facts}
-use Rattle.table.specs.Rows.{Rec, row-at, refs-of, name-of, bare, rec-of, recs, numbers, rows-after, first-recs}
+use Rattle.table.specs.Rows.{Rec, row-at, refs-of, name-of, bare, rec-of, recs, numbers, rows-after, first-recs, row-numbers}
 use Rattle.phd_put.specs.Record.{put-record, cache-after}
 use Rattle.phd_write.specs.Write.{put-records}
 use Rattle.phd_round_trip.specs.Terms.{all-refs, within-cut}
@@ -26,24 +26,7 @@ use Rattle.phd_round_trip.specs.Back.{name-place, row-back, length-row, 
 rec-back : (names refs rows : List ℕ) (place offset : ℕ) (r : Rec) → r .row .place ≡ 0 → take (r .row .count) (drop (r .row .first) refs) ≡ r .refs
     → take (r .row .namelen) (drop place names) ≡ r .name → rec-of names refs (row-at (numbers place offset r ++ rows) 0) ≡ r
 unfolding rec-of row-at numbers bare refs-of name-of
-rec-back names refs rows place offset r z p q = λ j. record {
-  row = record {
-    kind = r .row .kind;
-    address = r .row .address;
-    word = r .row .word;
-    hashkind = r .row .hashkind;
-    hash = r .row .hash;
-    first = r .row .first;
-    count = r .row .count;
-    size = r .row .size;
-    len = r .row .len;
-    place = sym z j;
-    namelen = r .row .namelen;
-    prim = r .row .prim;
-  };
-  refs = p j;
-  name = q j;
-}
+rec-back names refs rows place offset r z p q = λ j. record { row = row-numbers place offset r rows z j; refs = p j; name = q j }
 
 -- so it is of the row that a record is read as
 row-decodes : (h : Facts) (p before : ℕ) (c : Cache) (names refs rows : List ℕ) (r : Rec) → r .row .place ≡ 0

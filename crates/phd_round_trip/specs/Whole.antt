@@ -60,7 +60,7 @@ module _ (names : List ℕ) (h : Facts) (rs : List Rec) (m R F : ℕ) (g : GoodD
   the-rows = rows-back k (length hd) 0 empty (kept names h rs m)
 
   -- the bytes, and the records within the cut, by the facts that are read
-  dump-is : dump ≡ hd ++ put-records k 0 empty rs
+  pub dump-is : dump ≡ hd ++ put-records k 0 empty rs
   unfolding put-dump
   dump-is = rw (records-same h k refl 0 empty rs)
 
@@ -70,14 +70,14 @@ module _ (names : List ℕ) (h : Facts) (rs : List Rec) (m R F : ℕ) (g : GoodD
   total : length dump ≡ length hd + length (put-records k 0 empty rs)
   total = rw dump-is (length-append hd (put-records k 0 empty rs))
 
-  full : run header dump 0 ≡ whole k (length hd)
+  pub full : run header dump 0 ≡ whole k (length hd)
   unfolding put-dump
   full = rw zero-add at (header-back names h (g .word) (g .vm) .reads [] (put-records h 0 empty rs) refl)
 
   short : length (take m dump) ≤ limit
   short = let s = g .size in simp length-take (omega arith)
 
-  good : AllGood k 0 rs
+  pub good : AllGood k 0 rs
   good = all-same h k refl refl 0 rs (g .records)
 
   coming : Coming k R F (suc limit) (first (length hd)) rs

@@ -19,7 +19,7 @@ pub record Kept (A : Capacity) (rows refs : List ℕ) : Type 0 where
   pub refs-fit : length refs ≤ A .refs
   pub whole-rows : length rows % row-width ≡ 0
 
-whole-on : {at : ℕ} (rows r : List ℕ) → length rows % row-width ≡ 0 → Rowed at r → length (rows ++ r) % row-width ≡ 0
+pub whole-on : {at : ℕ} (rows r : List ℕ) → length rows % row-width ≡ 0 → Rowed at r → length (rows ++ r) % row-width ≡ 0
 whole-on rows r w (rowless e) = simp length-append (omega arith)
 whole-on rows r w (rowed e _) = simp length-append (omega arith)
 
@@ -44,17 +44,18 @@ pub record Replies (P : ℕ → Type 0) : Type 0 where
   pub no-row : P 13
   pub no-refs : P 14
 
-stop-reply : {A : Type 0} {P : ℕ → Type 0} (l : Layout A) → Replies P → Refuses P l → (s : List ℕ) (at : ℕ) (w : Stop) → run l s at ≡ stops w → P (reply-of w)
+-- where a layout stops: a cut, or a refusal
+pub stop-reply : {A : Type 0} {P : ℕ → Type 0} (l : Layout A) → P 1 → Refuses P l → (s : List ℕ) (at : ℕ) (w : Stop) → run l s at ≡ stops w → P (reply-of w)
 unfolding reply-of
-stop-reply l own g s at (Cut n) e = own .cut
-stop-reply l own g s at (Refused r) e = g .each s at r e
+stop-reply l cut g s at (Cut n) e = cut
+stop-reply l cut g s at (Refused r) e = g .each s at r e
 
 pub reading-replies : (D : Format) (P : ℕ → Type 0) → Replies P → Refuses P (D .header)
     → ((h : D .Facts) (c : D .Context) (index : ℕ) → Refuses P (D .entry h c index))
     → (s : List ℕ) (A : Capacity) → P (reading D s A .reply)
 unfolding ended nothing
 reading-replies D P own g k s A =
-    reading-holds D s A (λ h st. Unit {0}) (λ r. P (r .reply)) (own .long) (λ w e. stop-reply (D .header) own g s 0 w e) (λ h n e. tt)
+    reading-holds D s A (λ h st. Unit {0}) (λ r. P (r .reply)) (own .long) (λ w e. stop-reply (D .header) (own .cut) g s 0 w e) (λ h n e. tt)
     (λ h st _. step-by D (Either (λ x. Unit {0}) (λ r. P (r .reply))) h s A st (λ n e. own .done) (λ r rs m c n e p q. tt) (own .no-row) (own .no-refs)
-    (λ w e. stop-reply (D .entry h (st .context) (length (st .refs))) own (k h _ _) s (st .at) w e))
+    (λ w e. stop-reply (D .entry h (st .context) (length (st .refs))) (own .cut) (k h _ _) s (st .at) w e))
     (λ h st _. own .done)

@@ -3,18 +3,20 @@
 -- carried on is how many records there were.
 -- All that holds of every format holds of it. A reader must believe `row`, `from-length` and `toy`.
 use mathlib.Core.Path.{_≡_, refl}
-use Prim.Native.Nat.{ℕ, _+_, _%_, _≤_, _<_}
+use Prim.Native.Nat.{ℕ, _+_, _-_, _*_, _%_, _≤_, _<_}
 use mathlib.Core.List.{List, [], _∷_, _++_}
 use lib.ListN.{length, getD, take}
-use lib.Dec.{eqb}
+use lib.Dec.{eqb, lit≤}
 use native.Mathlib.Omega.{arith}
 use Rattle.layout.specs.Numbers.{pick, value-after}
 use Rattle.layout.specs.Layout.{Layout, yield, whole, run, run-then, run-position, _>>=_, _>>_, position, raw, field, check}
 use Rattle.layout.specs.Fields.{exactly}
 use Rattle.layout.specs.Values.{Gives, pick-either, gives-yield, gives-last, gives-pick, refuses-yield, refuses-then, refuses-pick, refuses-field, refuses-raw, refuses-position, refuses-exactly}
+use Rattle.layout.specs.Takes.{Takes, takes-yield, takes-then, takes-by, takes-field, takes-raw, takes-exactly}
 use Rattle.table.specs.Table.{row-count}
 use Rattle.reading.specs.Reading.{limit, Capacity, capacity, _⊑_, Item, over, item, Format, ended, settle, step, records, first, opened, reading}
 use Rattle.reading.specs.Steps.{Rowed, rowless, rowed, Lawful, byte-forth}
+use Rattle.reading.specs.Bounds.{Least, reading-bounded}
 use Rattle.reading.specs.Cut.{Agree, cuts-agree}
 use Rattle.reading.specs.Missing.{reading-completes}
 use Rattle.reading.specs.Offsets.{offset-of, Traced, reading-traced, ends-before}
@@ -78,6 +80,29 @@ lawful = record {
       refuses-pick (eqb n 0) _ _ (refuses-yield over) (refuses-then _ _ (refuses-raw n) (λ b. refuses-yield _))));
 }
 
+-- the header takes a byte, and a record one beside its references, whether it has a row or not
+one-row : (letter count n b at : ℕ) → row-count (row letter count n b at) ≤ 1
+unfolding row row-count
+one-row letter count n b at = pick-either (λ r. row-count r ≤ 1) (eqb (b % 2) 0) _ _ (lit≤ tt) (lit≤ tt)
+
+abbrev Bytes : Item (Unit {0}) ℕ → ℕ → Type 0
+Bytes over n = Unit {0}
+Bytes (item r rs m c) n = row-count r * 1 + length rs ≤ n
+
+takes-bytes : (letter count at : ℕ) → Takes Bytes (from-length letter count at)
+unfolding from-length
+takes-bytes letter count at =
+    takes-then _ _ _ (takes-field 1) (λ n k e. takes-by (eqb n 0) _ _ (λ _. takes-yield over tt)
+    (λ _. takes-then _ _ _ (takes-raw n) (λ b l f. takes-yield _ (omega (arith, e .0, f .0, f .1, one-row letter count n (getD b 0 0) at)))))
+
+pub least : Least toy 1 1
+least = record {
+  header = λ s letter n e. let x = takes-exactly 1 0x54 3 .each s 0 letter n e in omega (arith, x .1, x .2);
+  entry = λ letter count _ s at r rs m k e f.
+      let x = takes-bytes letter count at .each s at (item r rs m k) e (rw from-place at f) in
+      omega (arith, x .1, x .2);
+}
+
 -- ---- what then holds, with no more to prove
 
 -- demand 3, first part; it asks for no law of the format
@@ -93,6 +118,10 @@ came-from = reading-traced toy lawful
 pub apart : (s : List ℕ) (A : Capacity) (i j : ℕ) (l : i < j) (b : j < row-count (reading toy s A .rows))
     → came-from s A .each i (omega arith) .end ≤ offset-of (reading toy s A .rows) j
 apart s A i j l b = ends-before toy (reading toy s A .facts) s A lawful _ _ i j l b (came-from s A .each i (omega arith)) (came-from s A .each j b)
+
+-- a dump of n bytes gives at most n - 1 rows and references together
+pub bounded : (s : List ℕ) (A : Capacity) → row-count (reading toy s A .rows) * 1 + length (reading toy s A .refs) ≤ length s - 1
+bounded = reading-bounded toy lawful 1 1 least
 
 -- what makes a cut dump whole goes as far as is missing
 pub completes : (s t : List ℕ) (A A′ : Capacity) → length (s ++ t) ≤ limit → A ⊑ A′ → reading toy s A .reply ≡ 1

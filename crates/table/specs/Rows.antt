@@ -219,3 +219,21 @@ module _ (row table : List ℕ) (l : length row ≡ row-width) where
 -- the records of as many rows as a table has are those of all its rows
 pub all-recs : (names refs table : List ℕ) → first-recs (row-count table) names refs table ≡ recs names refs (rows-of table)
 all-recs names refs table = rw (take-all (row-count table) (rows-of table) (omega (arith, length-rows table)))
+
+-- the row of a record's numbers, with a table after them, is the record's
+pub row-numbers : (place offset : ℕ) (r : Rec) (table : List ℕ) → r .row .place ≡ 0 → bare (row-at (numbers place offset r ++ table) 0) ≡ r .row
+unfolding bare row-at numbers
+row-numbers place offset r table z = λ j. record {
+  kind = r .row .kind;
+  address = r .row .address;
+  word = r .row .word;
+  hashkind = r .row .hashkind;
+  hash = r .row .hash;
+  first = r .row .first;
+  count = r .row .count;
+  size = r .row .size;
+  len = r .row .len;
+  place = sym z j;
+  namelen = r .row .namelen;
+  prim = r .row .prim;
+}

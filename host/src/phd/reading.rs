@@ -126,18 +126,18 @@ impl Reading {
 }
 
 /// How many rows and references there is room for.
-#[derive(Clone, Copy, PartialEq)]
+#[derive(Clone, Copy)]
 struct Room {
     rows: usize,
     refs: usize,
 }
 
 impl Room {
-    /// No more can stand in so many bytes: a record has at least two, a reference at least one.
+    /// The most that a dump of so many bytes gives. A table of that size is never too small.
     fn most(size: usize) -> Room {
         Room {
-            rows: size / 2,
-            refs: size,
+            rows: library::most_rows(size),
+            refs: library::most_references(size),
         }
     }
 
@@ -193,8 +193,7 @@ pub fn read(source: &Source) -> Result<Reading, Trouble> {
         let mut refs = room::zeroes(room.refs).map_err(no_room)?;
         let mut facts = Facts::default();
         let reply = library::read(&dump, &mut rows, &mut refs, &mut facts);
-        let more = room.more(dump.len(), &facts);
-        if !matches!(reply, NO_ROW | NO_REFERENCES) || more == room {
+        if !matches!(reply, NO_ROW | NO_REFERENCES) {
             return Ok(Reading {
                 name,
                 dump,
@@ -203,6 +202,7 @@ pub fn read(source: &Source) -> Result<Reading, Trouble> {
                 facts,
             });
         }
-        room = more;
+        // What ran out was less than the most, and so grows.
+        room = room.more(dump.len(), &facts);
     }
 }

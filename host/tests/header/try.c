@@ -1,5 +1,5 @@
-/* Reads the dump on standard input, asks how many bytes it takes anew and as text, writes it into just so many, all through
- * include/phd.h, and prints what each call said and the text. */
+/* Reads the dump on standard input into tables for the most that so many bytes give, asks how many bytes it takes anew and as text,
+ * writes it into just so many, all through include/phd.h, and prints what each call said and the text. */
 #include <phd.h>
 #include <stdio.h>
 
@@ -17,7 +17,10 @@ static void say(const char *call, uint64_t reply) {
 
 int main(void) {
     size_t size = fread(dump, 1, ROOM, stdin);
-    uint64_t read = phd_read(dump, size, rows, ROOM, refs, ROOM, facts);
+    size_t most_rows = PHD_MOST_ROWS(size) * PHD_ROW, most_refs = PHD_MOST_REFERENCES(size);
+    if (most_rows > ROOM || most_refs > ROOM)
+        return 5;
+    uint64_t read = phd_read(dump, size, rows, most_rows, refs, most_refs, facts);
     say("read", read);
     if (read != PHD_DONE && read != PHD_CUT)
         return 1;

@@ -11,6 +11,7 @@ use crate::run::{run, Case, Kind};
 use crate::same::{same_places, same_whole};
 use crate::spoil;
 use crate::tables::*;
+use phd_host::library;
 
 /// How many cases run, and how often each reply must come and each border be met at least.
 const CASES: u64 = 300_000;
@@ -94,6 +95,16 @@ impl Case<'_> {
             return Err(of_dump("exact room gives another answer", dump));
         }
         Ok(read)
+    }
+
+    /// Reads with tables for the most that so many bytes give: they are never too small.
+    fn read_most(&mut self, dump: &[u8]) -> Result<(), String> {
+        let rows = library::most_rows(dump.len());
+        let read = self.read(dump, (rows * ROW, library::most_references(dump.len())))?;
+        if matches!(read.reply, 13 | 14) {
+            return Err(of_dump("tables for the most are too small", dump));
+        }
+        Ok(())
     }
 
     /// Asks for the size; writes or tells with room enough, and then with some other room and other offsets, which say nothing.
@@ -221,6 +232,7 @@ fn loose_dumps(case: &mut Case) -> Result<(), String> {
     let tables = good::tables(&mut case.dice);
     let loose = encode::loose(&tables, &mut case.dice);
     let dump = &loose.bytes;
+    case.read_most(dump)?;
     let read = case.read_twice(dump, tables.count(), tables.refs.len())?;
     same_whole(&tables, dump, &read)
         .and_then(|()| same_places(&loose, &read))
@@ -240,6 +252,7 @@ fn damaged_dumps(case: &mut Case) -> Result<(), String> {
         encode::loose(&tables, &mut case.dice)
     };
     let (dump, _) = damage::damaged(&mut case.dice, &encoded);
+    case.read_most(&dump)?;
     let rows = tables.count() + case.dice.index(4);
     let read = case.read_twice(&dump, rows, tables.refs.len() + 10)?;
     case.convert(&dump, &read)?;
@@ -248,6 +261,7 @@ fn damaged_dumps(case: &mut Case) -> Result<(), String> {
 
 fn noise(case: &mut Case) -> Result<(), String> {
     let dump = damage::noise(&mut case.dice);
+    case.read_most(&dump)?;
     let read = case.read_twice(&dump, dump.len() / 2, dump.len())?;
     case.convert(&dump, &read)?;
     Ok(())

@@ -232,7 +232,8 @@ fn first_difference<T: PartialEq>(left: &[T], right: &[T]) -> Option<usize> {
     Some(at.unwrap_or(left.len().min(right.len())))
 }
 
-/// What holds of every reading: its facts, that nothing behind what it stored has changed, and its rows' offsets.
+/// What holds of every reading: its facts, that nothing behind what it stored has changed, that this has its bytes in the dump, and
+/// its rows' offsets.
 pub fn read_rules(read: &Outcome, dump: &[u8], salt: u64) -> Result<(), String> {
     facts_rules(read, 11)?;
     if (read.missing() != 0) != (read.reply == 1) {
@@ -249,20 +250,28 @@ pub fn read_rules(read: &Outcome, dump: &[u8], salt: u64) -> Result<(), String> 
     if refs[ref_end..] != pattern(!salt, refs.len())[ref_end..] {
         return Err("a reference behind the stored ones has changed".to_string());
     }
-    offset_rules(&rows[..row_end], dump)
+    if 2 * (row_end / ROW) + ref_end > dump.len().saturating_sub(31) {
+        return Err("more stored than the dump has bytes for".to_string());
+    }
+    let end = read.facts[1] - u64::from(read.reply == 0);
+    offset_rules(&rows[..row_end], end, dump)
 }
 
-/// The offsets of rows are the places of records' tags, and grow.
-fn offset_rules(rows: &[u64], dump: &[u8]) -> Result<(), String> {
-    let mut from = 0;
-    for (index, row) in rows.chunks_exact(ROW).enumerate() {
+/// The offsets of rows are the places of records' tags, and each record reaches to the next, the last to `end`, with as many bytes as
+/// a record can have.
+fn offset_rules(rows: &[u64], end: u64, dump: &[u8]) -> Result<(), String> {
+    let rows: Vec<&[u64]> = rows.chunks_exact(ROW).collect();
+    let offsets = rows.iter().map(|row| row[OFFSET]);
+    let ends = offsets.skip(1).chain([end]);
+    for (index, (row, end)) in rows.iter().zip(ends).enumerate() {
         let offset = row[OFFSET];
         let tag = dump.get(offset as usize);
         let begins = tag.is_some_and(|tag| matches!(tag, 4 | 6..=8 | 0x20..));
-        if offset < from || !begins {
-            return Err(format!("row {index} has the offset {offset}"));
+        let least = offset + 2 + row[COUNT];
+        let most = offset + 34 + row[NAME_LENGTH] + 8 * row[COUNT];
+        if !begins || !(least..=most).contains(&end) {
+            return Err(format!("row {index} has its record from {offset} to {end}"));
         }
-        from = offset + 1;
     }
     Ok(())
 }

@@ -13,6 +13,8 @@ mod limits;
 mod names;
 mod run;
 mod same;
+mod search;
+mod shortest;
 mod spoil;
 mod tables;
 mod tally;

@@ -24,10 +24,8 @@ pub fn same_records(lent: &Tables, dump: &[u8], read: &Outcome) -> Result<(), St
         return Err(format!("{} rows, not {}", got.count(), lent.count()));
     }
     for index in 0..got.count() {
-        let (row, wanted) = (got.row(index), lent.row(index));
-        let numbers = (0..ROW).all(|at| row[at] == wanted[at] || ELSEWHERE.contains(&at));
-        let named = row[KIND] != IS_CLASS || got.name_of(index) == lent.name_of(index);
-        if !numbers || !named || got.refs_of(index) != lent.refs_of(index) {
+        let row = got.row(index);
+        if !same_row(lent, index, row, &got.refs, dump) {
             return Err(format!("row {index} is read as {row:X?}"));
         }
     }
@@ -38,6 +36,17 @@ pub fn same_records(lent: &Tables, dump: &[u8], read: &Outcome) -> Result<(), St
         return Err(format!("{} references, not {owned}", read.facts[3]));
     }
     Ok(())
+}
+
+/// Whether a row that was read from a dump, with its references in a table, is the same record as a good row.
+pub fn same_row(lent: &Tables, index: usize, row: &[u64], refs: &[u64], dump: &[u8]) -> bool {
+    let wanted = lent.row(index);
+    let part = |from: u64, count: u64| from as usize..(from + count) as usize;
+    let named = || dump[part(row[NAME], row[NAME_LENGTH])] == *lent.name_of(index);
+    let numbers = (0..ROW).all(|at| row[at] == wanted[at] || ELSEWHERE.contains(&at));
+    numbers
+        && (row[KIND] != IS_CLASS || named())
+        && refs[part(row[FIRST], row[COUNT])] == *lent.refs_of(index)
 }
 
 /// Whether the places of a reading are those at which the encoder put things.

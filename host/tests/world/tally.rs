@@ -48,6 +48,9 @@ impl Tally {
             "nulls",
             "missing",
             "awaited",
+            "form",
+            "loose",
+            "every run",
         ] {
             let of_it = self.counts.iter().filter(|((name, _), _)| *name == what);
             let told: Vec<_> = of_it

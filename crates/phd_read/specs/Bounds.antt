@@ -1,0 +1,171 @@
+-- How many bytes a record takes at least and at most, and so how many rows and references a dump of a given length can give.
+-- A reader must believe `rows-most`, `refs-most`, `RowBytes` and the statements.
+use mathlib.Core.Path.{_≡_, refl}
+use Prim.Native.Nat.{ℕ, _+_, _-_, _*_, _/_, _≤_, _<_}
+use native.Mathlib.Omega.{arith}
+use mathlib.Core.Bool.{Bool, true, false}
+use mathlib.Core.Logic.{inl, inr}
+use mathlib.Core.List.{List, [], _∷_, _++_}
+use lib.ListN.{length}
+use lib.Dec.{eqb, lit<}
+use Rattle.layout.specs.Numbers.{pick}
+use Rattle.layout.specs.Layout.{Layout, Outcome, whole, stops, run}
+use Rattle.layout.specs.Fields.{no-text}
+use Rattle.layout.specs.Values.{Refuses}
+use Rattle.layout.specs.Takes.{Takes, takes-yield, takes-refuse, takes-then, takes-last, takes-when, takes-by, takes-field, takes-raw, takes-check, takes-exactly, takes-below}
+use Rattle.table.specs.Table.{row-width, row-count, row-of, number, number-in}
+use Rattle.table.specs.Rows.{row-at, bare}
+use Rattle.phd.specs.Phd.{bit, opening, opening-bytes, preamble, header-records, header-facts, header, empty, put, Before, item, entry, State, phd, capacity, reading}
+use Rattle.phd.specs.Cases.{computing}
+use Rattle.phd.specs.Shapes.{Word, record-least, record-most}
+use Rattle.phd.specs.declared.classes.Cache.{Cache}
+use Rattle.phd.specs.declared.Facts.{Facts}
+use Rattle.phd.specs.declared.Span.{Span}
+use Rattle.reading.specs.Bounds.{Least}
+use Rattle.reading.specs.Bounds as Any
+use Rattle.phd_read.specs.LaidOut.{read-row, laid-out}
+use Rattle.phd_read.specs.Lawful.{lawful, always}
+use Rattle.phd_read.specs.Offsets.{reading-traced}
+use Rattle.phd_read.specs.Replies.{Fine, known, header-fine, entry-fine}
+
+-- ---- the header
+
+takes-opening : Takes (λ _ n. n ≡ 18) opening-bytes
+unfolding opening-bytes
+takes-opening = takes-then _ _ _ (takes-raw 18) (λ text n e. takes-when (takes-check 3 _) (λ _ m k. omega (arith, e .0, k .0)))
+
+takes-preamble : Takes (λ _ n. n ≡ 29) preamble
+unfolding preamble
+takes-preamble =
+    takes-then _ _ _ (takes-exactly 2 18 3) (λ _ n e. takes-then _ _ _ takes-opening (λ _ n₁ e₁.
+    takes-then _ _ _ (takes-exactly 4 6 4) (λ _ n₂ e₂. takes-then _ _ _ (takes-below 4 8 5) (λ flags n₃ e₃.
+    takes-then _ _ _ (takes-exactly 1 1 6) (λ _ n₄ e₄. takes-yield flags (omega (arith, e, e₁, e₂, e₃, e₄)))))))
+
+takes-records : Takes (λ _ n. 1 ≤ n) header-records
+unfolding header-records
+takes-records =
+    takes-then _ _ _ (takes-field 1) (λ tag n e. takes-by (eqb tag 2) _ _ (λ _. takes-yield no-text (omega (arith, e .0)))
+    (λ _. takes-by (eqb tag 4) _ _
+    (λ _. takes-last _ _ (λ vm n₁. takes-last _ _ (λ _ n₂. takes-yield vm (omega (arith, e .0)))))
+    (λ _. takes-refuse 6)))
+
+-- W is 32 or 64
+facts-word : (b : Bool) → Word (pick b 64 32)
+facts-word true = inr refl
+facts-word false = inl refl
+
+-- A header has 31 bytes at least, and W is 32 or 64.
+pub takes-header : Takes (λ (h : Facts) n. (31 ≤ n) × Word (h .word)) header
+unfolding header header-facts
+takes-header =
+    takes-then _ _ _ takes-preamble (λ flags n e. takes-then _ _ _ takes-records (λ vm n₁ e₁.
+    takes-then _ _ _ (takes-exactly 1 2 6) (λ _ n₂ e₂. takes-yield _ (omega (arith, e, e₁, e₂), facts-word (bit 1 flags)))))
+
+-- ---- a record
+
+-- The bytes of a record with the row number i, from one offset up to another: two at least and one for each reference; and at most 34,
+-- those of its name, and eight for each reference.
+pub record RowBytes (rows : List ℕ) (i : ℕ) (offset end : ℕ) : Type 0 where
+  pub least : offset + 2 + number rows i 6 ≤ end
+  pub most : end ≤ offset + 34 + number rows i 10 + number rows i 6 * 8
+
+module _ (h : Facts) (before : ℕ) (c : Cache) (index : ℕ) (s : List ℕ) (at : ℕ) (r rs : List ℕ) (sp : Span) (k : Before) (e : ℕ)
+    (g : run (entry h before c index) s at ≡ whole (item r rs sp k) e) where
+  pub entry-bytes : Word (h .word) → RowBytes r 0 at e
+  unfolding bare row-at
+  entry-bytes w =
+      let x = laid-out h before c index s at r rs sp k e g in
+      let l = x .2 in
+      let a = record-least (h .word / 8) (l .form) (l .tag) (l .flags) (read-row r) (l .fits .count) in
+      let b = record-most (h .word / 8) (l .form) (l .tag) (l .flags) (read-row r) (narrow w) in
+      record { least = omega (arith, x .1, l .bytes, a); most = omega (arith, x .1, l .bytes, b) }
+    where
+      narrow : Word (h .word) → h .word / 8 ≤ 8
+      narrow (inl e) = rw e (omega arith)
+      narrow (inr e) = rw e (omega arith)
+
+  entry-least : at + (row-count r * 2 + length rs) ≤ e
+  unfolding bare row-at row-count
+  entry-least =
+      let x = laid-out h before c index s at r rs sp k e g in
+      let l = x .2 in
+      let a = record-least (h .word / 8) (l .form) (l .tag) (l .flags) (read-row r) (l .fits .count) in
+      let n : length r ≡ row-width = always h (record { address = before; cache = c }) index s at r rs sp k e g in
+      omega (arith, x .1, l .bytes, a, l .fits .refs-count, n)
+
+-- ---- a reading
+
+least : Least phd 31 2
+least = record {
+  header = λ s h n e. let x = takes-header .each s 0 h n e in omega (arith, x .1, x .2 .0);
+  entry = λ h c index s at r rs m k e g. entry-least h (c .address) (c .cache) index s at r rs m k e g;
+}
+
+-- How many rows, and how many references, a dump of n bytes gives at most.
+abbrev pub rows-most : ℕ → ℕ
+rows-most n = (n - 31) / 2
+
+abbrev pub refs-most : ℕ → ℕ
+refs-most n = n - 31
+
+-- What a reading stores has its bytes after the header: two for each row, and one for each reference.
+pub reading-bounded : (s : List ℕ) (R F : ℕ) → row-count (reading s R F .rows) * 2 + length (reading s R F .refs) ≤ length s - 31
+reading-bounded s R F = Any.reading-bounded phd lawful 31 2 least s (capacity R F)
+
+-- A table with a row for so many, or a number for so many references, is never too small.
+pub rows-enough : (s : List ℕ) (R F : ℕ) → rows-most (length s) * row-width ≤ R → reading s R F .reply ≡ 13 → ⊥
+rows-enough s R F l =
+    Any.never-full phd lawful 31 2 least s (capacity R F) (lit< tt) (λ r. r ≡ 13 → ⊥) (λ e. omega arith) (λ e. omega arith) (λ e. omega arith)
+    (not-full header-fine) (λ h c index. not-full (entry-fine h (c .address) (c .cache) index)) (inl l) (inr (λ e. omega arith))
+  where
+    not-full : {A : Type 0} {l : Layout A} → Fine l → Refuses (λ r. r ≡ 13 → ⊥) l
+    not-full g = record { each = λ s at r e z. omega (arith, known r (g .each s at r e) .1) }
+
+pub refs-enough : (s : List ℕ) (R F : ℕ) → refs-most (length s) ≤ F → reading s R F .reply ≡ 14 → ⊥
+refs-enough s R F l =
+    Any.never-full phd lawful 31 2 least s (capacity R F) (lit< tt) (λ r. r ≡ 14 → ⊥) (λ e. omega arith) (λ e. omega arith) (λ e. omega arith)
+    (not-full header-fine) (λ h c index. not-full (entry-fine h (c .address) (c .cache) index)) (inr (λ e. omega arith)) (inl l)
+  where
+    not-full : {A : Type 0} {l : Layout A} → Fine l → Refuses (λ r. r ≡ 14 → ⊥) l
+    not-full g = record { each = λ s at r e z. omega (arith, known r (g .each s at r e) .1) }
+
+-- The bytes of each stored row's record, from its offset to its end.
+pub row-bytes : (s : List ℕ) (R F i : ℕ) (l : i < row-count (reading s R F .rows))
+    → let x = reading-traced s R F .each i l in RowBytes (reading s R F .rows) i (x .before .at) (x .end)
+row-bytes s R F i l =
+    let rows : List ℕ = reading s R F .rows in
+    let x = reading-traced s R F .each i l in
+    let st : State = x .before in
+    let w = takes-header .each s 0 (reading s R F .facts) (x .start) (x .opens) in
+    let b = entry-bytes (reading s R F .facts) (st .context .address) (st .context .cache) (length (st .refs)) s (st .at) (row-of rows i) (x .list) (x .note) (x .context) (x .end) (x .gives) (w .2 .1) in
+    record {
+      least = rw (number-in rows i 6 (omega arith)) (b .least);
+      most = rw (number-in rows i 6 (omega arith), number-in rows i 10 (omega arith)) (b .most);
+    }
+
+-- ---- the bounds are met
+
+-- the end of what was read
+abbrev end-of : {A : Type 0} → Outcome A → ℕ
+end-of (whole a e) = e
+end-of (stops w) = 0
+
+-- A header of 31 bytes, a short object of two, and an object array of 34: a long gap, a class word of 64 bits and an int hash.
+abbrev small-header : List ℕ
+small-header = 0x00 ∷ 0x12 ∷ opening ++ 0x00 ∷ 0x00 ∷ 0x00 ∷ 0x06 ∷ 0x00 ∷ 0x00 ∷ 0x00 ∷ 0x01 ∷ 0x01 ∷ 0x02 ∷ 0x02 ∷ []
+
+abbrev small-object : List ℕ
+small-object = 0x80 ∷ 0x04 ∷ []
+
+abbrev large-array : List ℕ
+large-array =
+    0x08 ∷ 0xC2 ∷ 0x00 ∷ 0x00 ∷ 0x00 ∷ 0x00 ∷ 0x00 ∷ 0x00 ∷ 0x04 ∷ 0x00 ∷ 0x00 ∷ 0x00 ∷ 0x00 ∷ 0x00 ∷ 0x00 ∷ 0x00 ∷ 0x10 ∷ 0x00
+    ∷ 0x12 ∷ 0x34 ∷ 0x56 ∷ 0x78 ∷ 0x00 ∷ 0x00 ∷ 0x00 ∷ 0x00 ∷ 0x00 ∷ 0x00 ∷ 0x00 ∷ 0x06 ∷ 0x00 ∷ 0x00 ∷ 0x00 ∷ 0x03 ∷ []
+
+abbrev in-64 : Facts
+in-64 = record { word = 64; hashed = false; openj9 = false; vm = no-text }
+
+pub bounds-met : (end-of (run header small-header 0) ≡ 31) × (end-of (run (entry in-64 0x1000 (put empty 0x1000) 0) small-object 0) ≡ 2)
+    × (end-of (run (entry in-64 0 empty 0) large-array 0) ≡ 34)
+unfolding computing
+bounds-met = (refl, refl, refl)
