@@ -1,10 +1,10 @@
--- Put (the bytes of numbers, gaps and references, and the least widths that hold them), Widths (laws of those widths), Fits (what was
+-- Put (the bytes of numbers, gaps and references, and the least widths that hold them), Widths (laws of those widths), ReadFits (what was
 -- read from a field fits it), Bytes (numbers read back from their bytes), Reads (what was put is read), Back (so for addresses,
 -- references, counts and strings), Stores (storing one list after another), Puts (a function wrote bytes at an offset) and Partly
 -- (bytes written in several parts).
 pub mod Put
 pub mod Widths
-pub mod Fits
+pub mod ReadFits
 pub mod Bytes
 pub mod Reads
 pub mod Back

@@ -78,6 +78,23 @@ class-bits false (suc zero) q f a n e = absurd (n refl)
 class-bits false (suc (suc zero)) q f a n e = rw (bit-yes 8 f (omega arith)) (record { clear = refl; kind = refl })
 class-bits false (suc (suc (suc k))) q f a n e = absurd (omega (arith, a .below refl))
 
+pub hash-flags-lt : (k : ℕ) → hash-flags k < 16
+unfolding hash-flags
+hash-flags-lt k = by (eqb k 2) (eqb k 1)
+  where
+    by : (a b : Bool) → pick a 3 (pick b 1 0) < 16
+    by true b = lit< tt
+    by false true = lit< tt
+    by false false = lit< tt
+
+pub class-flags-lt : (k : ℕ) → class-flags k < 16
+unfolding class-flags
+class-flags-lt k = by (eqb k 2)
+  where
+    by : (a : Bool) → pick a 8 0 < 16
+    by true = lit< tt
+    by false = lit< tt
+
 -- ---- tags and flag bytes, as numbers
 
 pub short-tag : (s n g c : ℕ) → s < 4 → n ≤ 3 → g < 2 → c < 4 → let t = 0x80 + 0x20 * s + 0x08 * n + 0x04 * g + c in

@@ -14,11 +14,11 @@ use Rattle.phd.specs.declared.Form.{Form}
 use Rattle.phd.specs.declared.Form.the-variants.{Short, Medium, Long, Class, ObjectArray, Primitive, LongPrimitive}
 use Rattle.table.specs.declared.Row.{Row}
 use Rattle.phd_form.specs.Form.{Bounded, flagged, object-form, form-of, tag-of, hash-flags, class-flags, flags-of, planned}
-use Rattle.phd_form.specs.Least.{hash-flags-lt, class-flags-lt, CanHold, overhead, object-held}
+use Rattle.phd_form.specs.LeastChoice.{CanHold, overhead, object-held}
 use Rattle.phd_form.specs.declared.Measure.{Measure}
 use Rattle.phd_form.specs.declared.Plan.{Plan}
 use Rattle.phd_put.specs.Record.{sized}
-use Rattle.phd_put.specs.Bits.{short-tag, medium-tag, primitive-tag, long-flags, array-flags}
+use Rattle.phd_put.specs.Bits.{hash-flags-lt, class-flags-lt, short-tag, medium-tag, primitive-tag, long-flags, array-flags}
 use Rattle.phd_put.specs.declared.sizes.Sized.{Sized}
 
 abbrev pub made : ℕ → Bool → Sized

@@ -23,7 +23,7 @@ use Rattle.phd_read.specs.Lawful.{lawful, always}
 use Rattle.phd_read.specs.Offsets.{TagAt, reading-traced, reading-tagged}
 use Rattle.phd_read.specs.Replies.{reading-answers}
 use Rattle.phd_read.specs.Counts.{counts}
-use Rattle.phd_read.specs.Bounds.{rows-most, refs-most, RowBytes, reading-bounded, rows-enough, refs-enough, row-bytes}
+use Rattle.phd_read.specs.RecordBytes.{rows-most, refs-most, RowBytes, together-most, rows-enough, refs-enough, row-bytes}
 
 -- ---- demand 1, of reading
 
@@ -123,16 +123,16 @@ one-by-one s R F i l k = next-behind phd _ s (capacity R F) always _ _ i k (came
 -- ---- how much a dump of a given length can give
 
 -- What holds of a reading of the bytes s, whatever its tables are.
-pub record Bounded (s : List ℕ) (r : Result) : Type 0 where
+pub record MostStored (s : List ℕ) (r : Result) : Type 0 where
   -- it stores no more rows, and no more references, than (n - 31) / 2 and n - 31, of n bytes
   pub rows : answer r .rows ≤ rows-most (length s)
   pub refs : answer r .refs ≤ refs-most (length s)
   -- nor so many of both: the header has 31 bytes at least, a row's record two, and a reference one
   pub together : answer r .rows * 2 + answer r .refs ≤ length s - 31
 
-pub bounded : (s : List ℕ) (R F : ℕ) → Bounded s (reading s R F)
+pub most-stored : (s : List ℕ) (R F : ℕ) → MostStored s (reading s R F)
 unfolding answer
-bounded s R F = let b = reading-bounded s R F in record { rows = omega (arith, b); refs = omega (arith, b); together = b }
+most-stored s R F = let b = together-most s R F in record { rows = omega (arith, b); refs = omega (arith, b); together = b }
 
 -- A table with a row for so many rows is never too small for a row, and one with a number for so many references never for references:
 -- neither 13 nor 14 comes.

@@ -22,8 +22,7 @@ use Rattle.phd_put.specs.Bounds.{Wide}
 use Rattle.phd_round_trip.specs.Fit.{given, Says, Sound}
 use Rattle.phd_round_trip.specs.Formed.{absent, present, given-all, width-some, nothing-in, len-small, Formed}
 use Rattle.phd_round_trip.specs.Objects.{sound-of, kinds, gap8, no-name}
-use Rattle.phd_form.specs.Least.{hash-flags-lt}
-use Rattle.phd_put.specs.Bits.{true-false, no-bits, low-bits, primitive-tag, array-flags}
+use Rattle.phd_put.specs.Bits.{true-false, no-bits, low-bits, hash-flags-lt, primitive-tag, array-flags}
 
 -- A good record r after one at `before`, with the cache c.
 module _ (h : Facts) (c : Cache) (before index : ℕ) (r : Rec)

@@ -25,8 +25,7 @@ use Rattle.phd_form.specs.Form.{measure, flagged, tag-of, hash-flags, class-fla
 use Rattle.phd_put.specs.Bounds.{Wide}
 use Rattle.phd_round_trip.specs.Fit.{given, Refs, Named, unnamed, Says, Sound}
 use Rattle.phd_round_trip.specs.Formed.{Opt, absent, present, given-all, there-given, width-some, nothing-in, refs-fit, good-refs, counts, Formed, fit-of}
-use Rattle.phd_form.specs.Least.{hash-flags-lt, class-flags-lt}
-use Rattle.phd_put.specs.Bits.{Bits, Kinds, true-false, no-bits, low-bits, class-bits, short-tag, medium-tag, long-flags, slot-back}
+use Rattle.phd_put.specs.Bits.{Bits, Kinds, true-false, no-bits, low-bits, class-bits, hash-flags-lt, class-flags-lt, short-tag, medium-tag, long-flags, slot-back}
 
 -- A good record r after one at `before`, with the cache c.
 module _ (h : Facts) (c : Cache) (before index : ℕ) (r : Rec)

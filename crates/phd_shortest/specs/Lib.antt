@@ -1,8 +1,8 @@
--- In reading order: Terms (what the promise speaks of) and Promises (each record of a written dump is the shortest).
--- The rest is for proofs: Least (the writer's plan has the fewest bytes that a record the same can have), One (so of one record) and
--- Reached (what a reading of a written dump finds before and at each record).
-pub mod Terms
-pub mod Promises
-pub mod Least
-pub mod One
+-- In reading order: ReadAs (what the theorem speaks of) and Shortest (each record of a written dump is the shortest).
+-- The rest is for proofs: LeastPlan (the writer's plan has the fewest bytes that a record the same can have), OneRecord (so of the bytes
+-- of one record) and Reached (what a reading of a written dump finds at each record).
+pub mod ReadAs
+pub mod Shortest
+pub mod LeastPlan
+pub mod OneRecord
 pub mod Reached

@@ -16,7 +16,7 @@ use Rattle.layout.specs.Takes.{Takes, takes-yield, takes-then, takes-by, takes-
 use Rattle.table.specs.Table.{row-count}
 use Rattle.reading.specs.Reading.{limit, Capacity, capacity, _⊑_, Item, over, item, Format, ended, settle, step, records, first, opened, reading}
 use Rattle.reading.specs.Steps.{Rowed, rowless, rowed, Lawful, byte-forth}
-use Rattle.reading.specs.Bounds.{Least, reading-bounded}
+use Rattle.reading.specs.DumpBounds.{LeastBytes, most-stored}
 use Rattle.reading.specs.Cut.{Agree, cuts-agree}
 use Rattle.reading.specs.Missing.{reading-completes}
 use Rattle.reading.specs.Offsets.{offset-of, Traced, reading-traced, ends-before}
@@ -95,7 +95,7 @@ takes-bytes letter count at =
     takes-then _ _ _ (takes-field 1) (λ n k e. takes-by (eqb n 0) _ _ (λ _. takes-yield over tt)
     (λ _. takes-then _ _ _ (takes-raw n) (λ b l f. takes-yield _ (omega (arith, e .0, f .0, f .1, one-row letter count n (getD b 0 0) at)))))
 
-pub least : Least toy 1 1
+pub least : LeastBytes toy 1 1
 least = record {
   header = λ s letter n e. let x = takes-exactly 1 0x54 3 .each s 0 letter n e in omega (arith, x .1, x .2);
   entry = λ letter count _ s at r rs m k e f.
@@ -120,8 +120,8 @@ pub apart : (s : List ℕ) (A : Capacity) (i j : ℕ) (l : i < j) (b : j < row-c
 apart s A i j l b = ends-before toy (reading toy s A .facts) s A lawful _ _ i j l b (came-from s A .each i (omega arith)) (came-from s A .each j b)
 
 -- a dump of n bytes gives at most n - 1 rows and references together
-pub bounded : (s : List ℕ) (A : Capacity) → row-count (reading toy s A .rows) * 1 + length (reading toy s A .refs) ≤ length s - 1
-bounded = reading-bounded toy lawful 1 1 least
+pub stores : (s : List ℕ) (A : Capacity) → row-count (reading toy s A .rows) * 1 + length (reading toy s A .refs) ≤ length s - 1
+stores = most-stored toy lawful 1 1 least
 
 -- what makes a cut dump whole goes as far as is missing
 pub completes : (s t : List ℕ) (A A′ : Capacity) → length (s ++ t) ≤ limit → A ⊑ A′ → reading toy s A .reply ≡ 1

@@ -14,7 +14,7 @@ use Rattle.layout.specs.Numbers.{pick}
 use Rattle.layout.specs.Takes.{Away, Counted}
 use Rattle.layout.specs.declared.Maybe.the-variants.{Just}
 use Rattle.layout_put.specs.Widths.{AllFit}
-use Rattle.layout_put.specs.Fits.{away-fits, counted-fits}
+use Rattle.layout_put.specs.ReadFits.{away-fits, counted-fits}
 use Rattle.table.specs.Rows.{Rec}
 use Rattle.phd.specs.Phd.{highest, width, bit, tagged, known-class, moved-bit, hashed-bit, hash-kind, shape}
 use Rattle.phd.specs.Shapes.{Word, width-grows, record-bytes}
@@ -25,7 +25,7 @@ use Rattle.phd.specs.declared.Form.the-variants.{Short, Medium, Long, Class, Ob
 use Rattle.phd.specs.declared.Tagged.the-variants.{Begins, Other}
 use Rattle.phd_rows.specs.Kept.{Good}
 use Rattle.phd_form.specs.Form.{slot-of, measure, Bounded, flagged, planned}
-use Rattle.phd_form.specs.Least.{gap-least, link-least, pair-least, CanHold, overhead, object-least}
+use Rattle.phd_form.specs.LeastChoice.{gap-least, link-least, pair-least, CanHold, overhead, object-least}
 use Rattle.phd_form.specs.declared.Measure.{Measure}
 use Rattle.phd_put.specs.Record.{plan-of, size-of, sized}
 use Rattle.phd_put.specs.Bits.{slot-found}

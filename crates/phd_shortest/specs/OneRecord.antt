@@ -14,8 +14,8 @@ use Rattle.phd_put.specs.Record.{plan-of, put-record}
 use Rattle.phd_put.specs.Sizes.{length-planned}
 use Rattle.phd_read.specs.LaidOut.{LaidOut, laid-out}
 use Rattle.phd_round_trip.specs.Back.{name-place, row-back, name-back}
-use Rattle.phd_shortest.specs.Terms.{read-rec, ReadAs}
-use Rattle.phd_shortest.specs.Least.{plan-least}
+use Rattle.phd_shortest.specs.ReadAs.{read-rec, ReadAs}
+use Rattle.phd_shortest.specs.LeastPlan.{plan-least}
 
 -- numbers whose name is at a place are those of the record
 same-numbers : (s : List ℕ) (place offset : ℕ) (r : Rec) → r .row .place ≡ 0 → take (r .row .namelen) (drop place s) ≡ r .name

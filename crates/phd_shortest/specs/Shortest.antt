@@ -1,6 +1,6 @@
 -- The promise: each record of a dump that was written is the shortest. With the same header, previous address and cache, no shorter run
 -- of bytes is read as one record the same as that row. Nothing is claimed of a whole dump.
--- A reader must believe the statement, and Terms. Assumes nothing.
+-- A reader must believe the statement, and ReadAs. Assumes nothing.
 use mathlib.Core.Path.{_≡_, refl, sym, ap, _∙_}
 use Prim.Native.Nat.{ℕ, _+_, _-_, _*_, _≤_, _<_}
 use native.Mathlib.Omega.{arith}
@@ -26,8 +26,8 @@ use Rattle.phd_round_trip.specs.HeaderBack.{written-facts}
 use Rattle.phd_round_trip.specs.Whole.{GoodDump, dump-is, full, good}
 use Rattle.phd_round_trip.specs.Good.{good-dump, rows-enough}
 use Rattle.phd_round_trip.specs.Back.{row-back}
-use Rattle.phd_shortest.specs.Terms.{ReadAs, ShortestAt}
-use Rattle.phd_shortest.specs.One.{same-back, bytes-least}
+use Rattle.phd_shortest.specs.ReadAs.{ReadAs, ShortestAt}
+use Rattle.phd_shortest.specs.OneRecord.{same-back, bytes-least}
 use Rattle.phd_shortest.specs.Reached.{Ahead, bytes, following, split, finds, reached, some-left, nth-rec}
 
 -- ---- a record that a reading found where the written record r comes next

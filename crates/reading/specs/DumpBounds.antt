@@ -1,6 +1,6 @@
 -- The length of a dump bounds the rows and references that any reading of it stores, of any format; and tables of that capacity are
 -- never too small.
--- A reader must believe `Least`, what a format shows of its bytes, and the statements.
+-- A reader must believe `LeastBytes`, what a format shows of its bytes, and the statements.
 use mathlib.Core.Path.{_≡_, refl}
 use Prim.Native.Nat.{ℕ, _+_, _-_, _*_, _/_, _%_, _≤_, _<_}
 use native.Mathlib.Nat.{add-mul, le-div-iff-mul-le}
@@ -17,7 +17,7 @@ use Rattle.reading.specs.Steps.{Lawful, Either, step-end, step-stop, ste
 use Rattle.reading.specs.Capacity.{whole-on, stop-reply}
 
 -- The header has `opening` bytes at least, and a record `each` for its row, if it has one, and one for each of its references.
-pub record Least (D : Format) (opening each : ℕ) : Type 0 where
+pub record LeastBytes (D : Format) (opening each : ℕ) : Type 0 where
   pub header : (s : List ℕ) (h : D .Facts) (n : ℕ) → run (D .header) s 0 ≡ whole h n → opening ≤ n
   pub entry : (h : D .Facts) (c : D .Context) (index : ℕ) (s : List ℕ) (at : ℕ) (r rs : List ℕ) (m : D .Note) (k : D .Context) (e : ℕ)
       → run (D .entry h c index) s at ≡ whole (item r rs m k) e → at + (row-count r * each + length rs) ≤ e
@@ -27,23 +27,23 @@ rows-more : (rows r : List ℕ) → length rows % row-width ≡ 0 → row-count 
 unfolding row-count
 rows-more rows r w = simp length-append (omega arith)
 
-module _ (D : Format) (lawful : Lawful D) (opening each : ℕ) (least : Least D opening each) (s : List ℕ) (A : Capacity) where
+module _ (D : Format) (lawful : Lawful D) (opening each : ℕ) (least : LeastBytes D opening each) (s : List ℕ) (A : Capacity) where
   -- between records: what the tables hold has its bytes before the place reached
-  record Bounded (st : State D) : Type 0 where
+  record BytesBefore (st : State D) : Type 0 where
     pub whole-rows : length (st .rows) % row-width ≡ 0
     pub bytes : opening + (row-count (st .rows) * each + length (st .refs)) ≤ st .at
     pub within : st .at ≤ length s
 
-  begun : (h : D .Facts) (n : ℕ) → run (D .header) s 0 ≡ whole h n → Bounded (first D (D .start h) n)
+  begun : (h : D .Facts) (n : ℕ) → run (D .header) s 0 ≡ whole h n → BytesBefore (first D (D .start h) n)
   unfolding first row-count
   begun h n e =
       let l = least .header s h n e in
       record { whole-rows = refl; bytes = omega arith; within = inside (D .header) s 0 h n (omega arith) e }
 
   -- a record more
-  module _ (h : D .Facts) (st : State D) (g : Bounded st) (r rs : List ℕ) (m : D .Note) (c : D .Context) (n : ℕ)
+  module _ (h : D .Facts) (st : State D) (g : BytesBefore st) (r rs : List ℕ) (m : D .Note) (c : D .Context) (n : ℕ)
       (e : found D h s st ≡ whole (item r rs m c) n) where
-    going-on : Bounded (onto st r rs c n)
+    going-on : BytesBefore (onto st r rs c n)
     going-on =
         let l = least .entry h (st .context) (length (st .refs)) s (st .at) r rs m c n e in
         let p = lawful .forth h (st .context) (length (st .refs)) s (st .at) _ n e in
@@ -56,16 +56,16 @@ module _ (D : Format) (lawful : Lawful D) (opening each : ℕ) (least : Least D 
         }
 
   -- What a reading stores has its bytes in the dump, after the header's.
-  pub reading-bounded : row-count (reading D s A .rows) * each + length (reading D s A .refs) ≤ length s - opening
+  pub most-stored : row-count (reading D s A .rows) * each + length (reading D s A .refs) ≤ length s - opening
   unfolding ended nothing row-count
-  reading-bounded =
-      reading-holds D s A (λ h st. Bounded st) (λ r. row-count (r .rows) * each + length (r .refs) ≤ length s - opening)
+  most-stored =
+      reading-holds D s A (λ h st. BytesBefore st) (λ r. row-count (r .rows) * each + length (r .refs) ≤ length s - opening)
       (omega arith) (λ w e. omega arith) begun
-      (λ h st g. step-by D (Either Bounded (λ r. row-count (r .rows) * each + length (r .refs) ≤ length s - opening)) h s A st
+      (λ h st g. step-by D (Either BytesBefore (λ r. row-count (r .rows) * each + length (r .refs) ≤ length s - opening)) h s A st
       (λ n e. held st g) (λ r rs m c n e p q. going-on h st g r rs m c n e) (held st g) (held st g) (λ w e. held st g))
       (λ h st g. held st g)
     where
-      held : (st : State D) → Bounded st → row-count (st .rows) * each + length (st .refs) ≤ length s - opening
+      held : (st : State D) → BytesBefore st → row-count (st .rows) * each + length (st .refs) ≤ length s - opening
       held st g = omega (arith, g .bytes, g .within)
 
   -- ---- enough capacity
@@ -77,7 +77,7 @@ module _ (D : Format) (lawful : Lawful D) (opening each : ℕ) (least : Least D 
   abbrev pub RefsEnough : Type 0
   RefsEnough = length s - opening ≤ A .refs
 
-  module _ (some : 0 < each) (st : State D) (g : Bounded st) where
+  module _ (some : 0 < each) (st : State D) (g : BytesBefore st) where
     -- whole rows, and references, with their bytes in the dump fit
     rows-fit : RowsEnough → length (st .rows) ≤ A .rows
     unfolding row-count
@@ -93,11 +93,11 @@ module _ (D : Format) (lawful : Lawful D) (opening each : ℕ) (least : Least D 
   module _ (some : 0 < each) (P : ℕ → Type 0) (done : P 0) (cut : P 1) (long : P 2) (head : Refuses P (D .header))
       (body : (h : D .Facts) (c : D .Context) (index : ℕ) → Refuses P (D .entry h c index)) (rows : RowsEnough ⊎ P 13) (refs : RefsEnough ⊎ P 14) where
     abbrev Goes : Next D → Type 0
-    Goes = Either Bounded (λ r. P (r .reply))
+    Goes = Either BytesBefore (λ r. P (r .reply))
 
-    module _ (h : D .Facts) (st : State D) (g : Bounded st) (r rs : List ℕ) (m : D .Note) (c : D .Context) (n : ℕ)
+    module _ (h : D .Facts) (st : State D) (g : BytesBefore st) (r rs : List ℕ) (m : D .Note) (c : D .Context) (n : ℕ)
         (e : found D h s st ≡ whole (item r rs m c) n) where
-      on : Bounded (onto st r rs c n)
+      on : BytesBefore (onto st r rs c n)
       on = going-on h st g r rs m c n e
 
       by-rows : A .rows < length (st .rows) + length r → RowsEnough ⊎ P 13 → Goes (step D h s A st)
@@ -119,7 +119,7 @@ module _ (D : Format) (lawful : Lawful D) (opening each : ℕ) (least : Least D 
         ]
       ]
 
-    by-found : (h : D .Facts) (st : State D) (g : Bounded st) (o : Outcome (ItemOf D)) → found D h s st ≡ o → Goes (step D h s A st)
+    by-found : (h : D .Facts) (st : State D) (g : BytesBefore st) (o : Outcome (ItemOf D)) → found D h s st ≡ o → Goes (step D h s A st)
     unfolding ended
     by-found h st g (whole over n) e = rw (step-end D h s A st n e) done
     by-found h st g (whole (item r rs m c) n) e = by-item h st g r rs m c n e
@@ -128,6 +128,6 @@ module _ (D : Format) (lawful : Lawful D) (opening each : ℕ) (least : Least D 
     pub never-full : P (reading D s A .reply)
     unfolding ended nothing
     never-full =
-        reading-holds D s A (λ h st. Bounded st) (λ r. P (r .reply)) long (λ w e. stop-reply (D .header) cut head s 0 w e) begun
+        reading-holds D s A (λ h st. BytesBefore st) (λ r. P (r .reply)) long (λ w e. stop-reply (D .header) cut head s 0 w e) begun
         (λ h st g. by-found h st g (found D h s st) refl)
         (λ h st g. done)

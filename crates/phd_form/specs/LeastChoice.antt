@@ -1,12 +1,12 @@
--- The writer's choice is the least: each width code is the least that holds what it is for, an object goes in the shortest of the forms
--- that can hold it, and a long primitive array has bytes where bytes do.
+-- The writer's choice is the least: each width code is the least that holds what it is for, and an object goes in the shortest of the
+-- forms that can hold it.
 -- A reader must believe `CanHold` and `overhead`.
 use mathlib.Core.Path.{_≡_, refl}
-use Prim.Native.Nat.{ℕ, _+_, _*_, _/_, _%_, _^_, _≤_, _<_}
+use Prim.Native.Nat.{ℕ, _+_, _^_, _≤_, _<_}
 use native.Mathlib.Omega.{arith}
 use mathlib.Core.Bool.{Bool, true, false}
 use mathlib.Core.List.{List}
-use lib.Dec.{leb, ltb, eqb, lit<}
+use lib.Dec.{leb, ltb}
 use lib.IntN.{pos}
 use borrow.Author.Tests.{le-leb, lt-ltb, leb-true, ltb-true}
 use Rattle.layout.specs.Numbers.{pick, both}
@@ -14,11 +14,10 @@ use Rattle.layout.specs.Values.{both-left, both-right}
 use Rattle.layout_put.specs.Put.{gap, fits, code}
 use Rattle.layout_put.specs.Widths.{AllFit, code-least, most-le, widest-least}
 use Rattle.table.specs.declared.Row.{Row}
-use Rattle.phd.specs.Phd.{bit}
 use Rattle.phd.specs.declared.classes.Cache.{Cache}
 use Rattle.phd.specs.declared.Form.{Form}
 use Rattle.phd.specs.declared.Form.the-variants.{Short, Medium, Long, Class, ObjectArray, Primitive, LongPrimitive}
-use Rattle.phd_form.specs.Form.{measure, flagged, object-form, hash-flags, class-flags, flags-of}
+use Rattle.phd_form.specs.Form.{measure, flagged, object-form}
 use Rattle.phd_form.specs.declared.Measure.{Measure}
 
 -- ---- widths
@@ -37,33 +36,6 @@ module _ (c : Cache) (before : ℕ) (r : Row) (refs : List ℕ) where
   unfolding measure
   pair-least k p q =
       omega (arith, most-le (code (gap before (r .address))) (code (pos (r .len))) k (code-least _ k p) (code-least _ k q))
-
--- ---- flag bytes
-
--- the hash bits are below 16
-pub hash-flags-lt : (k : ℕ) → hash-flags k < 16
-unfolding hash-flags
-hash-flags-lt k = by (eqb k 2) (eqb k 1)
-  where
-    by : (a b : Bool) → pick a 3 (pick b 1 0) < 16
-    by true b = lit< tt
-    by false true = lit< tt
-    by false false = lit< tt
-
-pub class-flags-lt : (k : ℕ) → class-flags k < 16
-unfolding class-flags
-class-flags-lt k = by (eqb k 2)
-  where
-    by : (a : Bool) → pick a 8 0 < 16
-    by true = lit< tt
-    by false = lit< tt
-
--- a long primitive array whose gap and length fit bytes does not have words
-pub bytes-least : (m : Measure) → m .pair ≡ 0 → bit 0x10 (flags-of LongPrimitive m) ≡ false
-unfolding bit flags-of
-bytes-least m z =
-    let e : (0x20 * m .prim + 0x10 * 0 + hash-flags (m .hashkind)) / 0x10 % 2 ≡ 0 = omega (arith, hash-flags-lt (m .hashkind)) in
-    rw (z, e)
 
 -- ---- the form of an object
 

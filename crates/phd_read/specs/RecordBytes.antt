@@ -4,7 +4,7 @@ use mathlib.Core.Path.{_≡_, refl}
 use Prim.Native.Nat.{ℕ, _+_, _-_, _*_, _/_, _≤_, _<_}
 use native.Mathlib.Omega.{arith}
 use mathlib.Core.Bool.{Bool, true, false}
-use mathlib.Core.Logic.{inl, inr}
+use mathlib.Core.Logic.{_⊎_, inl, inr}
 use mathlib.Core.List.{List, [], _∷_, _++_}
 use lib.ListN.{length}
 use lib.Dec.{eqb, lit<}
@@ -21,9 +21,9 @@ use Rattle.phd.specs.Shapes.{Word, record-least, record-most}
 use Rattle.phd.specs.declared.classes.Cache.{Cache}
 use Rattle.phd.specs.declared.Facts.{Facts}
 use Rattle.phd.specs.declared.Span.{Span}
-use Rattle.reading.specs.Bounds.{Least}
-use Rattle.reading.specs.Bounds as Any
-use Rattle.phd_read.specs.LaidOut.{read-row, laid-out}
+use Rattle.reading.specs.DumpBounds.{LeastBytes}
+use Rattle.reading.specs.DumpBounds as Any
+use Rattle.phd_read.specs.LaidOut.{LaidOut, read-row, laid-out}
 use Rattle.phd_read.specs.Lawful.{lawful, always}
 use Rattle.phd_read.specs.Offsets.{reading-traced}
 use Rattle.phd_read.specs.Replies.{Fine, known, header-fine, entry-fine}
@@ -64,38 +64,41 @@ takes-header =
 -- ---- a record
 
 -- The bytes of a record with the row number i, from one offset up to another: two at least and one for each reference; and at most 34,
--- those of its name, and eight for each reference.
+-- those of its name, and eight for each reference. (A row's number 6 is its count of references, 10 the length of its name.)
 pub record RowBytes (rows : List ℕ) (i : ℕ) (offset end : ℕ) : Type 0 where
   pub least : offset + 2 + number rows i 6 ≤ end
   pub most : end ≤ offset + 34 + number rows i 10 + number rows i 6 * 8
 
 module _ (h : Facts) (before : ℕ) (c : Cache) (index : ℕ) (s : List ℕ) (at : ℕ) (r rs : List ℕ) (sp : Span) (k : Before) (e : ℕ)
     (g : run (entry h before c index) s at ≡ whole (item r rs sp k) e) where
-  pub entry-bytes : Word (h .word) → RowBytes r 0 at e
+  laid : (n : ℕ) × (e ≡ at + n) × LaidOut h before c (read-row r) rs n
+  laid = laid-out h before c index s at r rs sp k e g
+
+  two-least : at + 2 + read-row r .count ≤ e
+  two-least =
+      let l = laid .2 in
+      omega (arith, laid .1, l .bytes, record-least (h .word / 8) (l .form) (l .tag) (l .flags) (read-row r) (l .fits .count))
+
+  entry-bytes : Word (h .word) → RowBytes r 0 at e
   unfolding bare row-at
   entry-bytes w =
-      let x = laid-out h before c index s at r rs sp k e g in
-      let l = x .2 in
-      let a = record-least (h .word / 8) (l .form) (l .tag) (l .flags) (read-row r) (l .fits .count) in
+      let l = laid .2 in
       let b = record-most (h .word / 8) (l .form) (l .tag) (l .flags) (read-row r) (narrow w) in
-      record { least = omega (arith, x .1, l .bytes, a); most = omega (arith, x .1, l .bytes, b) }
+      record { least = two-least; most = omega (arith, laid .1, l .bytes, b) }
     where
       narrow : Word (h .word) → h .word / 8 ≤ 8
       narrow (inl e) = rw e (omega arith)
       narrow (inr e) = rw e (omega arith)
 
   entry-least : at + (row-count r * 2 + length rs) ≤ e
-  unfolding bare row-at row-count
+  unfolding row-count
   entry-least =
-      let x = laid-out h before c index s at r rs sp k e g in
-      let l = x .2 in
-      let a = record-least (h .word / 8) (l .form) (l .tag) (l .flags) (read-row r) (l .fits .count) in
       let n : length r ≡ row-width = always h (record { address = before; cache = c }) index s at r rs sp k e g in
-      omega (arith, x .1, l .bytes, a, l .fits .refs-count, n)
+      omega (arith, two-least, laid .2 .fits .refs-count, n)
 
 -- ---- a reading
 
-least : Least phd 31 2
+least : LeastBytes phd 31 2
 least = record {
   header = λ s h n e. let x = takes-header .each s 0 h n e in omega (arith, x .1, x .2 .0);
   entry = λ h c index s at r rs m k e g. entry-least h (c .address) (c .cache) index s at r rs m k e g;
@@ -109,25 +112,25 @@ abbrev pub refs-most : ℕ → ℕ
 refs-most n = n - 31
 
 -- What a reading stores has its bytes after the header: two for each row, and one for each reference.
-pub reading-bounded : (s : List ℕ) (R F : ℕ) → row-count (reading s R F .rows) * 2 + length (reading s R F .refs) ≤ length s - 31
-reading-bounded s R F = Any.reading-bounded phd lawful 31 2 least s (capacity R F)
+pub together-most : (s : List ℕ) (R F : ℕ) → row-count (reading s R F .rows) * 2 + length (reading s R F .refs) ≤ length s - 31
+together-most s R F = Any.most-stored phd lawful 31 2 least s (capacity R F)
+
+-- A reply above 12 comes for want of capacity alone.
+module _ (s : List ℕ) (R F n : ℕ) (above : 12 < n) where
+  not-refused : {A : Type 0} {l : Layout A} → Fine l → Refuses (λ r. r ≡ n → ⊥) l
+  not-refused g = record { each = λ s at r e z. omega (arith, known r (g .each s at r e) .1) }
+
+  never : (rows-most (length s) * row-width ≤ R) ⊎ (13 ≡ n → ⊥) → (refs-most (length s) ≤ F) ⊎ (14 ≡ n → ⊥) → reading s R F .reply ≡ n → ⊥
+  never p q =
+      Any.never-full phd lawful 31 2 least s (capacity R F) (lit< tt) (λ r. r ≡ n → ⊥) (λ e. omega arith) (λ e. omega arith) (λ e. omega arith)
+      (not-refused header-fine) (λ h c index. not-refused (entry-fine h (c .address) (c .cache) index)) p q
 
 -- A table with a row for so many, or a number for so many references, is never too small.
 pub rows-enough : (s : List ℕ) (R F : ℕ) → rows-most (length s) * row-width ≤ R → reading s R F .reply ≡ 13 → ⊥
-rows-enough s R F l =
-    Any.never-full phd lawful 31 2 least s (capacity R F) (lit< tt) (λ r. r ≡ 13 → ⊥) (λ e. omega arith) (λ e. omega arith) (λ e. omega arith)
-    (not-full header-fine) (λ h c index. not-full (entry-fine h (c .address) (c .cache) index)) (inl l) (inr (λ e. omega arith))
-  where
-    not-full : {A : Type 0} {l : Layout A} → Fine l → Refuses (λ r. r ≡ 13 → ⊥) l
-    not-full g = record { each = λ s at r e z. omega (arith, known r (g .each s at r e) .1) }
+rows-enough s R F l = never s R F 13 (lit< tt) (inl l) (inr (λ e. omega arith))
 
 pub refs-enough : (s : List ℕ) (R F : ℕ) → refs-most (length s) ≤ F → reading s R F .reply ≡ 14 → ⊥
-refs-enough s R F l =
-    Any.never-full phd lawful 31 2 least s (capacity R F) (lit< tt) (λ r. r ≡ 14 → ⊥) (λ e. omega arith) (λ e. omega arith) (λ e. omega arith)
-    (not-full header-fine) (λ h c index. not-full (entry-fine h (c .address) (c .cache) index)) (inr (λ e. omega arith)) (inl l)
-  where
-    not-full : {A : Type 0} {l : Layout A} → Fine l → Refuses (λ r. r ≡ 14 → ⊥) l
-    not-full g = record { each = λ s at r e z. omega (arith, known r (g .each s at r e) .1) }
+refs-enough s R F l = never s R F 14 (lit< tt) (inr (λ e. omega arith)) (inl l)
 
 -- The bytes of each stored row's record, from its offset to its end.
 pub row-bytes : (s : List ℕ) (R F i : ℕ) (l : i < row-count (reading s R F .rows))
