@@ -30,10 +30,15 @@ fn line(call: &str, reply: u64, facts: &library::Facts) -> String {
 
 /// What the C program must print of a dump.
 fn expected(dump: &[u8]) -> String {
+    let mut said = String::new();
+    for size in (30..36).chain([dump.len()]) {
+        let (rows, refs) = (library::most_rows(size), library::most_references(size));
+        said += &format!("most of {size}: {rows} {refs}\n");
+    }
     let (mut rows, mut refs) = (vec![0; 1 << 16], vec![0; 1 << 16]);
     let mut facts = [0; 16];
     let reply = library::read(dump, &mut rows, &mut refs, &mut facts);
-    let mut said = line("read", reply, &facts);
+    said += &line("read", reply, &facts);
     let header: library::Header = facts[4..10].try_into().expect("six numbers");
     let rows = &rows[..facts[2] as usize * library::ROW];
     let refs = &refs[..facts[3] as usize];
@@ -67,7 +72,13 @@ fn a_c_program_gets_the_same() {
             .expect("the C program runs");
         let said = String::from_utf8(output.stdout).expect("a text is ASCII");
         assert!(
-            said.starts_with(&format!("read {reply} {reply} ")),
+            said.contains(&format!("\nread {reply} {reply} ")),
+            "{name}: {said}"
+        );
+        assert!(
+            said.starts_with(
+                "most of 30: 0 0\nmost of 31: 0 0\nmost of 32: 0 1\nmost of 33: 1 2\n"
+            ),
             "{name}: {said}"
         );
         assert!(said.contains("// EOF:  Total"), "{name}: {said}");

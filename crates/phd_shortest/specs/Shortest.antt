@@ -1,17 +1,17 @@
 -- The promise: each record of a dump that was written is the shortest. With the same header, previous address and cache, no shorter run
 -- of bytes is read as one record the same as that row. Nothing is claimed of a whole dump.
 -- A reader must believe the statement, and ReadAs. Assumes nothing.
-use mathlib.Core.Path.{_≡_, refl, sym, ap, _∙_}
+use mathlib.Core.Path.{_≡_, refl, sym, _∙_}
 use Prim.Native.Nat.{ℕ, _+_, _-_, _*_, _≤_, _<_}
 use native.Mathlib.Omega.{arith}
-use mathlib.Core.List.{List, [], _∷_}
+use mathlib.Core.List.{List, _∷_}
 use lib.ListN.{length, drop}
-use Rattle.layout.specs.Layout.{Outcome, whole, stops}
+use Rattle.layout.specs.Layout.{whole}
 use Rattle.table.specs.Table.{row-width, row-count}
 use Rattle.table.specs.Rows.{Rec, rec-of, recs, nth}
 use Rattle.table.specs.CheckOrder.{done}
 use Rattle.table.specs.declared.Row.{Row}
-use Rattle.phd.specs.Phd.{Before, Item, over, item, State, Result, phd, capacity, first, reading}
+use Rattle.phd.specs.Phd.{Before, item, State, Result, phd, capacity, first, reading}
 use Rattle.phd.specs.declared.Facts.{Facts}
 use Rattle.phd.specs.declared.Span.{Span}
 use Rattle.reading.specs.Reading.{found, first as first-of}
@@ -25,41 +25,32 @@ use Rattle.phd_round_trip.specs.Promises.{round-trip}
 use Rattle.phd_round_trip.specs.HeaderBack.{written-facts}
 use Rattle.phd_round_trip.specs.Whole.{GoodDump, dump-is, full, good}
 use Rattle.phd_round_trip.specs.Good.{good-dump, rows-enough}
-use Rattle.phd_round_trip.specs.Back.{row-back}
+use Rattle.phd_round_trip.specs.Back.{row-back, refs-place}
 use Rattle.phd_shortest.specs.ReadAs.{ReadAs, ShortestAt}
 use Rattle.phd_shortest.specs.OneRecord.{same-back, bytes-least}
-use Rattle.phd_shortest.specs.Reached.{Ahead, bytes, following, split, finds, reached, some-left, nth-rec}
+use Rattle.phd_shortest.specs.Reached.{Ahead, bytes, after, following, split, finds, reached, some-left, nth-rec}
 
 -- ---- a record that a reading found where the written record r comes next
 
 module _ (h : Facts) (s : List ℕ) (st : State) (r : Rec) (rs : List Rec) (a : Ahead h s st (r ∷ rs))
     (row refs : List ℕ) (sp : Span) (k : Before) (e : ℕ) (g : found phd h s st ≡ whole (item row refs sp k) e) where
-  abbrev row-is : Outcome Item → List ℕ
-  row-is (whole (item row refs sp k) e) = row
-  row-is (whole over e) = []
-  row-is (stops x) = []
-
-  abbrev refs-are : Outcome Item → List ℕ
-  refs-are (whole (item row refs sp k) e) = refs
-  refs-are (whole over e) = []
-  refs-are (stops x) = []
-
-  abbrev end-is : Outcome Item → ℕ
-  end-is (whole i e) = e
-  end-is (stops x) = 0
+  found-is : whole (item row refs sp k) e
+      ≡ whole (item (row-back h (st .at) (st .context .address) (st .context .cache) r) (r .refs) (refs-place h (st .at) (st .context .address) (st .context .cache) r) (after h s st r rs a)) (st .at + length (bytes h s st r rs a))
+  found-is = sym g ∙ finds h s st r rs a
 
   reads-at : ReadAs h (st .context) r s (st .at) e
   reads-at =
-      let f = finds h s st r rs a in
-      let x : row ≡ row-back h (st .at) (st .context .address) (st .context .cache) r = ap row-is (sym g ∙ f) in
-      let y : refs ≡ r .refs = ap refs-are (sym g ∙ f) in
+      let f = found-is in
+      let x : row ≡ row-back h (st .at) (st .context .address) (st .context .cache) r = cc in
+      let y : refs ≡ r .refs = cc in
       let t = a .good .0 in
       let b = same-back h (st .context) (length (st .refs)) r (a .word) (t .good) (t .no-place) (a .fours) (a .most) (a .pre) (following h s st r rs a) (st .at) (a .place) in
       record { index = length (st .refs); row = row; refs = refs; span = sp; after = k; reads = g; same = rw (x, y, split h s st r rs a) b }
 
   least-at : (s′ : List ℕ) (at end : ℕ) → ReadAs h (st .context) r s′ at end → at + (e - st .at) ≤ end
   least-at s′ at end x =
-      let f : e ≡ st .at + length (bytes h s st r rs a) = ap end-is (sym g ∙ finds h s st r rs a) in
+      let f = found-is in
+      let n : e ≡ st .at + length (bytes h s st r rs a) = cc in
       let t = a .good .0 in
       let l = bytes-least h (st .context) (length (st .refs)) r (a .word) (t .good) (t .no-place) (a .fours) (a .most) s′ at end x in
       omega arith

@@ -15,8 +15,16 @@ static void say(const char *call, uint64_t reply) {
     printf("\n");
 }
 
+static void say_most(size_t size) {
+    size_t most_rows = PHD_MOST_ROWS(size), most_refs = PHD_MOST_REFERENCES(size);
+    printf("most of %d: %d %d\n", (int)size, (int)most_rows, (int)most_refs);
+}
+
 int main(void) {
     size_t size = fread(dump, 1, ROOM, stdin);
+    for (size_t n = 30; n < 36; n++)
+        say_most(n);
+    say_most(size);
     size_t most_rows = PHD_MOST_ROWS(size) * PHD_ROW, most_refs = PHD_MOST_REFERENCES(size);
     if (most_rows > ROOM || most_refs > ROOM)
         return 5;
