@@ -1,5 +1,5 @@
 -- How many bytes a layout takes for the value that it gives, found by its parts: a law for each way to build a layout, and one for each
--- kind of field. A reader must believe `Takes`, `Away` and `Counted`.
+-- kind of field. A reader must believe `Takes`, `Away` and `CountIn`.
 use mathlib.Core.Path.{_≡_, refl, subst, _∙_}
 use Prim.Native.Nat.{ℕ, _+_, _-_, _≤_}
 use native.Mathlib.Nat.{add-zero}
@@ -38,7 +38,7 @@ takes-refuse {A} {P} r = record { each = λ s at b e h. absurd (never b e (rw ru
     never : (b : A) (e : ℕ) → stops (Refused r) ≡ whole b e → ⊥
     never b e h = let z : _≡_ {A = ℕ} 0 1 = cc in omega arith
 
--- two layouts in a row take what both take
+-- two layouts in a row take what both take; the second may rest on what the first gives
 pub takes-then : {A B : Type 0} (Q : A → ℕ → Type 0) {P : B → ℕ → Type 0} (l : Layout A) (f : A → Layout B)
     → Takes Q l → ((a : A) (n : ℕ) → Q a n → Takes (λ b m. P b (n + m)) (f a)) → Takes P (l >>= f)
 takes-then Q {P} l f g k = record {
@@ -49,7 +49,7 @@ takes-then Q {P} l f g k = record {
       (x .0 + y .0, omega (arith, x .1, y .1), y .2);
 }
 
--- and what the second takes may not rest on what the first gives
+-- and need not
 pub takes-last : {A B : Type 0} {P : B → ℕ → Type 0} (l : Layout A) (f : A → Layout B) → ((a : A) (n : ℕ) → Takes (λ b m. P b (n + m)) (f a)) → Takes P (l >>= f)
 takes-last l f k =
     takes-then (λ _ _. Unit {0}) l f (record { each = λ s at a e h. (e - at, omega (arith, forth l s at a e h), tt) }) (λ a n _. k a n)
@@ -114,7 +114,7 @@ unfolding below
 takes-below w top r =
     takes-then _ _ _ (takes-field w) (λ x n e. takes-then _ _ _ (takes-check r _) (λ _ n₁ e₁. takes-yield x (omega (arith, e .0, e₁ .0))))
 
--- a is away from base by a signed number of w bytes, in fours, and at most highest
+-- a is away from base by a signed number of w bytes, in fours, and at most highest: what an address and a reference are read as
 pub record Away (w base highest a : ℕ) : Type 0 where
   pub number : ℕ
   pub leads : moved highest base (signed w number) ≡ Just a
@@ -131,12 +131,12 @@ takes-reference w base highest =
     takes-then _ _ _ (takes-address w base highest) (λ a n e. takes-then _ _ _ (takes-check 9 _) (λ _ m k.
     takes-yield a (omega (arith, e .0, k .0), e .1)))
 
--- a is a count as a signed number of w bytes
-pub record Counted (w a : ℕ) : Type 0 where
+-- a is a count, as a signed number of w bytes
+pub record CountIn (w a : ℕ) : Type 0 where
   pub number : ℕ
   pub counts : counted (signed w number) ≡ Just a
 
-pub takes-count : (w : ℕ) → Takes (λ a n. (n ≡ w) × Counted w a) (count w)
+pub takes-count : (w : ℕ) → Takes (λ a n. (n ≡ w) × CountIn w a) (count w)
 unfolding count
 takes-count w =
     takes-then _ _ _ (takes-field w) (λ v n e. takes-when (takes-need 12 _) (λ a m k.

@@ -9,7 +9,7 @@ use lib.Dec.{leb, ltb}
 use lib.IntN.{ℤ, pos, negsuc}
 use borrow.Author.Tests.{le-leb, lt-leb, lt-ltb, leb-true, ltb-false}
 use Rattle.layout.specs.Numbers.{pick, signed, in-range, moved, counted}
-use Rattle.layout.specs.Takes.{Away, Counted}
+use Rattle.layout.specs.Takes.{Away, CountIn}
 use Rattle.layout.specs.declared.Maybe.the-variants.{Just, Nothing}
 use Rattle.layout_put.specs.Put.{gap, fits}
 
@@ -63,5 +63,5 @@ counted-is (negsuc m) n h = let z : _≡_ {A = ℕ} 0 1 = cc in absurd (omega ar
 pub away-fits : (w base highest a : ℕ) → Away w base highest a → fits w (gap base a) ≡ true
 away-fits w base highest a x = rw (gap-back highest base (signed w (x .number)) a (x .leads)) (signed-fits w (x .number))
 
-pub counted-fits : (w a : ℕ) → Counted w a → fits w (pos a) ≡ true
+pub counted-fits : (w a : ℕ) → CountIn w a → fits w (pos a) ≡ true
 counted-fits w a x = rw (← counted-is (signed w (x .number)) a (x .counts)) (signed-fits w (x .number))

@@ -88,18 +88,10 @@ most-right a b = by (leb a b) refl
     by false e = omega (arith, leb-false a b e)
 
 pub most-le : (a b k : ℕ) → a ≤ k → b ≤ k → most a b ≤ k
-most-le a b k p q = by (leb a b)
-  where
-    by : (x : Bool) → pick x b a ≤ k
-    by true = q
-    by false = p
+most-le a b k p q = pick-either (λ x. x ≤ k) (leb a b) b a q p
 
 pub most-lt : (a b k : ℕ) → a < k → b < k → most a b < k
-most-lt a b k p q = by (leb a b)
-  where
-    by : (x : Bool) → pick x b a < k
-    by true = q
-    by false = p
+most-lt a b k p q = pick-either (λ x. x < k) (leb a b) b a q p
 
 pub widest-lt : (m a : ℕ) (rs : List ℕ) → m < 4 → widest m a rs < 4
 unfolding widest

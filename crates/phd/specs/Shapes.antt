@@ -107,7 +107,7 @@ record-bytes t sh r =
     + (sh .counted + r .count * sh .link)
     + (sh .size + sh .truelen)
 
--- a width code stands for a byte at least
+-- a width has a byte at least
 width-some : (c : ℕ) → 1 ≤ width c
 unfolding width
 width-some c = one-le-pow c 2 (omega arith)

@@ -8,7 +8,7 @@ use lib.Dec.{ltb, eqb, lit<}
 use native.Mathlib.Omega.{arith}
 use borrow.Author.Tests.{eqb-true, eq-eqb, ne-eqb}
 use Rattle.layout.specs.Numbers.{pick, both, either}
-use Rattle.layout.specs.Values.{both-left, both-right}
+use Rattle.layout.specs.Values.{pick-either, both-left, both-right}
 use Rattle.layout.specs.declared.Maybe.the-variants.{Just, Nothing}
 use Rattle.phd.specs.Phd.{bit, slot, moved-bit, hashed-bit}
 use Rattle.phd.specs.declared.classes.Cache.{Cache}
@@ -156,10 +156,6 @@ holds-by c w i h = by (ltb i (c .puts)) h
     by true g = let z : getD (c .words) i 0 ≡ w = cc in eq-eqb _ _ z
     by false g = let z : _≡_ {A = ℕ} 0 1 = cc in absurd (omega arith)
 
-pick-lt : (b : Bool) (x y k : ℕ) → x < k → y < k → pick b x y < k
-pick-lt true x y k p q = p
-pick-lt false x y k p q = q
-
 pub slot-found : (c : Cache) (w i : ℕ) → i < 4 → slot c i ≡ Just w → slot-of c w < 4
 unfolding slot-of
 slot-found c w i l h = by i l (holds-by c w i h)
@@ -173,10 +169,13 @@ slot-found c w i l h = by i l (holds-by c w i h)
     x₂ : Bool
     x₂ = holds c w 2
 
+    less : (b : Bool) (x y : ℕ) → x < 4 → y < 4 → pick b x y < 4
+    less b x y p q = pick-either (λ v. v < 4) b x y p q
+
     by : (i : ℕ) → i < 4 → holds c w i ≡ true → pick x₀ 0 (pick x₁ 1 (pick x₂ 2 (pick (holds c w 3) 3 4))) < 4
     by zero l e = rw e (lit< tt)
-    by (suc zero) l e = rw e (pick-lt x₀ 0 1 4 (lit< tt) (lit< tt))
-    by (suc (suc zero)) l e = rw e (pick-lt x₀ 0 (pick x₁ 1 2) 4 (lit< tt) (pick-lt x₁ 1 2 4 (lit< tt) (lit< tt)))
+    by (suc zero) l e = rw e (less x₀ 0 1 (lit< tt) (lit< tt))
+    by (suc (suc zero)) l e = rw e (less x₀ 0 (pick x₁ 1 2) (lit< tt) (less x₁ 1 2 (lit< tt) (lit< tt)))
     by (suc (suc (suc zero))) l e =
-        rw e (pick-lt x₀ 0 (pick x₁ 1 (pick x₂ 2 3)) 4 (lit< tt) (pick-lt x₁ 1 (pick x₂ 2 3) 4 (lit< tt) (pick-lt x₂ 2 3 4 (lit< tt) (lit< tt))))
+        rw e (less x₀ 0 (pick x₁ 1 (pick x₂ 2 3)) (lit< tt) (less x₁ 1 (pick x₂ 2 3) (lit< tt) (less x₂ 2 3 (lit< tt) (lit< tt))))
     by (suc (suc (suc (suc i)))) l e = absurd (omega arith)

@@ -11,7 +11,7 @@ use borrow.Author.Tests.{le-ltb, eqb-true, eqb-false}
 use Rattle.layout.specs.Numbers.{pick}
 use Rattle.layout.specs.Layout.{whole, run}
 use Rattle.layout.specs.Fields.{no-text}
-use Rattle.layout.specs.Takes.{Takes, Away, Counted, takes-yield, takes-refuse, takes-then, takes-when, takes-by, takes-field, takes-position, takes-check, takes-need, takes-address, takes-reference, takes-count, takes-string}
+use Rattle.layout.specs.Takes.{Takes, Away, CountIn, takes-yield, takes-refuse, takes-then, takes-when, takes-by, takes-field, takes-position, takes-check, takes-need, takes-address, takes-reference, takes-count, takes-string}
 use Rattle.layout.specs.declared.Text.{Text}
 use Rattle.layout.specs.declared.Maybe.the-variants.{Just}
 use Rattle.table.specs.Rows.{row-at, bare}
@@ -43,7 +43,7 @@ pub record FitsShape (top before known : ℕ) (sh : Shape) (r : Row) (rs : List 
   pub kind : r .kind ≡ sh .kind
   pub gap : Away (sh .gap) before top (r .address)
   pub word : sh .word ≡ 0 → sh .superclass ≡ 0 → r .word ≡ known
-  pub len : sh .truelen ≡ 0 → Counted (sh .len) (r .len)
+  pub len : sh .truelen ≡ 0 → CountIn (sh .len) (r .len)
   pub count : sh .counted ≡ 0 → r .count ≡ sh .count
   pub refs : AllAway (sh .link) (r .address) top rs
   pub refs-count : length rs ≡ r .count
@@ -65,7 +65,7 @@ pub record LaidOut (h : Facts) (before : ℕ) (c : Cache) (r : Row) (rs : List �
 -- ---- the parts of a record
 
 takes-front : (top before : ℕ) (sh : Shape)
-    → Takes (λ (v : Front) n. (n ≡ sh .gap + sh .word + sh .len) × Away (sh .gap) before top (v .address) × Counted (sh .len) (v .len)) (front top before sh)
+    → Takes (λ (v : Front) n. (n ≡ sh .gap + sh .word + sh .len) × Away (sh .gap) before top (v .address) × CountIn (sh .len) (v .len)) (front top before sh)
 unfolding front
 takes-front top before sh =
     takes-then _ _ _ (takes-address (sh .gap) before top) (λ a n e. takes-then _ _ _ (takes-field (sh .word)) (λ word n₁ e₁.
@@ -140,7 +140,7 @@ Taken top before known hk sh (item r rs sp k) n =
 module _ (top before : ℕ) (c : Cache) (origin : Origin) (known hk : ℕ) (sh : Shape) where
   takes-linked : (v : Front) (m : Middle) (name : Text) (k : ℕ)
       → (k ≡ sh .gap + sh .word + sh .len + (sh .inst + hash-bytes hk + sh .superclass) + (sh .name + name .len))
-      → Away (sh .gap) before top (v .address) → Counted (sh .len) (v .len)
+      → Away (sh .gap) before top (v .address) → CountIn (sh .len) (v .len)
       → Takes (λ i n. Taken top before known hk sh i (k + n)) (linked top c origin known hk sh v m name)
   unfolding linked row row-at bare there
   takes-linked v m name k e p q =

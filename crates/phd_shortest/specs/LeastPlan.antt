@@ -11,7 +11,7 @@ use mathlib.Core.List.{List, [], _∷_}
 use lib.Dec.{leb, eqb}
 use borrow.Author.Tests.{le-leb, le-ltb, lt-ltb, leb-true, leb-false}
 use Rattle.layout.specs.Numbers.{pick}
-use Rattle.layout.specs.Takes.{Away, Counted}
+use Rattle.layout.specs.Takes.{Away, CountIn}
 use Rattle.layout.specs.declared.Maybe.the-variants.{Just}
 use Rattle.layout_put.specs.Widths.{AllFit}
 use Rattle.layout_put.specs.ReadFits.{away-fits, counted-fits}
@@ -135,7 +135,7 @@ module _ (h : Facts) (c : Cache) (before index : ℕ) (r : Rec)
       omega arith
 
   -- the gap and the length of a primitive array
-  pair-code : (k : ℕ) → Away (width k) before top (r .row .address) → Counted (width k) (r .row .len) → m .pair ≤ k
+  pair-code : (k : ℕ) → Away (width k) before top (r .row .address) → CountIn (width k) (r .row .len) → m .pair ≤ k
   unfolding width
   pair-code k x y =
       pair-least c before (r .row) (r .refs) k (away-fits (width k) before top (r .row .address) x) (counted-fits (width k) (r .row .len) y)
@@ -180,7 +180,7 @@ module _ (h : Facts) (c : Cache) (before index : ℕ) (r : Rec)
       by (inr e) = (3, rw e)
 
   -- a long primitive array, of which the gap and the length are bytes or words
-  long-array : (d : Bool) → Away (pick d W 1) before top (r .row .address) → Counted (pick d W 1) (r .row .len)
+  long-array : (d : Bool) → Away (pick d W 1) before top (r .row .address) → CountIn (pick d W 1) (r .row .len)
       → array-sized W (r .row .hashkind) (m .pair) (fixed (r .row)) .size ≤ 6 + 2 * pick d W 1 + fixed (r .row)
   unfolding width
   long-array true p q =

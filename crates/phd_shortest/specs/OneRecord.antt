@@ -30,7 +30,7 @@ module _ (h : Facts) (before : Before) (index : ℕ) (r : Rec) (w : Word (h .wor
     abbrev bs : List ℕ
     bs = put-record h (before .address) (before .cache) r
 
-    -- the row that it is read as, wherever it is put, is the record
+    -- the row that it is read as, wherever it is written, is the record
     pub same-back : (pre post : List ℕ) (p : ℕ) → length pre ≡ p
         → read-rec (pre ++ (bs ++ post)) (row-back h p (before .address) (before .cache) r) (r .refs) ≡ r
     unfolding row-back
