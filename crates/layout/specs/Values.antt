@@ -1,6 +1,6 @@
 -- What holds of every value that a layout gives, and of every reply that it refuses with: found by its parts.
 -- Assumes nothing.
-use mathlib.Core.Path.{_≡_, refl, sym, subst, _∙_}
+use mathlib.Core.Path.{_≡_, refl, sym, ap, subst, _∙_}
 use Prim.Native.Nat.{ℕ, suc, _+_, _-_, _*_, _^_, _≤_, _<_}
 use mathlib.Core.Bool.{Bool, true, false}
 use mathlib.Core.List.{List}
@@ -163,21 +163,22 @@ refuses-need r Nothing p = refuses-refuse r p
 
 -- ---- the range of addresses and references
 
-in-range-most : (highest sum a : ℕ) → in-range highest sum ≡ Just a → a ≤ highest
-in-range-most highest sum a h = by (leb sum highest) refl h
+-- a sum in range is the address, and at most the highest
+pub in-range-is : (highest sum a : ℕ) → in-range highest sum ≡ Just a → (sum ≡ a) × (a ≤ highest)
+in-range-is highest sum a h = by (leb sum highest) refl h
   where
-    by : (b : Bool) → leb sum highest ≡ b → pick b (Just sum) Nothing ≡ Just a → a ≤ highest
-    by true e g = let l : sum ≤ highest = leb-true _ _ e in let z : sum ≡ a = cc in omega arith
+    by : (b : Bool) → leb sum highest ≡ b → pick b (Just sum) Nothing ≡ Just a → (sum ≡ a) × (a ≤ highest)
+    by true e g = let l : sum ≤ highest = leb-true _ _ e in let z : sum ≡ a = cc in (z, omega arith)
     by false e g = let z : _≡_ {A = ℕ} 0 1 = cc in absurd (omega arith)
 
 -- a moved address lies in 0 to highest
 pub moved-most : (highest base : ℕ) (gap : ℤ) (a : ℕ) → moved highest base gap ≡ Just a → a ≤ highest
 unfolding moved
-moved-most highest base (pos n) a h = in-range-most highest (base + 4 * n) a h
+moved-most highest base (pos n) a h = in-range-is highest (base + 4 * n) a h .1
 moved-most highest base (negsuc n) a h = by (leb (4 * suc n) base) h
   where
     by : (b : Bool) → pick b (in-range highest (base - 4 * suc n)) Nothing ≡ Just a → a ≤ highest
-    by true g = in-range-most highest (base - 4 * suc n) a g
+    by true g = in-range-is highest (base - 4 * suc n) a g .1
     by false g = let z : _≡_ {A = ℕ} 0 1 = cc in absurd (omega arith)
 
 pub gives-address : {s : List ℕ} (n base highest : ℕ) → Gives s (λ a. a ≤ highest) (address n base highest)
@@ -192,15 +193,18 @@ gives-reference n base highest =
 
 -- ---- the range of counts
 
--- a count is below 2^31
-pub counted-below : (z : ℤ) (n : ℕ) → counted z ≡ Just n → n < 2 ^ 31
+-- a count is the number read, and below 2^31
+pub counted-is : (z : ℤ) (n : ℕ) → counted z ≡ Just n → (z ≡ pos n) × (n < 2 ^ 31)
 unfolding counted
-counted-below (pos m) n h = by (ltb m (2 ^ 31)) refl h
+counted-is (pos m) n h = by (ltb m (2 ^ 31)) refl h
   where
-    by : (b : Bool) → ltb m (2 ^ 31) ≡ b → pick b (Just m) Nothing ≡ Just n → n < 2 ^ 31
-    by true e g = let l : m < 2 ^ 31 = ltb-true _ _ e in let z : m ≡ n = cc in omega arith
+    by : (b : Bool) → ltb m (2 ^ 31) ≡ b → pick b (Just m) Nothing ≡ Just n → (pos m ≡ pos n) × (n < 2 ^ 31)
+    by true e g = let l : m < 2 ^ 31 = ltb-true _ _ e in let z : m ≡ n = cc in (ap pos z, omega arith)
     by false e g = let z : _≡_ {A = ℕ} 0 1 = cc in absurd (omega arith)
-counted-below (negsuc m) n h = let z : _≡_ {A = ℕ} 0 1 = cc in absurd (omega arith)
+counted-is (negsuc m) n h = let z : _≡_ {A = ℕ} 0 1 = cc in absurd (omega arith)
+
+pub counted-below : (z : ℤ) (n : ℕ) → counted z ≡ Just n → n < 2 ^ 31
+counted-below z n h = counted-is z n h .1
 
 pub gives-count : {s : List ℕ} (n : ℕ) → Gives s (λ c. c < 2 ^ 31) (count n)
 unfolding count

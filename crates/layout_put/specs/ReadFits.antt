@@ -1,6 +1,6 @@
 -- What was read from a field of n bytes fits n bytes: an address's gap, a reference's, a count.
 -- Assumes nothing.
-use mathlib.Core.Path.{_≡_, refl, ap}
+use mathlib.Core.Path.{_≡_, refl}
 use Prim.Native.Nat.{ℕ, suc, _+_, _-_, _*_, _/_, _^_, _≤_}
 use native.Mathlib.Nat.{one-le-pow}
 use native.Mathlib.Omega.{arith}
@@ -8,7 +8,8 @@ use mathlib.Core.Bool.{Bool, true, false}
 use lib.Dec.{leb, ltb}
 use lib.IntN.{ℤ, pos, negsuc}
 use borrow.Author.Tests.{le-leb, lt-leb, lt-ltb, leb-true, ltb-false}
-use Rattle.layout.specs.Numbers.{pick, signed, in-range, moved, counted}
+use Rattle.layout.specs.Numbers.{pick, signed, in-range, moved}
+use Rattle.layout.specs.Values.{in-range-is, counted-is}
 use Rattle.layout.specs.Takes.{Away, CountIn}
 use Rattle.layout.specs.declared.Maybe.the-variants.{Just, Nothing}
 use Rattle.layout_put.specs.Put.{gap, fits}
@@ -26,18 +27,11 @@ signed-fits n v = by (ltb (v + v) (256 ^ n)) refl
         let m : ℕ = 256 ^ n - suc v in
         lt-ltb (m + m) (256 ^ n) (omega arith)
 
-in-range-is : (highest sum a : ℕ) → in-range highest sum ≡ Just a → sum ≡ a
-in-range-is highest sum a h = by (leb sum highest) h
-  where
-    by : (b : Bool) → pick b (Just sum) Nothing ≡ Just a → sum ≡ a
-    by true g = cc
-    by false g = let z : _≡_ {A = ℕ} 0 1 = cc in absurd (omega arith)
-
 -- the gap to where a gap leads is that gap
 pub gap-back : (highest base : ℕ) (g : ℤ) (a : ℕ) → moved highest base g ≡ Just a → gap base a ≡ g
 unfolding moved gap
 gap-back highest base (pos n) a h =
-    let e : base + 4 * n ≡ a = in-range-is highest _ a h in
+    let e : base + 4 * n ≡ a = in-range-is highest _ a h .0 in
     let d : (a - base) / 4 ≡ n = omega arith in
     rw (le-leb base a (omega arith), d)
 gap-back highest base (negsuc n) a h = by (leb (4 * suc n) base) refl h
@@ -46,22 +40,13 @@ gap-back highest base (negsuc n) a h = by (leb (4 * suc n) base) refl h
         → pick (leb base a) (pos ((a - base) / 4)) (negsuc ((base - a - 1) / 4)) ≡ negsuc n
     by true k g =
         let l : 4 * suc n ≤ base = leb-true _ _ k in
-        let e : base - 4 * suc n ≡ a = in-range-is highest _ a g in
+        let e : base - 4 * suc n ≡ a = in-range-is highest _ a g .0 in
         let d : (base - a - 1) / 4 ≡ n = omega arith in
         rw (lt-leb base a (omega arith), d)
     by false k g = let z : _≡_ {A = ℕ} 0 1 = cc in absurd (omega arith)
-
-counted-is : (z : ℤ) (n : ℕ) → counted z ≡ Just n → z ≡ pos n
-unfolding counted
-counted-is (pos m) n h = by (ltb m (2 ^ 31)) h
-  where
-    by : (b : Bool) → pick b (Just m) Nothing ≡ Just n → pos m ≡ pos n
-    by true g = let e : m ≡ n = cc in ap pos e
-    by false g = let z : _≡_ {A = ℕ} 0 1 = cc in absurd (omega arith)
-counted-is (negsuc m) n h = let z : _≡_ {A = ℕ} 0 1 = cc in absurd (omega arith)
 
 pub away-fits : (w base highest a : ℕ) → Away w base highest a → fits w (gap base a) ≡ true
 away-fits w base highest a x = rw (gap-back highest base (signed w (x .number)) a (x .leads)) (signed-fits w (x .number))
 
 pub counted-fits : (w a : ℕ) → CountIn w a → fits w (pos a) ≡ true
-counted-fits w a x = rw (← counted-is (signed w (x .number)) a (x .counts)) (signed-fits w (x .number))
+counted-fits w a x = rw (← counted-is (signed w (x .number)) a (x .counts) .0) (signed-fits w (x .number))

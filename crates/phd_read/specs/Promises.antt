@@ -23,7 +23,7 @@ use Rattle.phd_read.specs.Lawful.{lawful, always}
 use Rattle.phd_read.specs.Offsets.{TagAt, reading-traced, reading-tagged}
 use Rattle.phd_read.specs.Replies.{reading-answers}
 use Rattle.phd_read.specs.Counts.{counts}
-use Rattle.phd_read.specs.RecordBytes.{rows-most, refs-most, RowBytes, together-most, rows-enough, refs-enough, row-bytes}
+use Rattle.phd_read.specs.RecordBytes.{header-least, least-bytes, rows-most, refs-most, RowBytes, together-most, rows-enough, refs-enough, row-bytes}
 
 -- ---- demand 1, of reading
 
@@ -124,11 +124,11 @@ one-by-one s R F i l k = next-behind phd _ s (capacity R F) always _ _ i k (came
 
 -- What holds of a reading of the bytes s, whatever its tables are.
 pub record MostStored (s : List ℕ) (r : Result) : Type 0 where
-  -- it stores no more rows, and no more references, than (n - 31) / 2 and n - 31, of n bytes
+  -- it stores no more rows than (n - 31) / 2, and no more references than n - 31, of n bytes
   pub rows : answer r .rows ≤ rows-most (length s)
   pub refs : answer r .refs ≤ refs-most (length s)
   -- nor so many of both: the header has 31 bytes at least, a row's record two, and a reference one
-  pub together : answer r .rows * 2 + answer r .refs ≤ length s - 31
+  pub together : answer r .rows * least-bytes 0 + answer r .refs ≤ length s - header-least
 
 pub most-stored : (s : List ℕ) (R F : ℕ) → MostStored s (reading s R F)
 unfolding answer

@@ -1,5 +1,5 @@
 -- How many bytes a record takes at least and at most, and so how many rows and references a dump of a given length can give.
--- A reader must believe `rows-most`, `refs-most`, `RowBytes` and the statements.
+-- A reader must believe the numbers of "the bounds", `RowBytes` and the statements.
 use mathlib.Core.Path.{_≡_, refl}
 use Prim.Native.Nat.{ℕ, _+_, _-_, _*_, _/_, _≤_, _<_}
 use native.Mathlib.Omega.{arith}
@@ -28,6 +28,27 @@ use Rattle.phd_read.specs.Lawful.{lawful, always}
 use Rattle.phd_read.specs.Offsets.{reading-traced}
 use Rattle.phd_read.specs.Replies.{Fine, known, header-fine, entry-fine}
 
+-- ---- the bounds
+
+-- the fewest bytes of a header
+abbrev pub header-least : ℕ
+header-least = 31
+
+-- the fewest of a record with so many references: its tag, a byte of gap, and one for each
+abbrev pub least-bytes : ℕ → ℕ
+least-bytes refs = 2 + refs
+
+-- the most of a record, with a name of so many bytes and so many references
+abbrev pub most-bytes : (namelen refs : ℕ) → ℕ
+most-bytes namelen refs = 34 + namelen + refs * 8
+
+-- How many rows, and how many references, a dump of n bytes gives at most.
+abbrev pub rows-most : ℕ → ℕ
+rows-most n = (n - header-least) / least-bytes 0
+
+abbrev pub refs-most : ℕ → ℕ
+refs-most n = n - header-least
+
 -- ---- the header
 
 takes-opening : Takes (λ _ n. n ≡ 18) opening-bytes
@@ -55,7 +76,7 @@ facts-word true = inr refl
 facts-word false = inl refl
 
 -- A header has 31 bytes at least, and W is 32 or 64.
-pub takes-header : Takes (λ (h : Facts) n. (31 ≤ n) × Word (h .word)) header
+pub takes-header : Takes (λ (h : Facts) n. (header-least ≤ n) × Word (h .word)) header
 unfolding header header-facts
 takes-header =
     takes-then _ _ _ takes-preamble (λ flags n e. takes-then _ _ _ takes-records (λ vm n₁ e₁.
@@ -63,18 +84,18 @@ takes-header =
 
 -- ---- a record
 
--- The bytes of a record with the row number i, from one offset up to another: two at least and one for each reference; and at most 34,
--- those of its name, and eight for each reference. (A row's number 6 is its count of references, 10 the length of its name.)
+-- The bytes of a record with the row number i, from one offset up to another. (A row's number 6 is its count of references, 10 the length
+-- of its name.)
 pub record RowBytes (rows : List ℕ) (i : ℕ) (offset end : ℕ) : Type 0 where
-  pub least : offset + 2 + number rows i 6 ≤ end
-  pub most : end ≤ offset + 34 + number rows i 10 + number rows i 6 * 8
+  pub least : offset + least-bytes (number rows i 6) ≤ end
+  pub most : end ≤ offset + most-bytes (number rows i 10) (number rows i 6)
 
 module _ (h : Facts) (before : ℕ) (c : Cache) (index : ℕ) (s : List ℕ) (at : ℕ) (r rs : List ℕ) (sp : Span) (k : Before) (e : ℕ)
     (g : run (entry h before c index) s at ≡ whole (item r rs sp k) e) where
   laid : (n : ℕ) × (e ≡ at + n) × LaidOut h before c (read-row r) rs n
   laid = laid-out h before c index s at r rs sp k e g
 
-  two-least : at + 2 + read-row r .count ≤ e
+  two-least : at + least-bytes (read-row r .count) ≤ e
   two-least =
       let l = laid .2 in
       omega (arith, laid .1, l .bytes, record-least (h .word / 8) (l .form) (l .tag) (l .flags) (read-row r) (l .fits .count))
@@ -90,7 +111,7 @@ module _ (h : Facts) (before : ℕ) (c : Cache) (index : ℕ) (s : List ℕ) (at
       narrow (inl e) = rw e (omega arith)
       narrow (inr e) = rw e (omega arith)
 
-  entry-least : at + (row-count r * 2 + length rs) ≤ e
+  entry-least : at + (row-count r * least-bytes 0 + length rs) ≤ e
   unfolding row-count
   entry-least =
       let n : length r ≡ row-width = always h (record { address = before; cache = c }) index s at r rs sp k e g in
@@ -98,22 +119,15 @@ module _ (h : Facts) (before : ℕ) (c : Cache) (index : ℕ) (s : List ℕ) (at
 
 -- ---- a reading
 
-least : LeastBytes phd 31 2
+least : LeastBytes phd header-least (least-bytes 0)
 least = record {
   header = λ s h n e. let x = takes-header .each s 0 h n e in omega (arith, x .1, x .2 .0);
   entry = λ h c index s at r rs m k e g. entry-least h (c .address) (c .cache) index s at r rs m k e g;
 }
 
--- How many rows, and how many references, a dump of n bytes gives at most.
-abbrev pub rows-most : ℕ → ℕ
-rows-most n = (n - 31) / 2
-
-abbrev pub refs-most : ℕ → ℕ
-refs-most n = n - 31
-
 -- What a reading stores has its bytes after the header: two for each row, and one for each reference.
-pub together-most : (s : List ℕ) (R F : ℕ) → row-count (reading s R F .rows) * 2 + length (reading s R F .refs) ≤ length s - 31
-together-most s R F = Any.most-stored phd lawful 31 2 least s (capacity R F)
+pub together-most : (s : List ℕ) (R F : ℕ) → row-count (reading s R F .rows) * least-bytes 0 + length (reading s R F .refs) ≤ length s - header-least
+together-most s R F = Any.most-stored phd lawful header-least (least-bytes 0) least s (capacity R F)
 
 -- A reply above 12 comes for want of capacity alone.
 module _ (s : List ℕ) (R F n : ℕ) (above : 12 < n) where
@@ -122,7 +136,7 @@ module _ (s : List ℕ) (R F n : ℕ) (above : 12 < n) where
 
   never : (rows-most (length s) * row-width ≤ R) ⊎ (13 ≡ n → ⊥) → (refs-most (length s) ≤ F) ⊎ (14 ≡ n → ⊥) → reading s R F .reply ≡ n → ⊥
   never p q =
-      Any.never-full phd lawful 31 2 least s (capacity R F) (lit< tt) (λ r. r ≡ n → ⊥) (λ e. omega arith) (λ e. omega arith) (λ e. omega arith)
+      Any.never-full phd lawful header-least (least-bytes 0) least s (capacity R F) (lit< tt) (λ r. r ≡ n → ⊥) (λ e. omega arith) (λ e. omega arith) (λ e. omega arith)
       (not-refused header-fine) (λ h c index. not-refused (entry-fine h (c .address) (c .cache) index)) p q
 
 -- A table with a row for so many, or a number for so many references, is never too small.
@@ -153,22 +167,33 @@ abbrev end-of : {A : Type 0} → Outcome A → ℕ
 end-of (whole a e) = e
 end-of (stops w) = 0
 
--- A header of 31 bytes, a short object of two, and an object array of 34: a long gap, a class word of 64 bits and an int hash.
+-- A header without a VM string.
 abbrev small-header : List ℕ
 small-header = 0x00 ∷ 0x12 ∷ opening ++ 0x00 ∷ 0x00 ∷ 0x00 ∷ 0x06 ∷ 0x00 ∷ 0x00 ∷ 0x00 ∷ 0x01 ∷ 0x01 ∷ 0x02 ∷ 0x02 ∷ []
 
+-- A short object with no reference, and with one, of a byte.
 abbrev small-object : List ℕ
 small-object = 0x80 ∷ 0x04 ∷ []
 
-abbrev large-array : List ℕ
-large-array =
-    0x08 ∷ 0xC2 ∷ 0x00 ∷ 0x00 ∷ 0x00 ∷ 0x00 ∷ 0x00 ∷ 0x00 ∷ 0x04 ∷ 0x00 ∷ 0x00 ∷ 0x00 ∷ 0x00 ∷ 0x00 ∷ 0x00 ∷ 0x00 ∷ 0x10 ∷ 0x00
-    ∷ 0x12 ∷ 0x34 ∷ 0x56 ∷ 0x78 ∷ 0x00 ∷ 0x00 ∷ 0x00 ∷ 0x00 ∷ 0x00 ∷ 0x00 ∷ 0x00 ∷ 0x06 ∷ 0x00 ∷ 0x00 ∷ 0x00 ∷ 0x03 ∷ []
+abbrev small-with-ref : List ℕ
+small-with-ref = 0x88 ∷ 0x04 ∷ 0x01 ∷ []
+
+-- An object array with a long gap, a class word of 64 bits and an int hash, of so many references, a long each, with these bytes.
+abbrev large-array : ℕ → List ℕ → List ℕ
+large-array count refs =
+    0x08 ∷ 0xF2 ∷ 0x00 ∷ 0x00 ∷ 0x00 ∷ 0x00 ∷ 0x00 ∷ 0x00 ∷ 0x04 ∷ 0x00 ∷ 0x00 ∷ 0x00 ∷ 0x00 ∷ 0x00 ∷ 0x00 ∷ 0x00 ∷ 0x10 ∷ 0x00
+    ∷ 0x12 ∷ 0x34 ∷ 0x56 ∷ 0x78 ∷ 0x00 ∷ 0x00 ∷ 0x00 ∷ count
+    ∷ refs ++ 0x00 ∷ 0x00 ∷ 0x00 ∷ 0x06 ∷ 0x00 ∷ 0x00 ∷ 0x00 ∷ 0x03 ∷ []
 
 abbrev in-64 : Facts
 in-64 = record { word = 64; hashed = false; openj9 = false; vm = no-text }
 
-pub bounds-met : (end-of (run header small-header 0) ≡ 31) × (end-of (run (entry in-64 0x1000 (put empty 0x1000) 0) small-object 0) ≡ 2)
-    × (end-of (run (entry in-64 0 empty 0) large-array 0) ≡ 34)
+-- where a record ends that is read at 0, after one at 0x1000, with the class 0x1000 in a slot
+abbrev ends : List ℕ → ℕ
+ends s = end-of (run (entry in-64 0x1000 (put empty 0x1000) 0) s 0)
+
+pub bounds-met : (end-of (run header small-header 0) ≡ header-least)
+    × (ends small-object ≡ least-bytes 0) × (ends small-with-ref ≡ least-bytes 1)
+    × (ends (large-array 0 []) ≡ most-bytes 0 0) × (ends (large-array 1 (0x00 ∷ 0x00 ∷ 0x00 ∷ 0x00 ∷ 0x00 ∷ 0x00 ∷ 0x00 ∷ 0x01 ∷ [])) ≡ most-bytes 0 1)
 unfolding computing
-bounds-met = (refl, refl, refl)
+bounds-met = (refl, refl, refl, refl, refl)

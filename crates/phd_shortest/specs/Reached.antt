@@ -3,9 +3,11 @@
 -- Assumes nothing.
 use mathlib.Core.Path.{_≡_, refl, sym, ap, subst, _∙_}
 use Prim.Native.Nat.{ℕ, zero, suc, _+_, _%_, _≤_}
+use native.Mathlib.Numerals.{add-one}
 use native.Mathlib.Omega.{arith}
 use mathlib.Core.List.{List, [], _∷_, _++_, append-assoc}
 use lib.ListN.{length, drop, length-append}
+use lib.Seq.{drop-drop}
 use Rattle.layout.specs.Layout.{Outcome, whole, stops}
 use Rattle.table.specs.Rows.{Rec, rec-of, recs, nth}
 use Rattle.table.specs.declared.Row.{Row}
@@ -25,11 +27,8 @@ use Rattle.phd_round_trip.specs.Back.{refs-place, row-back, record-back}
 
 -- ---- lists
 
-drop-next {ℓ} : {X : Type ℓ} (i : ℕ) (xs : List X) (x : X) (ys : List X) → drop i xs ≡ x ∷ ys → drop (suc i) xs ≡ ys
-drop-next zero [] x ys e = let z : _≡_ {A = ℕ} 0 1 = cc in absurd (omega arith)
-drop-next zero (y ∷ xs) x ys e = cc
-drop-next (suc i) [] x ys e = let z : _≡_ {A = ℕ} 0 1 = cc in absurd (omega arith)
-drop-next (suc i) (y ∷ xs) x ys e = drop-next i xs x ys e
+drop-next : (i : ℕ) (rs : List Rec) (r : Rec) (rest : List Rec) → drop i rs ≡ r ∷ rest → drop (suc i) rs ≡ rest
+drop-next i rs r rest e = sym (rw (e, add-one) at (drop-drop 1 i rs))
 
 -- the record number i of rows is that of the row number i
 pub nth-rec : (names refs : List ℕ) (rows : List Row) (i : ℕ) (r : Rec) (rs : List Rec) → drop i (recs names refs rows) ≡ r ∷ rs
