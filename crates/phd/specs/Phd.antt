@@ -4,7 +4,7 @@
 use Prim.Native.Nat.{ℕ, zero, suc, _+_, _-_, _/_, _%_, _^_}
 use mathlib.Core.Bool.{Bool, true, false, not}
 use mathlib.Core.List.{List, [], _∷_}
-use lib.ListN.{getD, set}
+use lib.ListN.{length, getD, set}
 use lib.Dec.{leb, ltb, eqb}
 use Rattle.layout.specs.Numbers.{pick, both, either}
 use Rattle.layout.specs.Layout.{Layout, yield, refuse, _>>=_, _>>_, position, raw, field, check, need}
@@ -97,6 +97,12 @@ unfoldable pub no-facts : Facts
 no-facts = record { word = 0; hashed = false; openj9 = false; vm = no-text }
 
 -- ---- the cache of classes: four slots, filled in turn, 0, 1, 2, 3, 0 and on
+
+-- What slot i holds after the class words ws were put, the last of them first: the last whose number, from 0, is i modulo 4, if there is
+-- one. So it is of the cache that follows (`ClassCache.slot-in-turn`), in every reading (phd_read, `Promises.slots-in-turn`).
+unfoldable pub in-turn : List ℕ → ℕ → Maybe
+in-turn [] i = Nothing
+in-turn (w ∷ ws) i = pick (eqb (length ws % 4) i) (Just w) (in-turn ws i)
 
 unfoldable pub empty : Cache
 empty = record { words = 0 ∷ 0 ∷ 0 ∷ 0 ∷ []; puts = 0 }

@@ -23,6 +23,7 @@ use Rattle.phd_read.specs.Lawful.{lawful, always}
 use Rattle.phd_read.specs.Offsets.{TagAt, reading-traced, reading-tagged}
 use Rattle.phd_read.specs.Replies.{reading-answers}
 use Rattle.phd_read.specs.Counts.{counts}
+use Rattle.phd_read.specs.ClassesRead.{ClassOf, reading-classes}
 use Rattle.phd_read.specs.RecordBytes.{header-least, least-bytes, rows-most, refs-most, RowBytes, together-most, rows-enough, refs-enough, row-bytes}
 
 -- ---- demand 1, of reading
@@ -119,6 +120,15 @@ one-each s R F i l = counted phd _ s (capacity R F) always _ _ i l (came-from s 
 pub one-by-one : (s : List ℕ) (R F i : ℕ) (l : i < row-count (reading s R F .rows)) → suc i < row-count (reading s R F .rows)
     → offset-of (reading s R F .rows) (suc i) ≡ came-from s R F .each i l .end
 one-by-one s R F i l k = next-behind phd _ s (capacity R F) always _ _ i k (came-from s R F .each i l) (came-from s R F .each (suc i) k)
+
+-- ---- the class cache
+
+-- Before the record of each stored row the slots hold, in turn, the class words of the medium and long objects among the records before it,
+-- and a short object has the class of the slot that its tag names.
+pub slots-in-turn : (s : List ℕ) (R F i : ℕ) (l : i < row-count (reading s R F .rows))
+    → ClassOf s (reading s R F .rows) i (came-from s R F .each i l .before .context .cache)
+unfolding came-from
+slots-in-turn = reading-classes
 
 -- ---- how much a dump of a given length can give
 
