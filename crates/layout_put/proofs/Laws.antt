@@ -5,16 +5,18 @@ use mathlib.Core.List.{List, [], _∷_, _++_}
 use Prim.Native.Nat.{ℕ, suc, _+_, _-_, _/_, _%_, _^_, _≤_, _<_}
 use native.Mathlib.Nat.{add-zero}
 use native.Mathlib.Omega.{arith}
-use native.Mathlib.Decide.{decLe}
-use lib.Dec.{leb}
+use native.Mathlib.Decide.{decLe, decLt}
+use lib.Dec.{leb, ltb}
 use lib.ListN.{length, take, drop, getD, set}
 use lib.Seq.{sets, set-comm}
 use lib.IntN.{pos, negsuc}
 use borrow.Author.Tests.{le-leb, lt-leb, le-ltb, lt-ltb}
 use Rattle.layout.specs.Numbers.{pick}
 use Rattle.layout.specs.Parts.{part-next}
+use Rattle.layout.specs.Values.{pick-either}
 use Rattle.layout_put.specs.Put.{be, gap, code, fits, widest, most, links, complement}
 use Rattle.layout_put.specs.Bytes.{length-be}
+use Rattle.layout_put.specs.Widths.{code-counts}
 
 -- the last of a run of stores may go first
 pub sets-snoc : (vs l : List ℕ) (i x : ℕ) → sets l i (vs ++ (x ∷ [])) ≡ sets (set l (i + length vs) x) i vs
@@ -55,43 +57,24 @@ code-far false d = refl
 pub code-gap : (from to d : ℕ) → gap from to ≡ pick (leb from to) (pos d) (negsuc d) → code (gap from to) ≡ code (pos d)
 code-gap from to d e = ap code e ∙ code-far (leb from to) d
 
--- how many limits a number reaches is its code
-pub code-counts : (m : ℕ) → pick (leb 0x80 m) 1 0 + pick (leb 0x8000 m) 1 0 + pick (leb 0x80000000 m) 1 0 ≡ code (pos m)
-unfolding code fits
-code-counts m = elim (decLe 0x8000 m) [
-  | yes l ↦
-      let a : 0x80 ≤ m = omega arith in
-      let b : 256 ^ 1 ≤ m + m = omega arith in
-      let c : 256 ^ 2 ≤ m + m = omega arith in
-      rw (le-leb 0x80 m a, le-leb 0x8000 m l, le-ltb (m + m) (256 ^ 1) b, le-ltb (m + m) (256 ^ 2) c) (elim (decLe 0x80000000 m) [
-        | yes k ↦ let d : 256 ^ 4 ≤ m + m = omega arith in rw (le-leb 0x80000000 m k, le-ltb (m + m) (256 ^ 4) d)
-        | no k ↦
-            let e : m < 0x80000000 = omega arith in
-            let d : m + m < 256 ^ 4 = omega arith in
-            rw (lt-leb 0x80000000 m e, lt-ltb (m + m) (256 ^ 4) d)
-      ])
-  | no l ↦
-      let a : m < 0x8000 = omega arith in
-      let b : m < 0x80000000 = omega arith in
-      let c : m + m < 256 ^ 2 = omega arith in
-      rw (lt-leb 0x8000 m a, lt-leb 0x80000000 m b, lt-ltb (m + m) (256 ^ 2) c) (elim (decLe 0x80 m) [
-        | yes k ↦ let d : 256 ^ 1 ≤ m + m = omega arith in rw (le-leb 0x80 m k, le-ltb (m + m) (256 ^ 1) d)
-        | no k ↦
-            let e : m < 0x80 = omega arith in
-            let d : m + m < 256 ^ 1 = omega arith in
-            rw (lt-leb 0x80 m e, lt-ltb (m + m) (256 ^ 1) d)
-      ])
+-- n bytes hold a number if it does not reach half of 256 ^ n, and only then
+pub half-held : (n half m : ℕ) → half + half ≡ 256 ^ n → pick {X = ℕ} (leb half m) 1 0 ≡ pick (fits n (pos m)) 0 1
+unfolding fits
+half-held n half m e = elim (decLe half m) [
+  | yes l ↦ rw (le-leb half m l, le-ltb (m + m) (256 ^ n) (omega arith))
+  | no l ↦ rw (lt-leb half m (omega arith), lt-ltb (m + m) (256 ^ n) (omega arith))
 ]
 
--- a greater number reaches the limits that a lower one does
-reach : (k a b : ℕ) → a ≤ b → pick (leb k a) 1 0 ≤ pick (leb k b) 1 0
-reach k a b h = elim (decLe k a) [
-  | yes l ↦ let g : k ≤ b = omega arith in rw (le-leb k a l, le-leb k b g) (omega arith)
-  | no l ↦ let g : a < k = omega arith in rw (lt-leb k a g) (omega arith)
+-- a width that does not hold a number holds no greater one
+narrow-more : (n a b : ℕ) → a ≤ b → pick (fits n (pos a)) 0 1 ≤ pick (fits n (pos b)) 0 1
+unfolding fits
+narrow-more n a b h = elim (decLt (b + b) (256 ^ n)) [
+  | yes l ↦ rw (lt-ltb (b + b) (256 ^ n) l, lt-ltb (a + a) (256 ^ n) (omega arith)) (omega arith)
+  | no l ↦ rw (le-ltb (b + b) (256 ^ n) (omega arith)) (pick-either (λ x. x ≤ 1) (ltb (a + a) (256 ^ n)) 0 1 (omega arith) (omega arith))
 ]
 
 code-le : (a b : ℕ) → a ≤ b → code (pos a) ≤ code (pos b)
-code-le a b h = omega (arith, code-counts a, code-counts b, reach 0x80 a b h, reach 0x8000 a b h, reach 0x80000000 a b h)
+code-le a b h = omega (arith, code-counts (pos a), code-counts (pos b), narrow-more 1 a b h, narrow-more 2 a b h, narrow-more 4 a b h)
 
 most-first : (a b : ℕ) → b ≤ a → most a b ≡ a
 most-first a b h = elim (decLe a b) [

@@ -4,29 +4,34 @@ use mathlib.Core.Path.{_≡_, refl}
 use Prim.Native.Nat.{ℕ, zero, suc, _+_, _-_, _/_, _^_, _≤_, _<_}
 use mathlib.Core.Bool.{Bool, true, false}
 use mathlib.Core.List.{List, [], _∷_}
-use native.Mathlib.Nat.{pow-le-pow-right}
+use native.Mathlib.Nat.{add-zero, pow-le-pow-right}
 use native.Mathlib.Omega.{arith}
 use native.Mathlib.Decide.{decLe}
-use lib.Dec.{leb, lit<}
+use lib.Dec.{leb, ltb, lit<}
 use lib.IntN.{ℤ, pos, negsuc}
 use borrow.Author.Tests.{le-leb, lt-leb, lt-ltb, ltb-true, leb-true, leb-false}
 use Rattle.layout.specs.Numbers.{pick}
 use Rattle.layout.specs.Values.{pick-either}
 use Rattle.layout_put.specs.Put.{gap, fits, code, most, widest}
 
+-- a statement about a test, from its two cases
+by-test : (P : Bool → Type 0) (b : Bool) → (b ≡ true → P true) → (b ≡ false → P false) → P b
+by-test P true p q = p refl
+by-test P false p q = q refl
+
 -- ---- what a width holds
+
+more-held : (n m v : ℕ) → n ≤ m → ltb (v + v) (256 ^ n) ≡ true → ltb (v + v) (256 ^ m) ≡ true
+more-held n m v l h =
+    let p : 256 ^ n ≤ 256 ^ m = pow-le-pow-right {n = 256} (lit< tt) {i = n} {j = m} l in
+    let q : v + v < 256 ^ n = ltb-true _ _ h in
+    lt-ltb (v + v) (256 ^ m) (omega arith)
 
 -- a wider field holds it too
 pub fits-more : (n m : ℕ) (g : ℤ) → n ≤ m → fits n g ≡ true → fits m g ≡ true
 unfolding fits
-fits-more n m (pos v) l h =
-    let p : 256 ^ n ≤ 256 ^ m = pow-le-pow-right {n = 256} (lit< tt) {i = n} {j = m} l in
-    let q : v + v < 256 ^ n = ltb-true _ _ h in
-    lt-ltb (v + v) (256 ^ m) (omega arith)
-fits-more n m (negsuc v) l h =
-    let p : 256 ^ n ≤ 256 ^ m = pow-le-pow-right {n = 256} (lit< tt) {i = n} {j = m} l in
-    let q : v + v < 256 ^ n = ltb-true _ _ h in
-    lt-ltb (v + v) (256 ^ m) (omega arith)
+fits-more n m (pos v) l h = more-held n m v l h
+fits-more n m (negsuc v) l h = more-held n m v l h
 
 -- any two addresses of n bytes are a gap of n bytes
 pub gap-fits : (n a b : ℕ) → a < 256 ^ n → b < 256 ^ n → fits n (gap a b) ≡ true
@@ -41,31 +46,72 @@ gap-fits n a b p q = elim (decLe a b) [
 
 -- ---- the least width code
 
-pub code-lt : (g : ℤ) → code g < 4
-unfolding code
-code-lt g =
-    pick-either (λ c. c < 4) (fits 1 g) _ _ (lit< tt)
-    (pick-either (λ c. c < 4) (fits 2 g) _ _ (lit< tt) (pick-either (λ c. c < 4) (fits 4 g) _ _ (lit< tt) (lit< tt)))
+-- of n codes from c on, the least whose width holds a number, or the next code where none does
+abbrev least-code : ℤ → ℕ → ℕ → ℕ
+least-code g c zero = c
+least-code g c (suc n) = pick (fits (2 ^ c) g) c (least-code g (suc c) n)
 
--- Where the width of a code holds a number, the number's own code is no greater.
-pub code-least : (g : ℤ) (k : ℕ) → fits (2 ^ k) g ≡ true → code g ≤ k
-unfolding code
-code-least g zero h = rw h (omega arith)
-code-least g (suc zero) h = rw h (pick-either (λ c. c ≤ 1) (fits 1 g) _ _ (omega arith) (omega arith))
-code-least g (suc (suc zero)) h =
-    rw h (pick-either (λ c. c ≤ 2) (fits 1 g) _ _ (omega arith) (pick-either (λ c. c ≤ 2) (fits 2 g) _ _ (omega arith) (omega arith)))
-code-least g (suc (suc (suc k))) h = omega (arith, code-lt g)
+-- how many of these codes have widths that are too narrow for it
+abbrev too-narrow : ℤ → ℕ → ℕ → ℕ
+too-narrow g c zero = 0
+too-narrow g c (suc n) = pick (fits (2 ^ c) g) 0 1 + too-narrow g (suc c) n
 
--- what 8 bytes hold is held by the width of its code
-pub code-fits : (g : ℤ) → fits 8 g ≡ true → fits (2 ^ code g) g ≡ true
-unfolding code
-code-fits g h = by (fits 1 g) (fits 2 g) (fits 4 g) refl refl refl
-  where
-    by : (a b c : Bool) → fits 1 g ≡ a → fits 2 g ≡ b → fits 4 g ≡ c → fits (2 ^ pick a 0 (pick b 1 (pick c 2 3))) g ≡ true
-    by true b c p q r = p
-    by false true c p q r = q
-    by false false true p q r = r
-    by false false false p q r = h
+module _ (g : ℤ) where
+  -- it is at most the next code
+  least-most : (c n : ℕ) → least-code g c n ≤ c + n
+  least-most c zero = omega arith
+  least-most c (suc n) =
+      pick-either (λ k. k ≤ c + suc n) (fits (2 ^ c) g) c (least-code g (suc c) n) (omega arith) (omega (arith, least-most (suc c) n))
+
+  -- a code whose width holds the number is none whose width does not
+  differ : (c k : ℕ) → fits (2 ^ c) g ≡ false → fits (2 ^ k) g ≡ true → c ≡ k → ⊥
+  differ c k e h d = let z : _≡_ {A = ℕ} 0 1 = cc in omega arith
+
+  -- no code below it has a width that holds the number
+  least-first : (k c n : ℕ) → fits (2 ^ k) g ≡ true → c ≤ k → least-code g c n ≤ k
+  least-first k c zero h l = l
+  least-first k c (suc n) h l =
+      by-test (λ t. pick t c (least-code g (suc c) n) ≤ k) (fits (2 ^ c) g) (λ _. l)
+      (λ e. least-first k (suc c) n h (omega (arith, differ c k e h)))
+
+  -- its own width holds the number, if that of the next code does where none of these does
+  least-holds : (c n : ℕ) → fits (2 ^ (c + n)) g ≡ true → fits (2 ^ least-code g c n) g ≡ true
+  least-holds c zero h = rw add-zero at h
+  least-holds c (suc n) h =
+      let e : c + suc n ≡ suc c + n = omega arith in
+      by-test (λ t. fits (2 ^ pick t c (least-code g (suc c) n)) g ≡ true) (fits (2 ^ c) g) (λ d. d) (λ _. least-holds (suc c) n (rw e at h))
+
+  -- from a code whose width holds the number on, none is too narrow
+  none-narrow : (c n : ℕ) → fits (2 ^ c) g ≡ true → too-narrow g c n ≡ 0
+  none-narrow c zero h = refl
+  none-narrow c (suc n) h = rw h (omega (arith, none-narrow (suc c) n (fits-more (2 ^ c) (2 ^ suc c) g (omega arith) h)))
+
+  -- so the least code is how many are too narrow
+  least-counts : (c n : ℕ) → c + too-narrow g c n ≡ least-code g c n
+  least-counts c zero = omega arith
+  least-counts c (suc n) =
+      by-test (λ t. c + (pick t 0 1 + too-narrow g (suc c) n) ≡ pick t c (least-code g (suc c) n)) (fits (2 ^ c) g)
+      (λ e. omega (arith, none-narrow c (suc n) e)) (λ _. omega (arith, least-counts (suc c) n))
+
+  -- a number's code is the least of 0, 1 and 2 whose width holds it, or 3
+  code-is : code g ≡ least-code g 0 3
+  unfolding code
+  code-is = refl
+
+  pub code-lt : code g < 4
+  code-lt = omega (arith, code-is, least-most 0 3)
+
+  -- Where the width of a code holds a number, the number's own code is no greater.
+  pub code-least : (k : ℕ) → fits (2 ^ k) g ≡ true → code g ≤ k
+  code-least k h = rw code-is (least-first k 0 3 h (omega arith))
+
+  -- what 8 bytes hold is held by the width of its code
+  pub code-fits : fits 8 g ≡ true → fits (2 ^ code g) g ≡ true
+  code-fits h = rw code-is (least-holds 0 3 h)
+
+  -- the code of a number is how many codes have widths that do not hold it
+  pub code-counts : pick (fits 1 g) 0 1 + pick (fits 2 g) 0 1 + pick (fits 4 g) 0 1 ≡ code g
+  code-counts = omega (arith, code-is, least-counts 0 3)
 
 -- and by that of any greater code
 pub code-more : (g : ℤ) (c : ℕ) → code g ≤ c → fits 8 g ≡ true → fits (2 ^ c) g ≡ true
@@ -74,18 +120,10 @@ code-more g c l h = fits-more (2 ^ code g) (2 ^ c) g (pow-le-pow-right {n = 2} (
 -- ---- the greater of two, and the greatest of all references
 
 pub most-left : (a b : ℕ) → a ≤ most a b
-most-left a b = by (leb a b) refl
-  where
-    by : (x : Bool) → leb a b ≡ x → a ≤ pick x b a
-    by true e = leb-true a b e
-    by false e = omega arith
+most-left a b = by-test (λ t. a ≤ pick t b a) (leb a b) (leb-true a b) (λ _. omega arith)
 
 pub most-right : (a b : ℕ) → b ≤ most a b
-most-right a b = by (leb a b) refl
-  where
-    by : (x : Bool) → leb a b ≡ x → b ≤ pick x b a
-    by true e = omega arith
-    by false e = omega (arith, leb-false a b e)
+most-right a b = by-test (λ t. b ≤ pick t b a) (leb a b) (λ _. omega arith) (λ e. omega (arith, leb-false a b e))
 
 pub most-le : (a b k : ℕ) → a ≤ k → b ≤ k → most a b ≤ k
 most-le a b k p q = pick-either (λ x. x ≤ k) (leb a b) b a q p

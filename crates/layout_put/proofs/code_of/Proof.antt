@@ -1,11 +1,24 @@
--- `code_of` meets its contract: how many limits a number reaches is its code.
+-- `code_of` meets its contract: a number's code is how many codes have widths that do not hold it.
 use borrow.Author.Needs.{needs}
+use mathlib.Core.Path.{_≡_, refl, _∙_}
 use native.Mathlib.Omega.{arith}
-use lib.Dec.{leb}
-use Rattle.layout.specs.Values.{one-most}
-use Rattle.layout_put.proofs.Laws.{code-counts}
+use lib.IntN.{pos}
+use Rattle.layout.specs.Numbers.{pick}
+use Rattle.layout_put.specs.Put.{fits}
+use Rattle.layout_put.specs.Widths.{code-lt, code-counts}
+use Rattle.layout_put.proofs.Laws.{half-held}
 use Rattle.layout_put.proofs.code_of.Statement.{statement}
 use Rattle.layout_put.proofs.code_of.Tie as tie
+
+-- each choice is 1 where the width of its code does not hold the number
+byte : (c : tie.After-choice) → c .choice .result ≡ pick (fits 1 (pos (c .before .args .m))) 0 1
+byte c = c .choice .ensures ∙ half-held 1 _ _ refl
+
+short : (c : tie.After-choice2) → c .choice2 .result ≡ pick (fits 2 (pos (c .before .before .args .m))) 0 1
+short c = c .choice2 .ensures ∙ half-held 2 _ _ refl
+
+int : (c : tie.After-choice3) → c .choice3 .result ≡ pick (fits 4 (pos (c .before .before .before .args .m))) 0 1
+int c = c .choice3 .ensures ∙ half-held 4 _ _ refl
 
 choice-requires : tie.Need-choice-requires
 choice-requires c κs = search needs
@@ -15,19 +28,19 @@ choice-requires-2 c κs = search needs
 
 add-result : tie.Need-add-result
 add-result c =
-    let m = c .before .before .args .m in
-    omega (arith, one-most (leb 0x80 m), one-most (leb 0x8000 m))
+    let g = pos (c .before .before .args .m) in
+    omega (arith, byte (c .before), short c, code-counts g, code-lt g)
 
 choice-requires-3 : tie.Need-choice-requires-3
 choice-requires-3 c κs = search needs
 
 add-result-2 : tie.Need-add-result-2
 add-result-2 c =
-    let m = c .before .before .before .args .m in
-    omega (arith, one-most (leb 0x80 m), one-most (leb 0x8000 m), one-most (leb 0x80000000 m))
+    let g = pos (c .before .before .before .args .m) in
+    omega (arith, byte (c .before .before), short (c .before), int c, code-counts g, code-lt g)
 
 returns : tie.Need-returns
-returns c = cc (code-counts (c .before .before .before .args .m))
+returns c = omega (arith, byte (c .before .before), short (c .before), int c, code-counts (pos (c .before .before .before .args .m)))
 
 pub code-of-spec : {M : Type 1} → statement M
 code-of-spec =

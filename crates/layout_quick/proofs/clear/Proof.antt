@@ -20,13 +20,13 @@ shr-most c = search needs
 returns-2 : tie.Need-returns-2
 returns-2 c =
     let a = c .before .before .args in
-    low-unclear (a .w) (a .a) (a .top) (omega (arith, reach (a .w) (c .before .if1 .left)))
+    low-unclear (a .w) (a .a) (a .top) (omega (arith, reach 4 (a .w) (c .before .if1 .left)))
 
 returns-3 : tie.Need-returns-3
 returns-3 c =
     let a = c .before .before .args in
     let l = c .before .if1 .left in
-    rw (reach (a .w) l) (clear-is (a .w) (a .a) (a .top) l (omega (arith, reach (a .w) l)))
+    rw (reach 4 (a .w) l) (clear-is (a .w) (a .a) (a .top) l (omega (arith, reach 4 (a .w) l)))
 
 pub clear-spec : {M : Type 1} → statement M
 clear-spec = tie.close (tie.spec returns mul-most sub-most shr-most returns-2 returns-3)

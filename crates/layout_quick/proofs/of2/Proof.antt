@@ -1,11 +1,11 @@
 -- `of2` meets its contract: two digits, and a shift takes off those that are not asked for.
 use borrow.Author.Needs.{needs}
-use mathlib.Core.Path.{_≡_}
-use Prim.Native.Nat.{_+_, _*_, _<_}
+use mathlib.Core.Path.{_≡_, refl}
+use Prim.Native.Nat.{ℕ, _+_, _*_, _<_}
 use native.Mathlib.Omega.{arith}
-use lib.ListN.{take, drop}
+use lib.ListN.{take, drop, getD}
 use Rattle.layout.specs.Numbers.{value}
-use Rattle.layout_quick.proofs.Laws.{two, part2}
+use Rattle.layout_quick.proofs.Laws.{two, value-lt, first-bytes}
 use Rattle.layout_quick.proofs.of2.Statement.{statement}
 use Rattle.layout_quick.proofs.of2.Tie as tie
 
@@ -52,7 +52,8 @@ returns c =
     let s = z .args .s .now in
     let at = z .args .at in
     let e : c .before .before .wide .result * 256 + c .wide2 .result ≡ value (take 2 (drop at s)) = omega (arith, two s at (z .pre .1)) in
-    rw e (part2 s at (λ i. omega (arith, c .before .before .before .before .shared-slice-known .given i)) (z .pre .1) (z .args .n) (z .pre .0))
+    let byte : (i : ℕ) → getD s i 0 < 256 = λ i. omega (arith, c .before .before .before .before .shared-slice-known .given i) in
+    rw (e, first-bytes s at byte 2 (z .args .n) (z .pre .0) (z .pre .1)) (refl, value-lt s at byte (z .args .n) (omega arith))
 
 pub of2-spec : {M : Type 1} → statement M
 of2-spec =

@@ -1,7 +1,10 @@
 -- `of4` meets its contract: a shift takes off the digits that are not asked for.
 use borrow.Author.Needs.{needs}
+use mathlib.Core.Path.{refl}
+use Prim.Native.Nat.{ℕ, _<_}
 use native.Mathlib.Omega.{arith}
-use Rattle.layout_quick.proofs.Laws.{part4}
+use lib.ListN.{getD}
+use Rattle.layout_quick.proofs.Laws.{value-lt, first-bytes}
 use Rattle.layout_quick.proofs.of4.Statement.{statement}
 use Rattle.layout_quick.proofs.of4.Tie as tie
 
@@ -20,8 +23,10 @@ shr-result c = search needs
 returns : tie.Need-returns
 returns c =
     let z = c .before .before in
-    rw (c .be4 .ensures .0)
-    (part4 (z .args .s .now) (z .args .at) (λ i. omega (arith, c .before .shared-slice-known .given i)) (z .pre .1) (z .args .n) (z .pre .0))
+    let s = z .args .s .now in
+    let at = z .args .at in
+    let byte : (i : ℕ) → getD s i 0 < 256 = λ i. omega (arith, c .before .shared-slice-known .given i) in
+    rw (c .be4 .ensures .0, first-bytes s at byte 4 (z .args .n) (z .pre .0) (z .pre .1)) (refl, value-lt s at byte (z .args .n) (omega arith))
 
 pub of4-spec : {M : Type 1} → statement M
 of4-spec = tie.close (tie.spec be4-requires mul-result sub-result shr-result returns)

@@ -6,17 +6,17 @@ use native.Mathlib.Omega.{arith}
 use lib.ListN.{take, drop}
 use Rattle.layout.specs.Numbers.{value}
 use Rattle.layout_quick.specs.Quick.{far}
-use Rattle.layout_quick.proofs.Laws.{reach, lifted, lifted-lt, lands, part4}
+use Rattle.layout_quick.proofs.Laws.{reach, lifted, lifted-lt, lands, first-bytes}
 use Rattle.layout_quick.proofs.placed.Statement.{statement}
 use Rattle.layout_quick.proofs.placed.Tie as tie
 
 far-is : (c : tie.After-be4) → let w = c .before .before .args .w in 0x200000000 / 2 ^ (32 - 8 * w) ≡ far w
-far-is c = let z = c .before .before in reach (z .args .w) (z .pre .1)
+far-is c = let z = c .before .before in reach 4 (z .args .w) (z .pre .1)
 
-up : (c : tie.After-be4) → let w = c .before .before .args .w in 4 * lifted w (c .be4 .result) < far w + far w
+up : (c : tie.After-be4) → let w = c .before .before .args .w in 4 * lifted 4 w (c .be4 .result) < far w + far w
 up c =
     let z = c .before .before in
-    lifted-lt (z .args .w) (c .be4 .result) (z .args .a) (z .pre .0) (z .pre .1) (c .be4 .ensures .1) (z .pre .3)
+    lifted-lt 4 (z .args .w) (c .be4 .result) (z .pre .0) (z .pre .1) (c .be4 .ensures .1)
 
 mul-k : tie.Need-mul-k
 mul-k c = search needs
@@ -51,8 +51,8 @@ returns c =
     let a = z .args in
     let s = a .s .now in
     let e : c .be4 .result / 2 ^ (32 - 8 * a .w) ≡ value (take (a .w) (drop (a .at) s))
-    = rw (c .be4 .ensures .0) (part4 s (a .at) (λ i. omega (arith, c .before .shared-slice-known .given i)) (z .pre .2) (a .w) (z .pre .1) .0) in
-    rw (far-is c, ← e) (lands (a .w) (c .be4 .result) (a .a) (z .pre .0) (z .pre .1) (c .be4 .ensures .1) (z .pre .3))
+    = rw (c .be4 .ensures .0) (first-bytes s (a .at) (λ i. omega (arith, c .before .shared-slice-known .given i)) 4 (a .w) (z .pre .1) (z .pre .2)) in
+    rw (far-is c, ← e) (lands 4 (a .w) (c .be4 .result) (z .pre .0) (z .pre .1) (c .be4 .ensures .1) (a .a) (z .pre .3))
 
 pub placed-spec : {M : Type 1} → statement M
 placed-spec =
