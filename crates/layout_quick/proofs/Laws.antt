@@ -13,6 +13,7 @@ use lib.Dec.{leb, ltb}
 use borrow.Author.Tests.{lt-ltb, le-ltb, le-leb, lt-leb}
 use Rattle.layout.specs.Numbers.{both, value-after, value}
 use Rattle.layout.specs.Parts.{part-cons}
+use Rattle.layout.specs.ByteValues.{value-next, value-below}
 use Rattle.layout_quick.specs.Quick.{far, clear, target}
 
 -- ---- powers of 256
@@ -46,31 +47,14 @@ halves (suc n) h = omega arith
 
 -- ---- bytes
 
--- one byte more, after those whose value is v
-more : (s : List ℕ) (n v at : ℕ) → at + n < length s
-    → value-after v (take (suc n) (drop at s)) ≡ value-after v (take n (drop at s)) * 256 + getD s (at + n) 0
-unfolding value-after
-more s zero v at h =
-    let e : at + 0 ≡ at = omega arith in
-    let l : at < length s = omega arith in
-    rw (part-cons s at 0 l, e)
-more s (suc n) v at h =
-    let e : suc at + n ≡ at + suc n = omega arith in
-    let l : at < length s = omega arith in
-    rw (part-cons s at (suc n) l, part-cons s at n l, ← e) (more s n (v * 256 + getD s at 0) (suc at) (omega arith))
-
 -- the bytes at a place of a slice, read one by one
 module _ (s : List ℕ) (at : ℕ) where
   next : (n : ℕ) → at + n < length s → value (take (suc n) (drop at s)) ≡ value (take n (drop at s)) * 256 + getD s (at + n) 0
-  next n h = more s n 0 at h
+  next = value-next s at
 
   first : at < length s → value (take 1 (drop at s)) ≡ getD s at 0
   unfolding value-after
   first h = rw (part-cons s at 0 h) (omega arith)
-
-  none : value (take 0 (drop at s)) ≡ 0
-  unfolding value-after
-  none = refl
 
   pub two : at + 2 ≤ length s → getD s at 0 * 256 + getD s (at + 1) 0 ≡ value (take 2 (drop at s))
   two h = omega (arith, first (omega arith), next 1 (omega arith))
@@ -87,8 +71,7 @@ module _ (s : List ℕ) (at : ℕ) where
   module _ (byte : (i : ℕ) → getD s i 0 < 256) where
     -- n bytes hold a number below 256 ^ n
     pub value-lt : (n : ℕ) → at + n ≤ length s → value (take n (drop at s)) < 256 ^ n
-    value-lt zero h = omega (arith, none)
-    value-lt (suc n) h = omega (arith, next n (omega arith), byte (at + n), value-lt n (omega arith))
+    value-lt = value-below s at (record { each = byte })
 
     -- the value without the last k bytes is a quotient
     cut-off : (n k : ℕ) → at + (n + k) ≤ length s → value (take (n + k) (drop at s)) / 256 ^ k ≡ value (take n (drop at s))

@@ -109,7 +109,7 @@ gives-fields top before c origin known hk sh worded =
     gives-last _ _ (λ v. gives-last _ _ (λ m. gives-last _ _ (λ name. gives-last _ _ (λ n. gives-last _ _ (λ ls. gives-last _ _ (λ t.
     gives-yield _ (same-word c (sh .cached) (eqb (sh .word) 0) (v .word) _ worded, λ z y. rw (z, y))))))))
 
-gives-formed : {s : List ℕ} (g : Tagged) → Gives s (λ fm. g ≡ Begins fm) (formed g)
+pub gives-formed : {s : List ℕ} (g : Tagged) → Gives s (λ fm. g ≡ Begins fm) (formed g)
 unfolding formed
 gives-formed (Begins fm) = gives-yield fm refl
 gives-formed Other = gives-refuse 6

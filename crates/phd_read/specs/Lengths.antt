@@ -36,10 +36,10 @@ gives-front top before sh =
     gives-last _ _ (λ a. gives-last _ _ (λ word. gives-then _ _ _ (gives-count (sh .len)) (λ len l. gives-yield _ l)))
 
 -- a true length of w bytes is at least the count n
-abbrev Least : ℕ → ℕ → ℕ → Type 0
+abbrev pub Least : ℕ → ℕ → ℕ → Type 0
 Least w n t = (t < 2 ^ 31) × (eqb w 0 ≡ false → n ≤ t)
 
-gives-true : {s : List ℕ} (w n : ℕ) → Gives s (Least w n) (true-length w n)
+pub gives-true : {s : List ℕ} (w n : ℕ) → Gives s (Least w n) (true-length w n)
 unfolding true-length
 gives-true w n =
     gives-by (eqb w 0) _ _ (λ e. gives-yield 0 (omega arith, λ f. let z : _≡_ {A = ℕ} 0 1 = cc in absurd (omega arith)))

@@ -1,7 +1,7 @@
 -- The rows of a table, each by its numbers, and the records that they are: 01's "The tables".
 -- A reader must believe `row-at` and `rows-of`, and that two records are the same, in 01's sense, exactly when their `Rec` are equal.
 use mathlib.Core.Path.{_≡_, refl, sym, ap, _∙_}
-use Prim.Native.Nat.{ℕ, zero, suc, _+_, _-_, _≤_, _<_}
+use Prim.Native.Nat.{ℕ, zero, suc, _+_, _-_, _%_, _≤_, _<_}
 use native.Mathlib.Nat.{zero-add, add-zero, sub-zero}
 use native.Mathlib.Numerals.{add-one}
 use native.Mathlib.Omega.{arith}
@@ -10,7 +10,7 @@ use mathlib.Core.List.{List, [], _∷_, _++_}
 use lib.Dec.{eqb}
 use lib.ListN.{length, getD, take, drop, length-append}
 use lib.Seq.{getD-drop, take-all}
-use Rattle.table.specs.Table.{row-width, offset-number, row-count, number, number-after}
+use Rattle.table.specs.Table.{row-width, offset-number, row-count, number, one-more, number-before, number-last, number-after}
 use Rattle.table.specs.declared.Row.{Row}
 
 -- ---- a row
@@ -215,6 +215,30 @@ module _ (row table : List ℕ) (l : length row ≡ row-width) where
   rows-after =
       let c : row-count (row ++ table) ≡ suc (row-count table) = simp length-append (omega arith) in
       rw (c, from-after (row-count table) 0)
+
+-- a row after whole rows is the last of the list
+module _ (table row : List ℕ) (whole : length table % row-width ≡ 0) (l : length row ≡ row-width) where
+  before-same : (n i : ℕ) → i + n ≤ row-count table → rows-from (table ++ row) i n ≡ rows-from table i n
+  unfolding rows-from
+  before-same zero i b = refl
+  before-same (suc n) i b =
+      rw (row-by (table ++ row) table i i (λ k m _. number-before table row whole l i k (omega arith) m), before-same n (suc i) (omega arith))
+
+  from-last : (t : List ℕ) (n i : ℕ) → rows-from t i (suc n) ≡ rows-from t i n ++ (row-at t (i + n) ∷ [])
+  unfolding rows-from
+  from-last t zero i = rw add-zero
+  from-last t (suc n) i = let e : i + suc n ≡ suc i + n = omega arith in ap (λ (x : List Row). row-at t i ∷ x) (rw e (from-last t n (suc i)))
+
+  pub rows-last : rows-of (table ++ row) ≡ rows-of table ++ (row-at row 0 ∷ [])
+  unfolding rows-of
+  rows-last =
+      rw (
+        one-more table row whole l,
+        from-last (table ++ row) (row-count table) 0,
+        before-same (row-count table) 0 (omega arith),
+        zero-add,
+        row-by (table ++ row) row (row-count table) 0 (λ k _ _. rw zero-add (number-last table row whole l k)),
+      )
 
 -- the records of as many rows as a table has are those of all its rows
 pub all-recs : (names refs table : List ℕ) → first-recs (row-count table) names refs table ≡ recs names refs (rows-of table)

@@ -1,0 +1,241 @@
+-- The row of a record that was read passes the writer's checks, whatever its form is: what the tests of Good ask, from what holds of
+-- a row by its shape.
+-- Assumes nothing.
+use mathlib.Core.Path.{_≡_, refl, sym, _∙_}
+use mathlib.Core.Logic.{inl, inr}
+use Prim.Native.Nat.{ℕ, _+_, _/_, _%_, _^_, _≤_, _<_}
+use native.Mathlib.Omega.{arith}
+use mathlib.Core.Bool.{Bool, true, false}
+use mathlib.Core.List.{List, [], _∷_, _++_}
+use lib.Dec.{leb, eqb}
+use lib.ListN.{length, take, drop, length-append}
+use lib.Seq.{take-all, drop-at}
+use borrow.Author.Tests.{le-leb, lt-ltb, eq-eqb, ne-eqb}
+use Rattle.layout.specs.Numbers.{pick, within}
+use Rattle.layout.specs.ByteValues.{StringAt}
+use Rattle.layout.specs.Values.{pick-either}
+use Rattle.layout.specs.declared.Maybe.the-variants.{Just}
+use Rattle.table.specs.Rows.{refs-of, name-of}
+use Rattle.table.specs.declared.Row.{Row}
+use Rattle.phd.specs.Phd.{bit, highest, tagged, known-class, moved-bit, hashed-bit, hash-kind, hash-bytes, shape}
+use Rattle.phd.specs.Shapes.{Word}
+use Rattle.phd.specs.declared.classes.Cache.{Cache}
+use Rattle.phd.specs.declared.Facts.{Facts}
+use Rattle.phd.specs.declared.Form.{Form}
+use Rattle.phd.specs.declared.Form.the-variants.{Short, Medium, Long, Class, ObjectArray, Primitive, LongPrimitive}
+use Rattle.phd.specs.declared.Tagged.{Tagged}
+use Rattle.phd.specs.declared.Tagged.the-variants.{Begins, Other}
+use Rattle.phd_rows.specs.Good.{every, good-hash, good-class, no-name, good-object, good-array, good-primitive, good-kind, good-place, good-span, good-numbers, good-ref, good-refs, good-row}
+use Rattle.phd_rows.specs.Kept.{GoodRef, GoodRefs}
+use Rattle.phd_copy.specs.GoodRead.{RowOk}
+
+-- ---- the tests of a row
+
+place-good : (top : ℕ) (r : Row) → r .address % 4 ≡ 0 → r .address ≤ top → r .word ≤ top → good-place top r ≡ true
+unfolding good-place every
+place-good top r a b c = rw (eq-eqb _ _ a, le-leb _ _ b, le-leb _ _ c)
+
+pub span-good : (index lent : ℕ) (r : Row) → r .first ≡ index → r .first + r .count ≤ lent → r .count < 2 ^ 31 → good-span index lent r ≡ true
+unfolding good-span every
+span-good index lent r a b c = rw (eq-eqb _ _ a, le-leb _ _ b, lt-ltb _ _ c)
+
+hash-good : (hashed : Bool) (r : Row) → (hashed ≡ true → r .hashkind ≡ 3) → (hashed ≡ false → r .hashkind < 3) → r .hash < 256 ^ hash-bytes (r .hashkind)
+    → good-hash hashed r ≡ true
+unfolding good-hash
+hash-good true r a b c = rw (eq-eqb _ _ (a refl), lt-ltb _ _ c)
+hash-good false r a b c = rw (lt-ltb _ _ (b refl), lt-ltb _ _ c)
+
+unnamed-good : (r : Row) → (r .place ≡ 0) × (r .namelen ≡ 0) → no-name r ≡ true
+unfolding no-name
+unnamed-good r e = rw (eq-eqb _ _ (e .0), eq-eqb _ _ (e .1))
+
+class-good : (lent : ℕ) (r : Row) → r .kind ≡ 1 → (r .hashkind ≡ 1 → ⊥) → r .size < 2 ^ 31 → r .len ≡ 0 → 1 ≤ r .namelen → r .namelen < 65536
+    → r .place + r .namelen ≤ lent → r .prim ≡ 0 → good-kind lent r ≡ true
+unfolding good-kind good-class every
+class-good lent r k a b c d e f g =
+    rw (eq-eqb _ _ k, ne-eqb _ _ a, lt-ltb _ _ b, eq-eqb _ _ c, le-leb _ _ d, lt-ltb _ _ e, le-leb _ _ f, eq-eqb _ _ g)
+
+object-good : (lent : ℕ) (r : Row) → r .kind ≡ 2 → r .size ≡ 0 → r .len ≡ 0 → (r .place ≡ 0) × (r .namelen ≡ 0) → r .prim ≡ 0 → good-kind lent r ≡ true
+unfolding good-kind good-object every
+object-good lent r k a b c d =
+    rw (ne-eqb (r .kind) 1 (λ z. omega arith), eq-eqb _ _ k, eq-eqb (r .size) 0 a, eq-eqb (r .len) 0 b, unnamed-good r c, eq-eqb (r .prim) 0 d)
+
+array-good : (lent : ℕ) (r : Row) → r .kind ≡ 3 → r .size < 2 ^ 32 → r .len < 2 ^ 31 → r .count ≤ r .len → (r .place ≡ 0) × (r .namelen ≡ 0) → r .prim ≡ 0
+    → good-kind lent r ≡ true
+unfolding good-kind good-array every
+array-good lent r k a b c d e =
+    rw (ne-eqb (r .kind) 1 (λ z. omega arith), ne-eqb (r .kind) 2 (λ z. omega arith), eq-eqb _ _ k, lt-ltb _ _ a, lt-ltb _ _ b, le-leb _ _ c, unnamed-good r d, eq-eqb (r .prim) 0 e)
+
+primitive-good : (lent : ℕ) (r : Row) → r .kind ≡ 4 → r .word ≡ 0 → r .count ≡ 0 → r .size < 2 ^ 32 → r .len < 2 ^ 31 → (r .place ≡ 0) × (r .namelen ≡ 0)
+    → r .prim < 8 → good-kind lent r ≡ true
+unfolding good-kind good-primitive every
+primitive-good lent r k a b c d e f =
+    rw (ne-eqb (r .kind) 1 (λ z. omega arith), ne-eqb (r .kind) 2 (λ z. omega arith), ne-eqb (r .kind) 3 (λ z. omega arith), eq-eqb _ _ k,
+      eq-eqb (r .word) 0 a, eq-eqb (r .count) 0 b, lt-ltb _ _ c, lt-ltb _ _ d, unnamed-good r e, lt-ltb _ _ f)
+
+refs-good : (top : ℕ) (rs : List ℕ) → GoodRefs top rs → good-refs top rs ≡ true
+unfolding good-refs good-ref every
+refs-good top [] g = refl
+refs-good top (a ∷ rs) g = rw (eq-eqb _ _ (g .0 .fours), le-leb _ _ (g .0 .some), le-leb _ _ (g .0 .most), refs-good top rs (g .1))
+
+-- ---- its references and its name, among those of all
+
+-- the references of the last row are the last of all
+last-refs : (refs rs : List ℕ) (first count : ℕ) → first ≡ length refs → length rs ≡ count → take count (drop first (refs ++ rs)) ≡ rs
+last-refs refs rs first count a b = rw (drop-at refs rs first (sym a)) (take-all count rs (omega arith))
+
+no-bytes : (s : List ℕ) (place len : ℕ) → len ≡ 0 → within 0x21 0x7E (take len (drop place s)) ≡ true
+unfolding within
+no-bytes s place len e = rw e
+
+-- ---- tags
+
+-- a tag that begins another form is below 0x80
+below-short : (x : Bool) (g : Tagged) (fm : Form) → pick x (Begins Short) g ≡ Begins fm → (fm ≡ Short → ⊥) → x ≡ false
+below-short true g fm e d = absurd (d cc)
+below-short false g fm e d = refl
+
+class-tag : (a b c d e f g : Bool) → pick a (Begins Short) (pick b (Begins Medium) (pick c (Begins Primitive) (pick d (Begins Long)
+    (pick e (Begins Class) (pick f (Begins LongPrimitive) (pick g (Begins ObjectArray) Other)))))) ≡ Begins Class → e ≡ true
+class-tag true b c d e f g h = let z : _≡_ {A = ℕ} 0 1 = cc in absurd (omega arith)
+class-tag false true c d e f g h = let z : _≡_ {A = ℕ} 0 1 = cc in absurd (omega arith)
+class-tag false false true d e f g h = let z : _≡_ {A = ℕ} 0 1 = cc in absurd (omega arith)
+class-tag false false false true e f g h = let z : _≡_ {A = ℕ} 0 1 = cc in absurd (omega arith)
+class-tag false false false false true f g h = refl
+class-tag false false false false false true g h = let z : _≡_ {A = ℕ} 0 1 = cc in absurd (omega arith)
+class-tag false false false false false false true h = let z : _≡_ {A = ℕ} 0 1 = cc in absurd (omega arith)
+class-tag false false false false false false false h = let z : _≡_ {A = ℕ} 0 1 = cc in absurd (omega arith)
+
+-- ---- hash kinds
+
+all-hashed : (h : Facts) (t f : ℕ) → h .hashed ≡ true → hash-kind h t f ≡ 3
+unfolding hash-kind
+all-hashed h t f e = rw e
+
+not-all : (h : Facts) (t f : ℕ) → h .hashed ≡ false → hash-kind h t f < 3
+unfolding hash-kind
+not-all h t f e = rw e (pick-either (λ k. k < 3) (moved-bit t f) 2 _ (omega arith) (pick-either (λ k. k < 3) (hashed-bit t f) 1 0 (omega arith) (omega arith)))
+
+-- a class is never hashed without a hash
+class-hash : (h : Facts) (t f : ℕ) → eqb t 6 ≡ true → hash-kind h t f ≡ 1 → ⊥
+unfolding hash-kind moved-bit hashed-bit
+class-hash h t f e = rw e (by (h .hashed) (bit 0x08 f))
+  where
+    by : (x y : Bool) → _≡_ {A = ℕ} (pick x 3 (pick y 2 0)) 1 → ⊥
+    by true y z = omega arith
+    by false true z = omega arith
+    by false false z = omega arith
+
+-- ---- by the form
+
+-- a number of W bits is at most the highest
+word-most : (W x : ℕ) → Word W → x < 256 ^ (W / 8) → x ≤ highest W
+unfolding highest
+word-most W x (inl e) l = let k : x < 256 ^ 4 = rw e at l in rw e (omega arith)
+word-most W x (inr e) l = let k : x < 256 ^ 8 = rw e at l in rw e (omega arith)
+
+word-some : (W : ℕ) → Word W → eqb (W / 8) 0 ≡ false
+word-some W (inl e) = rw e
+word-some W (inr e) = rw e
+
+known-none : (c : Cache) (t known : ℕ) → leb 0x80 t ≡ false → known-class c t ≡ Just known → known ≡ 0
+unfolding known-class
+known-none c t known x e = let z : Just 0 ≡ Just known = rw x at e in cc
+
+-- what is left to show of a row, beside its address, its span and its hash
+record FormGood (top : ℕ) (s : List ℕ) (r : Row) : Type 0 where
+  pub word : r .word ≤ top
+  pub few : r .count < 2 ^ 31
+  pub kind : good-kind (length s) r ≡ true
+  pub name : within 0x21 0x7E (name-of s r) ≡ true
+
+module _ (h : Facts) (w : Word (h .word)) (s : List ℕ) (c : Cache) (t f known index : ℕ) (r : Row) (rs : List ℕ)
+    (d : known-class c t ≡ Just known) (k : known ≤ highest (h .word)) where
+  abbrev top : ℕ
+  top = highest (h .word)
+
+  abbrev Ok : Form → Type 0
+  Ok fm = RowOk top known (hash-kind h t f) index s (shape (h .word / 8) fm t f) r rs
+
+  no-class : (fm : Form) → tagged t ≡ Begins fm → (fm ≡ Short → ⊥) → known ≡ 0
+  unfolding tagged
+  no-class fm g n = known-none c t known (below-short (leb 0x80 t) _ fm g n) d
+
+  form-good : (fm : Form) → tagged t ≡ Begins fm → Ok fm → FormGood top s r
+  unfolding shape name-of tagged
+  form-good Short g o =
+      let z : r .size < 1 = o .size refl in
+      record {
+        word = omega (arith, o .wordless refl refl);
+        few = omega (arith, o .count .fixed refl);
+        kind = object-good (length s) r (o .kind) (omega arith) (o .len refl .1 refl) (o .name .none refl) (o .prim);
+        name = no-bytes s (r .place) (r .namelen) (o .name .none refl .1);
+      }
+  form-good Medium g o =
+      let z : r .size < 1 = o .size refl in
+      record {
+        word = word-most (h .word) (r .word) w (o .worded (word-some (h .word) w));
+        few = omega (arith, o .count .fixed refl);
+        kind = object-good (length s) r (o .kind) (omega arith) (o .len refl .1 refl) (o .name .none refl) (o .prim);
+        name = no-bytes s (r .place) (r .namelen) (o .name .none refl .1);
+      }
+  form-good Long g o =
+      let z : r .size < 1 = o .size refl in
+      record {
+        word = word-most (h .word) (r .word) w (o .worded (word-some (h .word) w));
+        few = o .count .counted refl;
+        kind = object-good (length s) r (o .kind) (omega arith) (o .len refl .1 refl) (o .name .none refl) (o .prim);
+        name = no-bytes s (r .place) (r .namelen) (o .name .none refl .1);
+      }
+  form-good Class g o =
+      let n = o .name .some refl in
+      record {
+        word = word-most (h .word) (r .word) w (o .superclass refl (word-some (h .word) w));
+        few = o .count .counted refl;
+        kind =
+            class-good (length s) r (o .kind) (λ z. class-hash h t f (class-tag (leb 0x80 t) (leb 0x40 t) (leb 0x20 t) (eqb t 4) (eqb t 6) (eqb t 7) (eqb t 8) g) (sym (o .hashkind) ∙ z)) (o .inst refl)
+            (o .len refl .1 refl) (n .enough) (n .short) (n .inside) (o .prim);
+        name = n .bytes;
+      }
+  form-good ObjectArray g o = record {
+    word = word-most (h .word) (r .word) w (o .worded (word-some (h .word) w));
+    few = o .count .counted refl;
+    kind = array-good (length s) r (o .kind) (o .size refl) (o .long refl .0) (o .long refl .1) (o .name .none refl) (o .prim);
+    name = no-bytes s (r .place) (r .namelen) (o .name .none refl .1);
+  }
+  form-good Primitive g o =
+      let z : r .word ≡ 0 = o .wordless refl refl ∙ no-class Primitive g (λ e. let z : _≡_ {A = ℕ} 0 1 = cc in omega arith) in
+      record {
+        word = omega arith;
+        few = omega (arith, o .count .fixed refl);
+        kind = primitive-good (length s) r (o .kind) z (o .count .fixed refl) (o .size refl) (o .len refl .0) (o .name .none refl) (omega (arith, o .prim));
+        name = no-bytes s (r .place) (r .namelen) (o .name .none refl .1);
+      }
+  form-good LongPrimitive g o =
+      let z : r .word ≡ 0 = o .wordless refl refl ∙ no-class LongPrimitive g (λ e. let z : _≡_ {A = ℕ} 0 1 = cc in omega arith) in
+      record {
+        word = omega arith;
+        few = omega (arith, o .count .fixed refl);
+        kind = primitive-good (length s) r (o .kind) z (o .count .fixed refl) (o .size refl) (o .len refl .0) (o .name .none refl) (omega (arith, o .prim));
+        name = no-bytes s (r .place) (r .namelen) (o .name .none refl .1);
+      }
+
+  -- The row is good, with its references after those before it, and so is its class word.
+  pub row-good : (fm : Form) (refs : List ℕ) → tagged t ≡ Begins fm → index ≡ length refs → Ok fm
+      → (good-row h s (refs ++ rs) (length refs) r ≡ true) × (r .word ≤ top)
+  unfolding good-row good-numbers every refs-of
+  row-good fm refs g e o =
+      let x = form-good fm g o in
+      let l : r .first + r .count ≤ length (refs ++ rs) = simp length-append (omega (arith, o .first, o .refs .many)) in
+      (
+        rw (
+          place-good top r (o .fours) (o .most) (x .word),
+          span-good (length refs) (length (refs ++ rs)) r (o .first ∙ e) l (x .few),
+          hash-good (h .hashed) r (λ y. o .hashkind ∙ all-hashed h t f y) (λ y. omega (arith, o .hashkind, not-all h t f y)) (rw (o .hashkind) (o .hash)),
+          x .kind,
+          last-refs refs rs (r .first) (r .count) (o .first ∙ e) (o .refs .many),
+          refs-good top rs (o .refs .good),
+          x .name,
+        ),
+        x .word,
+      )
