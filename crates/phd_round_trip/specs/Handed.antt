@@ -26,7 +26,7 @@ use Rattle.table.specs.Rows.{Rec}
 use Rattle.phd_put.specs.Record.{put-record, cache-after}
 use Rattle.phd_round_trip.specs.Entry.{reads-entry}
 use Rattle.phd_write.specs.Write.{put-records}
-use Rattle.phd_round_trip.specs.Terms.{all-refs, within-cut}
+use Rattle.phd_round_trip.specs.Terms.{all-refs, within-cut, stop-in}
 use Rattle.phd_round_trip.specs.Within.{AllGood}
 use Rattle.phd_round_trip.specs.Back.{refs-place, row-back, length-row, record-back}
 
@@ -56,7 +56,7 @@ pub record HandsOut (m total : ℕ) (h : Facts) (st : State) (rs : List Rec) (rd
   pub rows : rd .rows ≡ st .rows ++ rows-back h (st .at) (st .context .address) (st .context .cache) (within-cut m h (st .at) (st .context .address) (st .context .cache) rs)
   pub refs : rd .refs ≡ st .refs ++ all-refs (within-cut m h (st .at) (st .context .address) (st .context .cache) rs)
   pub reply : rd .reply ≡ pick (leb total m) 0 1
-  pub place : total ≤ m → rd .place ≡ total
+  pub place : rd .place ≡ stop-in m h (st .at) (st .context .address) (st .context .cache) rs
   pub facts : rd .facts ≡ h
 
 -- a record as it is read, at the state st, and the state after it
@@ -75,29 +75,30 @@ after h st r = onto st (row-read h st r) (r .refs) (carried (r .row .address) (c
 -- a record within the cut
 hand-on : (m total : ℕ) (h : Facts) (st : State) (r : Rec) (rs : List Rec) (rd : Result) → st .at + size h st r ≤ m
     → HandsOut m total h (after h st r) rs rd → HandsOut m total h st (r ∷ rs) rd
-unfolding within-cut rows-back all-refs
+unfolding within-cut stop-in rows-back all-refs
 hand-on m total h st r rs rd l g = record {
   rows = rw (le-leb _ _ l) (rw append-assoc at (g .rows));
   refs = rw (le-leb _ _ l) (rw append-assoc at (g .refs));
   reply = g .reply;
-  place = g .place;
+  place = rw (le-leb _ _ l) (g .place);
   facts = g .facts;
 }
 
 -- a record beyond the cut
 hand-none : (m total k : ℕ) (h : Facts) (st : State) (r : Rec) (rs : List Rec) → m < st .at + size h st r → m < total
     → HandsOut m total h st (r ∷ rs) (ended h st 1 (st .at) k)
-unfolding within-cut rows-back all-refs ended
+unfolding within-cut stop-in rows-back all-refs ended
 hand-none m total k h st r rs l t = record {
   rows = rw (lt-leb _ _ l) (sym (append-nil (st .rows)));
   refs = rw (lt-leb _ _ l) (sym (append-nil (st .refs)));
   reply = rw (lt-leb total m t);
-  place = λ k. absurd (omega arith);
+  place = rw (lt-leb _ _ l);
   facts = refl;
 }
 
 -- no record is left
-hand-last : (m total : ℕ) (h : Facts) (st : State) (reply place k : ℕ) → reply ≡ pick (leb total m) 0 1 → (total ≤ m → place ≡ total)
+hand-last : (m total : ℕ) (h : Facts) (st : State) (reply place k : ℕ) → reply ≡ pick (leb total m) 0 1
+    → place ≡ stop-in m h (st .at) (st .context .address) (st .context .cache) []
     → HandsOut m total h st [] (ended h st reply place k)
 unfolding within-cut rows-back all-refs ended
 hand-last m total h st reply place k e l =
@@ -154,7 +155,7 @@ Body h R F m f rs =
     (records f h (take m (pre ++ put-records h (st .context .address) (st .context .cache) rs)) R F st)
 
 body-end : (h : Facts) (R F m f : ℕ) → Body h R F m (suc f) []
-unfolding put-records be
+unfolding put-records be stop-in
 body-end h R F m f st pre e l k = elim (decLe (st .at + 1) m) [ yes q ↦ ends q | no q ↦ cuts (omega arith) ]
   where
     dump : List ℕ
@@ -167,13 +168,13 @@ body-end h R F m f st pre e l k = elim (decLe (st .at + 1) m) [ yes q ↦ ends q
     ends q =
         let g : found phd h (take m dump) st ≡ whole over (st .at + 1) = fits (entry h (st .context .address) (st .context .cache) (length (st .refs))) dump (st .at) m over (st .at + 1) full q in
         rw (records-halt phd f h (take m dump) (capacity R F) st (ended h st 0 (st .at + 1) 0) (step-end phd h (take m dump) (capacity R F) st (st .at + 1) g))
-        (hand-last m (st .at + 1) h st 0 (st .at + 1) 0 (rw (le-leb (st .at + 1) m q)) (λ _. refl))
+        (hand-last m (st .at + 1) h st 0 (st .at + 1) 0 (rw (le-leb (st .at + 1) m q)) (rw (le-leb (st .at + 1) m q)))
 
     cuts : m < st .at + 1 → HandsOut m (st .at + 1) h st [] (records (suc f) h (take m dump) R F st)
     cuts q =
         let g = stops-short (entry h (st .context .address) (st .context .cache) (length (st .refs))) dump (st .at) m over (st .at + 1) full l q in
         rw (records-cut h (take m dump) R F f st (g .lack) (g .is))
-        (hand-last m (st .at + 1) h st 1 (st .at) (g .lack) (rw (lt-leb (st .at + 1) m q)) (λ k′. absurd (omega arith)))
+        (hand-last m (st .at + 1) h st 1 (st .at) (g .lack) (rw (lt-leb (st .at + 1) m q)) (rw (lt-leb (st .at + 1) m q)))
 
 body-on : (h : Facts) (R F m f : ℕ) (r : Rec) (rs : List Rec) → Body h R F m f rs → Body h R F m (suc f) (r ∷ rs)
 unfolding put-records

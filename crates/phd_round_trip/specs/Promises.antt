@@ -23,8 +23,8 @@ use Rattle.phd_read.specs.Answer.{answer}
 use Rattle.phd_write.specs.Write.{put-header, put-records, put-dump, write-rows, writing}
 use Rattle.phd_write.specs.Terms.{dump-of}
 use Rattle.phd_write.specs.Ways.{said-0}
-use Rattle.phd_round_trip.specs.Terms.{all-refs, kept}
-use Rattle.phd_round_trip.specs.Within.{within-all}
+use Rattle.phd_round_trip.specs.Terms.{all-refs, kept, stop-at}
+use Rattle.phd_round_trip.specs.Within.{within-all, stop-all}
 use Rattle.phd_round_trip.specs.HeaderBack.{written-facts, vm-kept, vm-stands}
 use Rattle.phd_round_trip.specs.Whole.{ReadsCut, reads-cut, kept-count, kept-records}
 use Rattle.phd_round_trip.specs.Good.{good-dump, length-recs, rows-enough, refs-lent}
@@ -62,6 +62,14 @@ all-within h names rs =
     let t = length-append (put-header names h) (put-records h 0 empty rs) in
     within-all (length (put-dump names h rs)) h (length (put-header names h)) 0 empty rs (omega arith)
 
+-- and a reading of all of it stops after the end tag
+all-read : (h : Facts) (names : List ℕ) (rs : List Rec) → stop-at names h rs (length (put-dump names h rs)) ≡ length (put-dump names h rs)
+unfolding put-dump
+all-read h names rs =
+    let t = length-append (put-header names h) (put-records h 0 empty rs) in
+    rw (le-leb (length (put-header names h)) (length (put-dump names h rs)) (omega arith))
+    (stop-all (length (put-dump names h rs)) h (length (put-header names h)) 0 empty rs (omega arith) ∙ sym t)
+
 -- What was written reads back as the records passed in, under the same header, in tables with a row for each record and a number
 -- for each of their references.
 pub round-trip : (h : Facts) (names refs : List ℕ) (rows : List Row) (room R F : ℕ) → write-rows h names refs rows room .answer .reply ≡ 0
@@ -80,7 +88,7 @@ round-trip h names refs rows room R F z p q =
     rw (said-0 h names refs rows room z .3)
     (record {
       reply = rw (le-leb (length s) (length s) (omega arith)) at (c .reply);
-      place = c .place (omega arith);
+      place = c .place ∙ all-read h names rs;
       records = sym (all-recs s (reading s R F .refs) (reading s R F .rows)) ∙ (rw (append-nil (reading s R F .refs), append-nil (reading s R F .rows)) at k ∙ all-within h names rs);
       rows-count = n ∙ ap length (all-within h names rs) ∙ length-recs names refs rows;
       refs-all = c .refs ∙ ap all-refs (all-within h names rs);
@@ -106,6 +114,8 @@ pub record Handed (h : Facts) (names refs : List ℕ) (rows : List Row) (bytes :
   pub refs-all : rd .refs ≡ all-refs (kept names h (recs names refs rows) m)
   -- the reply is cut exactly when the end tag, which is the last byte, lies outside the cut, and else done
   pub reply : rd .reply ≡ pick (leb (length bytes) m) 0 1
+  -- with it, the place: after the end tag, or else the tag of the first record that is not whole, and 0 in the header
+  pub place : rd .place ≡ stop-at names h (recs names refs rows) m
 
 -- Any cut of any dump that was written, read with a row for each record and a number for each of their references.
 pub handed : (h : Facts) (names refs : List ℕ) (rows : List Row) (room m R F : ℕ) → write-rows h names refs rows room .answer .reply ≡ 0
@@ -123,6 +133,7 @@ handed h names refs rows room m R F z p q =
       rows-count = kept-count names h rs m R F g r q;
       refs-all = reads-cut names h rs m R F g r q .refs;
       reply = reads-cut names h rs m R F g r q .reply;
+      place = reads-cut names h rs m R F g r q .place;
     })
 
 -- The same as a caller sees it, who passes the tables rows′ and refs′ to the reading: as many rows as are counted, in the
@@ -132,6 +143,7 @@ pub record Seen (h : Facts) (names refs : List ℕ) (rows : List Row) (bytes : L
   pub rows-count : answer rd .rows ≡ length (kept names h (recs names refs rows) m)
   pub refs-count : answer rd .refs ≡ length (all-refs (kept names h (recs names refs rows) m))
   pub reply : answer rd .reply ≡ pick (leb (length bytes) m) 0 1
+  pub place : answer rd .place ≡ stop-at names h (recs names refs rows) m
 
 pub handed-seen : (h : Facts) (names refs : List ℕ) (rows : List Row) (room m : ℕ) (rows′ refs′ : List ℕ) → write-rows h names refs rows room .answer .reply ≡ 0
     → length rows * row-width ≤ length rows′ → length (all-refs (recs names refs rows)) ≤ length refs′
@@ -149,4 +161,5 @@ handed-seen h names refs rows room m rows′ refs′ z p q =
       rows-count = kept-count names h rs m _ _ g r q;
       refs-count = ap length (reads-cut names h rs m _ _ g r q .refs);
       reply = reads-cut names h rs m _ _ g r q .reply;
+      place = reads-cut names h rs m _ _ g r q .place;
     })

@@ -9,13 +9,13 @@ use lib.ListN.{length, take, length-append, length-take}
 use lib.Dec.{leb}
 use native.Mathlib.Omega.{arith}
 use native.Mathlib.Decide.{decLe}
-use borrow.Author.Tests.{lt-leb}
+use borrow.Author.Tests.{le-leb, lt-leb}
 use Rattle.layout.specs.Numbers.{pick}
 use Rattle.layout.specs.Layout.{whole, run, reply-of}
 use Rattle.layout.specs.Cuts.{fits, stops-short}
 use Rattle.layout.specs.declared.Stop.the-variants.{Cut}
 use Rattle.table.specs.Table.{row-width, row-count}
-use Rattle.phd.specs.Phd.{limit, empty, header, Result, phd, capacity, first, reading}
+use Rattle.phd.specs.Phd.{limit, empty, header, no-facts, Result, phd, capacity, first, reading}
 use Rattle.phd.specs.Shapes.{Word}
 use Rattle.phd.specs.declared.Facts.{Facts}
 use Rattle.reading.specs.Reading.{first as first-of, nothing as nothing-of}
@@ -23,8 +23,8 @@ use Rattle.reading.specs.Steps.{reading-opens, reading-stops}
 use Rattle.table.specs.Rows.{Rec, recs, first-recs}
 use Rattle.phd_rows.specs.Good.{good-vm}
 use Rattle.phd_write.specs.Write.{put-header, put-records, put-dump}
-use Rattle.phd_round_trip.specs.Terms.{all-refs, within-cut, kept}
-use Rattle.phd_round_trip.specs.Within.{AllGood, within-none, records-long, records-same, within-same, all-same}
+use Rattle.phd_round_trip.specs.Terms.{all-refs, within-cut, kept, stop-in, stop-at}
+use Rattle.phd_round_trip.specs.Within.{AllGood, within-none, records-long, records-same, stop-same, within-same, all-same}
 use Rattle.phd_round_trip.specs.HeaderBack.{written-facts, header-back}
 use Rattle.phd_round_trip.specs.Handed.{rows-back, length-rows, Coming, body}
 use Rattle.phd_round_trip.specs.Same.{recs-within}
@@ -41,8 +41,9 @@ pub record ReadsCut (names : List ℕ) (h : Facts) (rs : List Rec) (m : ℕ) (rd
   pub rows : rd .rows ≡ rows-back (written-facts h) (length (put-header names h)) 0 empty (kept names h rs m)
   pub refs : rd .refs ≡ all-refs (kept names h rs m)
   pub reply : rd .reply ≡ pick (leb (length (put-dump names h rs)) m) 0 1
-  pub place : length (put-dump names h rs) ≤ m → rd .place ≡ length (put-dump names h rs)
+  pub place : rd .place ≡ stop-at names h rs m
   pub facts : length (put-header names h) ≤ m → rd .facts ≡ written-facts h
+  pub early : m < length (put-header names h) → rd .facts ≡ no-facts
 
 module _ (names : List ℕ) (h : Facts) (rs : List Rec) (m R F : ℕ) (g : GoodDump names h rs)
     (p : row-width * length rs ≤ R) (q : length (all-refs rs) ≤ F) where
@@ -93,7 +94,7 @@ module _ (names : List ℕ) (h : Facts) (rs : List Rec) (m R F : ℕ) (g : GoodD
   after-header l =
       let b = body k R F m (suc limit) rs (first (length hd)) hd refl l coming in
       rw (reading-opens phd (take m dump) (capacity R F) k (length hd) short (fits header dump 0 m k (length hd) full l), dump-is)
-      (record { rows = rw kept-is (b .rows); refs = rw kept-is (b .refs); reply = rw total (b .reply); place = rw total (b .place); facts = λ _. b .facts })
+      (record { rows = rw kept-is (b .rows); refs = rw kept-is (b .refs); reply = rw total (b .reply); place = rw (le-leb (length hd) m l, stop-same h k refl m (length hd) 0 empty rs) (b .place); facts = λ _. b .facts; early = λ j. absurd (omega arith) })
 
   in-header : m < length hd → ReadsCut names h rs m (reading (take m dump) R F)
   unfolding rows-back all-refs nothing-of reply-of
@@ -106,8 +107,9 @@ module _ (names : List ℕ) (h : Facts) (rs : List Rec) (m R F : ℕ) (g : GoodD
         rows = rw e;
         refs = rw e;
         reply = rw (lt-leb (length dump) m (omega arith));
-        place = λ j. absurd (omega arith);
+        place = rw (lt-leb (length hd) m l);
         facts = λ j. absurd (omega arith);
+        early = λ _. refl;
       })
 
   -- Any cut of a written dump is read so.

@@ -14,7 +14,7 @@ use Rattle.phd.specs.declared.Facts.{Facts}
 use Rattle.phd_rows.specs.Kept.{Good}
 use Rattle.phd_put.specs.Record.{put-tag, put-planned, plan-of, put-record, cache-after}
 use Rattle.phd_write.specs.Write.{put-records}
-use Rattle.phd_round_trip.specs.Terms.{within-cut}
+use Rattle.phd_round_trip.specs.Terms.{within-cut, stop-in}
 
 -- ---- good records
 
@@ -43,6 +43,16 @@ within-all m h p before c (r ∷ rs) l =
     let n : ℕ = length (put-record h before c r) in
     let a = length-append (put-record h before c r) (put-records h (r .row .address) (cache-after h before c r) rs) in
     rw (le-leb (p + n) m (omega arith), within-all m h (p + n) (r .row .address) (cache-after h before c r) rs (omega arith))
+
+-- with all of it in the cut a reading stops after the end tag
+pub stop-all : (m : ℕ) (h : Facts) (p before : ℕ) (c : Cache) (rs : List Rec) → p + length (put-records h before c rs) ≤ m
+    → stop-in m h p before c rs ≡ p + length (put-records h before c rs)
+unfolding stop-in put-records be
+stop-all m h p before c [] l = rw (le-leb (p + 1) m l)
+stop-all m h p before c (r ∷ rs) l =
+    let n : ℕ = length (put-record h before c r) in
+    let a = length-append (put-record h before c r) (put-records h (r .row .address) (cache-after h before c r) rs) in
+    rw (le-leb (p + n) m (omega arith)) (omega (arith, stop-all m h (p + n) (r .row .address) (cache-after h before c r) rs (omega arith)))
 
 -- a record has a byte at least, and the end tag is one
 record-some : (h : Facts) (before : ℕ) (c : Cache) (r : Rec) → 0 < length (put-record h before c r)
@@ -73,6 +83,12 @@ module _ (h k : Facts) (e : h .word ≡ k .word) where
   records-same before c [] = refl
   records-same before c (r ∷ rs) =
       rw (record-same before c r, cache-same before c r, records-same (r .row .address) (cache-after k before c r) rs)
+
+  pub stop-same : (m p before : ℕ) (c : Cache) (rs : List Rec) → stop-in m h p before c rs ≡ stop-in m k p before c rs
+  unfolding stop-in
+  stop-same m p before c [] = refl
+  stop-same m p before c (r ∷ rs) =
+      rw (record-same before c r, cache-same before c r, stop-same m (p + length (put-record k before c r)) (r .row .address) (cache-after k before c r) rs)
 
   pub within-same : (m p before : ℕ) (c : Cache) (rs : List Rec) → within-cut m h p before c rs ≡ within-cut m k p before c rs
   unfolding within-cut
