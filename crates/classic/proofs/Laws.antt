@@ -1,7 +1,7 @@
 -- Laws of the tests of a row, as the functions compute them.
 -- Assumes nothing.
 use mathlib.Core.Path.{_≡_, refl, sym, ap, _∙_}
-use mathlib.Core.Bool.{Bool, true, false, _&&_, _||_}
+use mathlib.Core.Bool.{Bool, true, false, _&&_}
 use mathlib.Core.List.{List, [], _∷_}
 use Prim.Native.Nat.{ℕ, suc, _+_, _≤_, _<_}
 use native.Mathlib.Numerals.{add-one}
@@ -17,9 +17,8 @@ use Rattle.table.specs.Rows.{name-of}
 use Rattle.phd_rows.specs.Good.{every}
 use Rattle.phd_rows.specs.Kept.{length-name-of}
 use Rattle.table.specs.declared.Row.{Row}
-use Rattle.table.specs.declared.Search.{Search}
-use Rattle.phd_rows.proofs.Laws.{joined, both-joined, either-joined}
-use Rattle.classic.specs.Classic.{letters, signature, is-class-at, is-class-named, class-at, nowhere, is-lost}
+use Rattle.phd_rows.proofs.Laws.{joined, both-joined}
+use Rattle.classic.specs.Classic.{letters, signature, is-class-at, is-class-named}
 
 -- a class row by its address
 pub class-test : (a : ℕ) (r : Row) → eqb (r .kind) 1 && eqb (r .address) a ≡ is-class-at a r
@@ -73,10 +72,3 @@ module _ (names : List ℕ) (r : Row) (prim : ℕ) (room : r .place + r .namelen
       let m : suc (r .place) < length names = omega arith in
       rw (c .0, c .1, part-cons names (r .place) 1 l, part-cons names (suc (r .place)) 0 m, add-one, f)
       (joined (eqb (getD names (r .place) 0) 0x5B) (eqb (getD names (suc (r .place)) 0) (getD letters prim 0) ∷ []))
-
--- ---- an object or an object array, by its kind and by what the search for its class found
-
-pub lost-test : (rows : List Row) (r : Row) (found : Search) (t : Bool) → found ≡ class-at rows (r .word) → eqb (r .kind) 2 || eqb (r .kind) 3 ≡ t
-    → is-lost rows r ≡ both t (nowhere found)
-unfolding is-lost
-lost-test rows r found t f e = rw (f, ← e, either-joined (eqb (r .kind) 2) (eqb (r .kind) 3))

@@ -23,9 +23,15 @@ pub record Short (names : List ℕ) (r : Row) : Type 0 where
   pub few : r .count < 2 ^ 31
   pub type : r .prim < 8
 
--- so it is of all rows
+-- a row's kind is one of 01's four
+pub record KnownKind (r : Row) : Type 0 where
+  pub least : 1 ≤ r .kind
+  pub most : r .kind ≤ 4
+
+-- both hold of all rows
 pub record AllShort (names : List ℕ) (rows : List Row) : Type 0 where
   pub row : All (Short names) rows
+  pub kind : All KnownKind rows
 
 -- a row's references lie in their table
 abbrev pub Linked : List ℕ → Row → Type 0
@@ -38,13 +44,13 @@ pub record AllLinked (refs : List ℕ) (rows : List Row) : Type 0 where
 
 -- ---- from the tests to the facts
 
--- what a good row's kind says of its size and its type
-small : (r : Row) (name : List ℕ) → Kinded (bare r) name → (r .size < 2 ^ 32) × (r .prim < 8)
+-- what a good row's kind says of its size and its type, and that it is one of the four
+small : (r : Row) (name : List ℕ) → Kinded (bare r) name → (r .size < 2 ^ 32) × (r .prim < 8) × KnownKind r
 unfolding bare
-small r name (a-class _ _ size _ prim _ _ _) = (omega arith, omega arith)
-small r name (an-object _ size _ prim _) = (omega arith, omega arith)
-small r name (an-array _ size _ _ prim _) = (omega arith, omega arith)
-small r name (a-primitive _ _ _ size _ prim _) = (omega arith, omega arith)
+small r name (a-class kind _ size _ prim _ _ _) = (omega arith, omega arith, record { least = omega arith; most = omega arith })
+small r name (an-object kind size _ prim _) = (omega arith, omega arith, record { least = omega arith; most = omega arith })
+small r name (an-array kind size _ _ prim _) = (omega arith, omega arith, record { least = omega arith; most = omega arith })
+small r name (a-primitive kind _ _ size _ prim _) = (omega arith, omega arith, record { least = omega arith; most = omega arith })
 
 module _ (h : Facts) (names refs : List ℕ) where
   short-of : (index : ℕ) (r : Row) → good-row h names refs index r ≡ true → Short names r
@@ -54,8 +60,15 @@ module _ (h : Facts) (names refs : List ℕ) where
       let s = small r _ (good-of h names refs index r g .kinded) in
       record { named = l .named; short = l .short; size = s .0; few = l .few; type = s .1 }
 
+  kind-of : (index : ℕ) (r : Row) → good-row h names refs index r ≡ true → KnownKind r
+  unfolding rec-of
+  kind-of index r g = small r _ (good-of h names refs index r g .kinded) .2
+
   pub all-short : (rows : List Row) → AllRight h names refs rows → AllShort names rows
-  all-short rows a = record { row = each-row h names refs (Short names) short-of rows (a .1) }
+  all-short rows a = record {
+    row = each-row h names refs (Short names) short-of rows (a .1);
+    kind = each-row h names refs KnownKind kind-of rows (a .1);
+  }
 
   pub all-linked : (rows : List Row) → AllRight h names refs rows → AllLinked refs rows
   all-linked rows a = record {

@@ -3,12 +3,9 @@
 ghost use mathlib.Core.Path.{_≡_};
 ghost use Prim.Native.Nat.{_+_, _≤_, _<_};
 ghost use lib.ListN.{length, getD};
-ghost use Rattle.table.specs.CheckOrder.{classed};
 ghost use Rattle.table.specs.Rows.{rows-of};
-ghost use Rattle.table.specs.Search.{first-row, found-row};
-ghost use Rattle.classic.specs.Classic.{letters, signature, is-class-named, is-lost, class-at, class-named};
+ghost use Rattle.classic.specs.Classic.{letters, signature, is-class-named, class-at, class-named};
 ghost use Rattle.classic.specs.Fine.{AllShort};
-use table::Answer;
 use table::Row;
 use table::Search;
 
@@ -69,50 +66,4 @@ pub fn class_named(names: &[u8], rows: &[u64], prim: u64) -> Search
         i += 1;
     }
     Search::NotFound
-}
-
-// The class row with that address; where there is none, a row of zeros.
-pub fn class_row(rows: &[u64], address: u64) -> Row
-    ensures { λ r. ⌜ r ≡ found-row (rows-of (now (rows .entry))) (class-at (rows-of (now (rows .entry))) address) ⌝ }
-{
-    let found = class_at(rows, address);
-    let Search::At(i) = found else {
-        return Row {
-            kind: 0,
-            address: 0,
-            word: 0,
-            hashkind: 0,
-            hash: 0,
-            first: 0,
-            count: 0,
-            size: 0,
-            len: 0,
-            place: 0,
-            namelen: 0,
-            prim: 0,
-        };
-    };
-    table::row_at(rows, i)
-}
-
-// 18 with the first object or object array for whose class word there is no class row; else 0.
-pub fn check_classes(rows: &[u64]) -> Answer
-    ensures { λ r. ⌜ r ≡ classed (first-row (is-lost (rows-of (now (rows .entry)))) (rows-of (now (rows .entry)))) ⌝ }
-{
-    let n = rows.len() / table::ROW;
-    let mut i: usize = 0;
-    while i < n {
-        let row = table::row_at(rows, i);
-        if (row.kind == 2) | (row.kind == 3) {
-            let found = class_at(rows, row.word);
-            let Search::At(_) = found else {
-                return Answer {
-                    reply: 18,
-                    place: i,
-                };
-            };
-        }
-        i += 1;
-    }
-    Answer { reply: 0, place: 0 }
 }

@@ -18,15 +18,23 @@ use Rattle.table.specs.declared.Row.{Row}
 use Rattle.table.specs.declared.Search.the-variants.{At, NotFound}
 use Rattle.table.specs.declared.Search.{Search}
 use Rattle.digits.specs.Digits.{ascii, places, figure}
-use Rattle.classic.specs.Classic.{address, class-at, signature, array-type, naming, type-of, bytes-of, first-line, second-line, ended}
+use Rattle.classic.specs.Classic.{address, class-at, is-lost, signature, array-type, naming, type-of, bytes-of, first-line, second-line, ended}
 use Rattle.classic.specs.Fine.{Short, AllShort}
 use Rattle.classic_put.specs.Lengths.{length-address, length-listed}
 use Rattle.digits.specs.Lengths.{length-decimal, places-most}
 use Rattle.classic_row.specs.declared.Entry.{Entry}
+use Rattle.classic_row.specs.declared.EntryFound.{EntryFound}
+use Rattle.classic_row.specs.declared.EntryFound.the-variants.{Is, Reply}
+use Rattle.classic_row.specs.declared.RowSize.{RowSize}
+use Rattle.classic_row.specs.declared.RowSize.the-variants.{Bytes, Reply as ReplySize}
 
 -- what the first line says of a row beside its address
 unfoldable pub entry : List Row → Row → Entry
 entry rows r = record { bytes = bytes-of rows r; place = naming rows r .place; len = naming rows r .namelen }
+
+-- that, or reply 18 for an object or an object array without its class row
+unfoldable pub entry-or-18 : List Row → Row → EntryFound
+entry-or-18 rows r = pick (is-lost rows r) (Reply 18) (Is (entry rows r))
 
 -- the name, the type, `CLS` or `OBJ` behind the bytes, and the first line, by an entry
 abbrev pub entry-name : List ℕ → Entry → List ℕ
@@ -52,6 +60,35 @@ row-size word names rows r =
     let e : Entry = entry rows r in
     let one : ℕ = 2 + word / 4 in
     one + 8 + places (e .bytes) + length (entry-type names (r .kind) 0 e) + 1 + one + r .count * (1 + one) + 1
+
+-- that, or reply 18 likewise
+unfoldable pub row-size-or-18 : ℕ → (names : List ℕ) → List Row → Row → RowSize
+row-size-or-18 word names rows r = pick (is-lost rows r) (ReplySize 18) (Bytes (row-size word names rows r))
+
+-- ---- what an answer says of the row
+
+-- a choice, in each of its cases
+chosen : {X : Type 0} (P : X → Type 0) (b : Bool) (x y : X) → (b ≡ true → P x) → (b ≡ false → P y) → P (pick b x y)
+chosen P true x y f g = f refl
+chosen P false x y f g = g refl
+
+module _ (rows : List Row) (r : Row) where
+  abbrev pub EntrySays : EntryFound → Type 0
+  EntrySays (Is e) = (is-lost rows r ≡ false) × (e ≡ entry rows r)
+  EntrySays (Reply n) = (is-lost rows r ≡ true) × (n ≡ 18)
+
+  pub entry-says : (f : EntryFound) → f ≡ entry-or-18 rows r → EntrySays f
+  unfolding entry-or-18
+  entry-says f q = rw q (chosen EntrySays (is-lost rows r) _ _ (λ p. (p, refl)) (λ p. (p, refl)))
+
+module _ (word : ℕ) (names : List ℕ) (rows : List Row) (r : Row) where
+  abbrev pub SizeSays : RowSize → Type 0
+  SizeSays (Bytes n) = (is-lost rows r ≡ false) × (n ≡ row-size word names rows r)
+  SizeSays (ReplySize n) = (is-lost rows r ≡ true) × (n ≡ 18)
+
+  pub size-says : (f : RowSize) → f ≡ row-size-or-18 word names rows r → SizeSays f
+  unfolding row-size-or-18
+  size-says f q = rw q (chosen SizeSays (is-lost rows r) _ _ (λ p. (p, refl)) (λ p. (p, refl)))
 
 -- ---- the two say the same
 

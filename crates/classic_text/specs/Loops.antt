@@ -4,17 +4,22 @@
 use mathlib.Core.Path.{_≡_, refl}
 use Prim.Native.Nat.{ℕ, _+_, _^_, _≤_, _<_}
 use native.Mathlib.Omega.{arith}
+use mathlib.Core.Bool.{Bool, true, false}
 use mathlib.Core.List.{List, [], _++_}
 use Rattle.layout_put.specs.Puts.{Puts, Room, Rest, room-first, rest-begins, rest-next, rest-room, rest-ends}
 use Rattle.table.specs.Table.{row-count}
-use Rattle.table.specs.Rows.{row-at, rows-of, all-at, rows-left, left-next, left-none}
+use Rattle.table.specs.Rows.{row-at, rows-of, all-at, rows-left, left-next, left-none, length-rows, nth-row}
 use Rattle.table.specs.Sums.{left, sum-next, sum-done}
+use Rattle.table.specs.Search.{first-row, none-is, Searched, search-begins, search-found, search-next, search-ends}
 use Rattle.table.specs.declared.Row.{Row}
-use Rattle.classic.specs.Classic.{row-lines, ended}
-use Rattle.classic.specs.Fine.{Short, AllShort, Linked, AllLinked}
+use Rattle.table.specs.declared.Search.the-variants.{NotFound}
+use Rattle.classic.specs.Classic.{is-lost, row-lines, ended}
+use Rattle.classic.specs.Fine.{Short, KnownKind, AllShort, Linked, AllLinked}
 use Rattle.classic_row.specs.Row.{row-text, row-size}
-use Rattle.classic_text.specs.Parts.{rows-text, rows-size}
+use Rattle.classic_text.specs.Parts.{rows-text, rows-size, size-or-18}
 use Rattle.classic_text.specs.Sizes.{lines-more}
+use Rattle.classic_text.specs.declared.rows.LinesSize.{LinesSize}
+use Rattle.classic_text.specs.declared.rows.LinesSize.the-variants.{Bytes, Refused}
 
 -- ---- what is left of a table, from the row number i on
 
@@ -28,8 +33,20 @@ module _ (table : List ℕ) (i : ℕ) (r : Row) (l : i < row-count table) (e : r
   pub row-short : (names : List ℕ) → AllShort names (rows-of table) → Short names r
   row-short names a = rw e (all-at (Short names) table i (a .row) l)
 
+  pub row-kind : (names : List ℕ) → AllShort names (rows-of table) → KnownKind r
+  row-kind names a = rw e (all-at KnownKind table i (a .kind) l)
+
   pub row-linked : (refs : List ℕ) → AllLinked refs (rows-of table) → Linked refs r
   row-linked refs a = rw e (all-at (Linked refs) table i (a .span) l)
+
+  -- it is not lost where no row is
+  pub row-classed : first-row (is-lost (rows-of table)) (rows-of table) ≡ NotFound → is-lost (rows-of table) r ≡ false
+  row-classed f = by (is-lost (rows-of table) r) refl
+    where
+      by : (b : Bool) → is-lost (rows-of table) r ≡ b → b ≡ false
+      by true p =
+          absurd (none-is (λ r. is-lost (rows-of table) r ≡ true) _ (λ r. (λ t. t, λ t. t)) (rows-of table) .0 f i (rw (length-rows table) l) (rw (nth-row table i l, ← e) p))
+      by false p = refl
 
 -- ---- row after row
 
@@ -51,22 +68,33 @@ module _ (word : ℕ) (names table : List ℕ) where
   abbrev size-left : ℕ → ℕ
   size-left = left (row-size word names (rows-of table)) table
 
-  -- ---- sizing, behind a version line of so many bytes
+  -- ---- sizing, after a version line of so many bytes
 
   pub record Sizing (first i total : ℕ) : Type 0 where
     pub sum : total + size-left i ≡ first + rows-size word names (rows-of table)
     pub small : first + rows-size word names (rows-of table) < 2 ^ 63
+    pub classed : Searched (is-lost (rows-of table)) table i
 
   pub sizing-begins : (first : ℕ) → first + rows-size word names (rows-of table) < 2 ^ 63 → Sizing first 0 first
   unfolding rows-size
-  sizing-begins first l = record { sum = refl; small = l }
+  sizing-begins first l = record { sum = refl; small = l; classed = search-begins _ _ }
 
-  pub sizing-ends : (first i total : ℕ) → Sizing first i total → row-count table ≤ i → total ≡ first + rows-size word names (rows-of table)
+  -- the answer that is to be given
+  abbrev answer : ℕ → LinesSize
+  answer first = size-or-18 (first-row (is-lost (rows-of table)) (rows-of table)) (first + rows-size word names (rows-of table))
+
+  pub sizing-ends : (first i total : ℕ) → Sizing first i total → row-count table ≤ i → Bytes total ≡ answer first
   unfolding rows-size
   sizing-ends first i total z l =
       let n = sum-done (row-size word names (rows-of table)) table i l in
       let s = z .sum in
-      omega arith
+      let e : total ≡ first + rows-size word names (rows-of table) = omega arith in
+      rw (e, ← search-ends _ _ _ (z .classed) l)
+
+  -- the row number i is r, and is lost
+  pub sizing-stops : (first i total : ℕ) (r : Row) → Sizing first i total → i < row-count table → r ≡ row-at table i → is-lost (rows-of table) r ≡ true
+      → Refused (record { reply = 18; place = i }) ≡ answer first
+  sizing-stops first i total r z l e t = rw (← search-found _ _ _ r (z .classed) l e t)
 
   -- the row number i is r, and has s bytes
   module _ (first i total s : ℕ) (r : Row) (z : Sizing first i total) (l : i < row-count table) (e : r ≡ row-at table i) (f : s ≡ row-size word names (rows-of table) r) where
@@ -84,8 +112,9 @@ module _ (word : ℕ) (names table : List ℕ) where
         let t = z .small in
         omega arith
 
-    pub sizing-next : Sizing first (i + 1) (total + s)
-    sizing-next = record { sum = sizing-more; small = z .small }
+    -- and it is not lost
+    pub sizing-next : is-lost (rows-of table) r ≡ false → Sizing first (i + 1) (total + s)
+    sizing-next t = record { sum = sizing-more; small = z .small; classed = search-next _ _ _ _ (z .classed) l e t }
 
 -- ---- putting, into an output that was out₀, from the place at₀ on
 

@@ -6,6 +6,8 @@ use mathlib.Core.List.{List, [], _∷_, _++_, append-assoc}
 use Rattle.layout.specs.declared.Text.{Text}
 use Rattle.layout_put.specs.Put.{join}
 use Rattle.table.specs.declared.Row.{Row}
+use Rattle.table.specs.declared.Search.{Search}
+use Rattle.table.specs.declared.Search.the-variants.{At, NotFound}
 use Rattle.phd.specs.declared.Facts.{Facts}
 use Rattle.table.specs.Sums.{sum}
 use Rattle.phd_counts.specs.Counts.{tally-of}
@@ -13,6 +15,8 @@ use Rattle.phd_counts.specs.declared.Tally.{Tally}
 use Rattle.digits.specs.Digits.{ascii, figure}
 use Rattle.classic.specs.Classic.{row-lines, version, breakdown, totals, ended, lines, text-of}
 use Rattle.classic_row.specs.Row.{row-size}
+use Rattle.classic_text.specs.declared.rows.LinesSize.{LinesSize}
+use Rattle.classic_text.specs.declared.rows.LinesSize.the-variants.{Bytes, Refused}
 
 -- ---- the version line
 
@@ -26,6 +30,11 @@ rows-text word names refs rows = ended (row-lines word names refs rows rows)
 
 unfoldable pub rows-size : ℕ → (names : List ℕ) → List Row → ℕ
 rows-size word names rows = sum (row-size word names rows) rows
+
+-- by the first row without its class row: reply 18 with its index, or so many bytes where there is none
+abbrev pub size-or-18 : Search → ℕ → LinesSize
+size-or-18 (At i) n = Refused (record { reply = 18; place = i })
+size-or-18 NotFound n = Bytes n
 
 -- ---- the trailers
 

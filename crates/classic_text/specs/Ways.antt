@@ -12,17 +12,18 @@ use Rattle.layout.specs.Numbers.{both}
 use Rattle.table.specs.declared.Row.{Row}
 use Rattle.phd.specs.declared.Facts.{Facts}
 use Rattle.phd_rows.specs.Good.{good-header, bad-of, AllRight}
-use Rattle.table.specs.CheckOrder.{Outcome, judged, checked, classed, Exact, exact}
-use Rattle.table.specs.SizeQuery.{Split, asked-checked, asked-classed, asked-counts, asked-split as by-asked}
+use Rattle.table.specs.CheckOrder.{Outcome, refused, judged, checked, Exact, exact}
+use Rattle.table.specs.SizeQuery.{Split, asked-checked, asked-counts, asked-split as by-asked}
 use Rattle.phd_rows.specs.Kept.{Vm, vm-lent, vm-of, word-of, few-rows, few-refs}
 use Rattle.table.specs.Search.{first-row}
 use Rattle.table.specs.declared.Answer.{Answer}
-use Rattle.table.specs.declared.Search.the-variants.{NotFound}
+use Rattle.table.specs.declared.Search.the-variants.{At, NotFound}
 use Rattle.table.specs.declared.Search.{Search}
 use Rattle.classic.specs.Classic.{is-lost, text-of, text-rows, text-rows-size}
 use Rattle.classic.specs.Fine.{all-short, all-linked}
-use Rattle.classic_text.specs.Parts.{version-text, rows-size}
+use Rattle.classic_text.specs.Parts.{version-text, rows-size, size-or-18}
 use Rattle.classic_text.specs.Sizes.{version-most, rows-size-most}
+use Rattle.classic_text.specs.declared.rows.LinesSize.the-variants.{Bytes, Refused}
 
 -- ---- the ways
 
@@ -43,6 +44,17 @@ module _ (h : Facts) (names refs : List ℕ) (rows : List Row) (room : ℕ) wher
 
 -- ---- asking for the size
 
+-- by the pass that sizes the rows: with a size every row has its class, and it is that size
+pub all-classed : (f : Search) (n m : ℕ) → Bytes m ≡ size-or-18 f n → (f ≡ NotFound) × (m ≡ n)
+all-classed (At i) n m e = let z : _≡_ {A = ℕ} 0 1 = cc in absurd (omega arith)
+all-classed NotFound n m e = (refl, cc)
+
+-- with a refusal it is that of the third test
+one-lost : (f : Search) (n : ℕ) (w : Answer) (bytes : List ℕ) → Refused w ≡ size-or-18 f n → (w ≡ judged true NotFound f true bytes .answer) × (w .reply ≡ 0 → ⊥)
+unfolding judged refused
+one-lost (At i) n w bytes e = let q : w ≡ record { reply = 18; place = i } = cc in (q, λ z. omega (arith, rw q at z))
+one-lost NotFound n w bytes e = let z : _≡_ {A = ℕ} 0 1 = cc in absurd (omega arith)
+
 alone : (b : Bool) → b ≡ both b true
 alone true = refl
 alone false = refl
@@ -53,10 +65,12 @@ module _ (h : Facts) (names refs : List ℕ) (rows : List Row) where
   unfolding text-rows-size
   check-stops w e z = asked-checked _ _ _ _ _ w e z
 
-  pub class-stops : AllRight h names refs rows → (w : Answer) → w ≡ classed (first-row (is-lost rows) rows) → (w .reply ≡ 0 → ⊥) → w ≡ text-rows-size h names refs rows
+  pub class-stops : AllRight h names refs rows → (w : Answer) (n : ℕ) → Refused w ≡ size-or-18 (first-row (is-lost rows) rows) n
+      → (w ≡ text-rows-size h names refs rows) × (w .reply ≡ 0 → ⊥)
   unfolding text-rows-size
-  class-stops a w e z = asked-classed _ _ _ _ _ (a .0) (a .1) w e z
+  class-stops a w n e = rw (a .0, a .1, text-rows-size) (one-lost _ n w _ e)
 
+  -- where they all hold
   pub counts : AllRight h names refs rows → first-row (is-lost rows) rows ≡ NotFound
       → record { reply = 0; place = length (text-of h names refs rows) } ≡ text-rows-size h names refs rows
   unfolding text-rows-size

@@ -2,15 +2,13 @@
 // The contract of the first is one equation with the definition; that of the second one for the answer, and one for the output.
 ghost use mathlib.Core.Path.{_≡_};
 ghost use lib.ListN.{length};
-ghost use Rattle.phd_rows.specs.Good.{AllRight};
 ghost use Rattle.table.specs.Buffer.{stored};
 ghost use Rattle.table.specs.Rows.{rows-of};
-ghost use Rattle.table.specs.Search.{first-row};
-ghost use Rattle.table.specs.declared.Search.the-variants.{NotFound};
-ghost use Rattle.classic.specs.Classic.{is-lost, texting, text-sizing};
+ghost use Rattle.classic.specs.Classic.{texting, text-sizing};
 ghost use Rattle.classic_text.specs.Measures.{Measures, Counted};
 use phd_counts::Tally;
 use phd_rows::Header;
+use rows::LinesSize;
 use table::Answer;
 
 mod rows;
@@ -23,19 +21,7 @@ enum Measured {
     Sized(usize, Tally),
 }
 
-// The size of the text of good tables in which every row has its class.
-fn count(header: Header, rows: &[u64], refs: &[u64], names: &[u8]) -> Measured
-    requires { ⌜ AllRight header (now names) (now refs) (rows-of (now rows)) ⌝ }
-    requires { ⌜ first-row (is-lost (rows-of (now rows))) (rows-of (now rows)) ≡ NotFound ⌝ }
-    ensures { λ r. ⌜ Measures header (now (names .entry)) (now (refs .entry)) (rows-of (now (rows .entry))) r ⌝ }
-{
-    let tally = phd_counts::count_all(rows);
-    let first = version::size(names, header.vm);
-    let size = rows::size(header.word, names, rows, first) + trailers::size(tally);
-    Measured::Sized(size, tally)
-}
-
-// Checks the header, the rows and their classes, and sizes their text.
+// Checks the header and the rows, then the class of each row in the pass that sizes their lines, and sizes the whole text.
 fn measure(header: Header, rows: &[u64], refs: &[u64], names: &[u8]) -> Measured
     ensures { λ r. ⌜ Measures header (now (names .entry)) (now (refs .entry)) (rows-of (now (rows .entry))) r ⌝ }
 {
@@ -43,11 +29,14 @@ fn measure(header: Header, rows: &[u64], refs: &[u64], names: &[u8]) -> Measured
     if checked.reply != 0 {
         return Measured::Refused(checked);
     }
-    let classed = classic::check_classes(rows);
-    if classed.reply != 0 {
-        return Measured::Refused(classed);
+    let first = version::size(names, header.vm);
+    match rows::size(header.word, names, rows, first) {
+        LinesSize::Refused(refusal) => Measured::Refused(refusal),
+        LinesSize::Bytes(lines) => {
+            let tally = phd_counts::count_all(rows);
+            Measured::Sized(lines + trailers::size(tally), tally)
+        }
     }
-    count(header, rows, refs, names)
 }
 
 // Asks how many bytes the whole rows of a table and their references take as classic text: everything is checked as for `text`,

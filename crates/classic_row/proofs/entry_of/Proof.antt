@@ -1,39 +1,84 @@
--- `entry_of` meets its contract: by the row's kind.
+-- `entry_of` meets its contract: by the row's kind, and by what the search found.
+use mathlib.Core.Path.{_≡_, refl, sym, ap, _∙_}
+use mathlib.Core.Bool.{false}
+use Prim.Native.Nat.{_*_}
 use borrow.Author.Needs.{needs}
-use borrow.Author.Tests.{ne-eqb}
-use Rattle.classic.specs.Classic.{naming, bytes-of}
-use Rattle.classic_row.specs.Row.{entry}
+use borrow.Author.Tests.{eq-eqb, ne-eqb}
+use Rattle.layout.specs.Numbers.{pick}
+use Rattle.table.specs.Rows.{of-kind, rows-of}
+use Rattle.table.specs.Search.{found-in, found-is}
+use Rattle.classic.specs.Classic.{nowhere, is-lost, naming, bytes-of}
+use Rattle.classic_row.specs.Row.{entry, entry-or-18}
+use Rattle.classic_row.proofs.RowLaws.{lost-is}
 use Rattle.classic_row.proofs.entry_of.Statement.{statement}
 use Rattle.classic_row.proofs.entry_of.Tie as tie
 
-returns : tie.Need-returns
+-- the beginning of the function, from where the class is searched
+abbrev begin : tie.After-class-at → tie.Start
+begin c = c .before .before .before .before .before .before .before
+
+-- the row is lost where the search found nothing
+lost : (c : tie.After-class-at) → let a = begin c .args in is-lost (rows-of (a .rows .now)) (a .row) ≡ nowhere (c .class-at .result)
+lost c = lost-is _ _ (begin c .pre .1) (c .before .before .before .before .if1 .left) (c .before .if2 .left) ∙ ap nowhere (sym (c .class-at .ensures))
+
+-- where it found a row, that is the class
+class : (c : tie.After-row-at) → let a = begin (c .before .before .before .before) .args in let class = c .row-at .result in
+    (is-lost (rows-of (a .rows .now)) (a .row) ≡ false)
+    × (entry (rows-of (a .rows .now)) (a .row) ≡ record { bytes = pick (of-kind 2 (a .row)) (class .size) (4 * a .row .size); place = class .place; len = class .namelen })
 unfolding entry naming bytes-of
+class c =
+    let d = c .before .before in
+    let s = d .before .before in
+    let e = s .before in
+    let f = found-is _ _ _ (sym (s .class-at .ensures) ∙ d .found .given .1) in
+    (lost s ∙ ap nowhere (d .found .given .1), rw (c .row-at .ensures ∙ sym f, ne-eqb _ 1 (e .before .before .before .if1 .left), ne-eqb _ 4 (e .if2 .left)))
+
+returns : tie.Need-returns
+unfolding entry-or-18 is-lost entry naming bytes-of
 returns c = rw (c .if1 .taken)
 
-mul-t7 : tie.Need-mul-t7
-mul-t7 c = search needs
+mul-array-bytes : tie.Need-mul-array-bytes
+mul-array-bytes c = search needs
 
 returns-2 : tie.Need-returns-2
-unfolding entry naming bytes-of
-returns-2 c = rw (c .before .if2 .taken)
+unfolding entry-or-18 is-lost entry naming bytes-of
+returns-2 c = rw (c .if2 .taken)
 
-class-row-requires : tie.Need-class-row-requires
-class-row-requires c κs = search needs
+class-at-requires : tie.Need-class-at-requires
+class-at-requires c κs = search needs
+
+enum-known-found : tie.Need-enum-known-found
+enum-known-found c = search needs
+
+enum-told : tie.Need-enum-told
+enum-told c = search needs
 
 returns-3 : tie.Need-returns-3
-unfolding entry naming bytes-of
-returns-3 c = rw (c .before .before .class-row .ensures, c .if3 .taken)
+unfolding entry-or-18
+returns-3 c = rw (lost (c .before .before) ∙ ap nowhere (c .enum-told .given .1)) refl
 
-mul-t10 : tie.Need-mul-t10
-mul-t10 c = search needs
+row-at-requires : tie.Need-row-at-requires
+row-at-requires c κs = found-in _ _ _ (sym (c .before .before .before .class-at .ensures) ∙ c .before .found .given .1)
 
 returns-4 : tie.Need-returns-4
-unfolding entry naming bytes-of
-returns-4 c =
-    let e = c .before .before .before in
-    let f = e .before in
-    rw (e .class-row .ensures, ne-eqb _ 1 (f .before .before .if1 .left), ne-eqb _ 4 (f .if2 .left), ne-eqb _ 2 (c .before .if3 .left))
+unfolding entry-or-18
+returns-4 c = let f = class (c .before .before) in rw (f .0, f .1, eq-eqb _ 2 (c .if3 .taken))
+
+returns-5 : tie.Need-returns-5
+unfolding entry-or-18
+returns-5 c = let f = class (c .before .before) in rw (f .0, f .1, ne-eqb _ 2 (c .if3 .left))
 
 pub entry-of-spec : {M : Type 1} → statement M
 entry-of-spec =
-    tie.close (tie.spec returns mul-t7 returns-2 class-row-requires returns-3 mul-t10 returns-4)
+    tie.close
+    (tie.spec
+    returns
+    mul-array-bytes
+    returns-2
+    class-at-requires
+    enum-known-found
+    enum-told
+    returns-3
+    row-at-requires
+    returns-4
+    returns-5)

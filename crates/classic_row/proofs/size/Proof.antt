@@ -1,19 +1,34 @@
 -- `size` meets its contract: the sum is the row's size, which is small, and so is every part of it.
-use Prim.Native.Nat.{_+_, _*_, _/_, _^_, _<_}
+use mathlib.Core.Path.{_≡_, sym, _∙_}
+use Prim.Native.Nat.{ℕ, _+_, _*_, _/_, _^_, _<_}
 use native.Mathlib.Omega.{arith}
 use borrow.Author.Needs.{needs}
-use Rattle.classic_row.specs.Row.{row-size, row-size-most}
-use Rattle.classic_row.proofs.RowLaws.{Small, entry-small}
+use Rattle.table.specs.Rows.{rows-of}
+use Rattle.classic_row.specs.Row.{EntrySays, entry-says, row-size, row-size-most, row-size-or-18}
+use Rattle.classic_row.specs.declared.EntryFound.the-variants.{Is}
+use Rattle.classic_row.proofs.RowLaws.{Small, entry-small, size-is}
 use Rattle.classic_row.proofs.size.Statement.{statement}
 use Rattle.classic_row.proofs.size.Tie as tie
 
-small : (c : tie.After-entry-of) → Small (c .before .before .before .args .names .now) (c .entry-of .result)
-small c =
-    let s = c .before .before .before in
-    entry-small _ _ _ _ (s .pre .1 .0) (s .pre .1 .1) (c .entry-of .ensures)
+-- the beginning of the function, from where the entry is found
+abbrev begin : tie.After-known-told2 → tie.Start
+begin c = c .before .before .before .before .before .before
+
+-- it is the row's, and its numbers are small
+says : (c : tie.After-known-told2) → let a = begin c .args in EntrySays (rows-of (a .rows .now)) (a .row) (Is (c .before .e .given .0 .0))
+says c = entry-says _ _ _ (sym (c .before .e .given .1) ∙ c .before .before .before .entry-of .ensures)
+
+small : (c : tie.After-known-told2) → Small (begin c .args .names .now) (c .before .e .given .0 .0)
+small c = let p = begin c .pre in entry-small _ _ _ _ (p .1 .0) (p .1 .1 .0) (says c .1)
 
 entry-of-requires : tie.Need-entry-of-requires
 entry-of-requires c κs = search needs
+
+enum-known-reply : tie.Need-enum-known-reply
+enum-known-reply c = search needs
+
+enum-known-e : tie.Need-enum-known-e
+enum-known-e c = search needs
 
 add-address : tie.Need-add-address
 add-address c = search needs
@@ -33,20 +48,22 @@ add-first-2 c =
 type-size-requires : tie.Need-type-size-requires
 type-size-requires c κs = small (c .before) .named
 
-returns : tie.Need-returns
-unfolding row-size
-returns c =
-    let d = c .before in
-    rw (c .type-size .ensures, d .places .ensures, d .before .entry-of .ensures)
+-- the sum is the row's size, and small
+abbrev sum : tie.After-type-size → ℕ
+sum c =
+    let a = begin (c .before .before) .args in
+    let one : ℕ = 2 + a .word / 4 in
+    one + 8 + c .before .places .result + c .type-size .result + 1 + one + a .row .count * (1 + one) + 1
 
--- the sum is small
-most : (c : tie.After-type-size) → let d = c .before in let a = d .before .before .before .before .args in
-    (2 + a .word / 4) + 8 + d .places .result + c .type-size .result + 1 + (2 + a .word / 4) + a .row .count * (1 + (2 + a .word / 4)) + 1 < 2 ^ 64
+sum-is : (c : tie.After-type-size) → let a = begin (c .before .before) .args in sum c ≡ row-size (a .word) (a .names .now) (rows-of (a .rows .now)) (a .row)
+sum-is c = size-is _ _ _ _ _ _ _ (says (c .before .before) .1) (c .before .places .ensures) (c .type-size .ensures)
+
+most : (c : tie.After-type-size) → sum c < 2 ^ 64
 most c =
-    let s = c .before .before .before .before .before in
-    let f = s .pre .1 .1 .few in
-    let m = row-size-most _ _ _ _ (s .pre .0) (s .pre .1 .0) (s .pre .1 .1) in
-    rw (returns c) (omega arith)
+    let p = begin (c .before .before) .pre in
+    let f = p .1 .1 .0 .few in
+    let m = row-size-most _ _ _ _ (p .0) (p .1 .0) (p .1 .1 .0) in
+    rw (sum-is c) (omega arith)
 
 add-first-3 : tie.Need-add-first-3
 add-first-3 c = omega (arith, most c)
@@ -54,26 +71,38 @@ add-first-3 c = omega (arith, most c)
 add-first-4 : tie.Need-add-first-4
 add-first-4 c = omega (arith, most c)
 
-add-result : tie.Need-add-result
-add-result c = omega (arith, most c)
+add-t12 : tie.Need-add-t12
+add-t12 c = omega (arith, most c)
 
-add-result-2 : tie.Need-add-result-2
-add-result-2 c = search needs
+add-t15 : tie.Need-add-t15
+add-t15 c = search needs
 
-mul-result : tie.Need-mul-result
-mul-result c = omega (arith, most c)
+mul-t14 : tie.Need-mul-t14
+mul-t14 c = omega (arith, most c)
 
-add-result-3 : tie.Need-add-result-3
-add-result-3 c = omega (arith, most c)
+add-t13 : tie.Need-add-t13
+add-t13 c = omega (arith, most c)
 
-add-result-4 : tie.Need-add-result-4
-add-result-4 c = omega (arith, most c)
+add-t17 : tie.Need-add-t17
+add-t17 c = omega (arith, most c)
+
+returns : tie.Need-returns
+unfolding row-size-or-18
+returns c =
+    let f = entry-says _ _ _ (sym (c .before .reply .given .1) ∙ c .before .before .before .entry-of .ensures) in
+    rw (f .0, f .1)
+
+returns-2 : tie.Need-returns-2
+unfolding row-size-or-18
+returns-2 c = rw (says (c .before .before) .0, sum-is c)
 
 pub size-spec : {M : Type 1} → statement M
 size-spec =
     tie.close
     (tie.spec
     entry-of-requires
+    enum-known-reply
+    enum-known-e
     add-address
     add-first
     places-requires
@@ -81,9 +110,10 @@ size-spec =
     type-size-requires
     add-first-3
     add-first-4
-    add-result
-    add-result-2
-    mul-result
-    add-result-3
-    add-result-4
-    returns)
+    add-t12
+    add-t15
+    mul-t14
+    add-t13
+    add-t17
+    returns
+    returns-2)

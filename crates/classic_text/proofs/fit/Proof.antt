@@ -40,7 +40,7 @@ put-requires-2 c κs =
     let d = c .before .before .before .before .before in
     let a = begin d .args in
     let p = begin d .pre in
-    (word-of _ _ _ _ (p .right .0), (all-short _ _ _ _ (p .right), (all-linked _ _ _ _ (p .right), rows-room (a .header) (a .names .now) (a .refs .now) (rows-of (a .rows .now)) _ (p .tally-is) _ (enough d) (c .before .before .before .put .ensures))))
+    (word-of _ _ _ _ (p .right .0), (all-short _ _ _ _ (p .right), (p .classes, (all-linked _ _ _ _ (p .right), rows-room (a .header) (a .names .now) (a .refs .now) (rows-of (a .rows .now)) _ (p .tally-is) _ (enough d) (c .before .before .before .put .ensures)))))
 
 put-requires-3 : tie.Need-put-requires-3
 put-requires-3 c κs =

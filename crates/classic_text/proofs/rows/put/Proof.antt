@@ -3,7 +3,7 @@ use borrow.Author.Needs.{needs}
 use Prim.Native.Nat.{_-_, _<_}
 use native.Mathlib.Omega.{arith}
 use Rattle.table.specs.Table.{row-count}
-use Rattle.classic_text.specs.Loops.{Putting, putting-begins, putting-ends, putting-room, putting-next, row-short, row-linked}
+use Rattle.classic_text.specs.Loops.{Putting, putting-begins, putting-ends, putting-room, putting-next, row-short, row-kind, row-linked, row-classed}
 use Rattle.classic_text.proofs.rows.put.Statement.{statement}
 use Rattle.classic_text.proofs.rows.put.Tie as tie
 
@@ -22,7 +22,7 @@ unfolding row-count
 inside c = omega arith
 
 loop-holds : tie.Need-loop-holds Inv-loop μ-loop
-loop-holds c = putting-begins _ _ _ _ _ _ (c .before .before .before .before .pre .1 .1 .1)
+loop-holds c = putting-begins _ _ _ _ _ _ (c .before .before .before .before .pre .1 .1 .1 .1)
 
 row-at-requires : tie.Need-row-at-requires Inv-loop μ-loop
 row-at-requires c κs = inside c
@@ -32,7 +32,7 @@ put-requires c κs =
     let d = c .before .before in
     let p = begin d .pre in
     let e = c .before .row-at .ensures in
-    (p .0, (p .1 .0, (row-short _ _ _ (inside d) e _ (p .1 .0), (row-linked _ _ _ (inside d) e _ (p .1 .1 .0), putting-room _ _ _ _ _ _ _ _ _ _ (d .before .loop .inv) (inside d) e))))
+    (p .0, (p .1 .0, (row-short _ _ _ (inside d) e _ (p .1 .0), (row-kind _ _ _ (inside d) e _ (p .1 .0), (row-classed _ _ _ (inside d) e (p .1 .1 .0), (row-linked _ _ _ (inside d) e _ (p .1 .1 .1 .0), putting-room _ _ _ _ _ _ _ _ _ _ (d .before .loop .inv) (inside d) e))))))
 
 add-i : tie.Need-add-i Inv-loop μ-loop
 add-i c = omega arith

@@ -1,9 +1,14 @@
--- `size` meets its contract: the bytes so far and those of the rows left are those of all rows, behind the version line.
+-- `size` meets its contract: the bytes so far and those of the rows left are those of all rows, after the version line, and no row so
+-- far is lost.
 use borrow.Author.Needs.{needs}
+use mathlib.Core.Path.{sym, _∙_}
 use Prim.Native.Nat.{_-_, _<_}
 use native.Mathlib.Omega.{arith}
 use Rattle.table.specs.Table.{row-count}
-use Rattle.classic_text.specs.Loops.{Sizing, sizing-begins, sizing-ends, sizing-small, sizing-next, row-short}
+use Rattle.table.specs.Rows.{rows-of}
+use Rattle.classic_row.specs.Row.{SizeSays, size-says}
+use Rattle.classic_row.specs.declared.RowSize.the-variants.{Bytes}
+use Rattle.classic_text.specs.Loops.{Sizing, sizing-begins, sizing-ends, sizing-stops, sizing-small, sizing-next, row-short, row-kind}
 use Rattle.classic_text.proofs.rows.size.Statement.{statement}
 use Rattle.classic_text.proofs.rows.size.Tie as tie
 
@@ -21,6 +26,11 @@ inside : (c : tie.In-loop Inv-loop μ-loop) → c .before .loop .i < row-count (
 unfolding row-count
 inside c = omega arith
 
+-- what a turn found of its row
+says : (c : tie.After-bytes Inv-loop μ-loop) → let d = c .before .before .before in let a = begin (d .before) .args in
+    SizeSays (a .word) (a .names .now) (rows-of (a .rows .now)) (d .row-at .result) (Bytes (c .bytes .given .0 .0))
+says c = size-says _ _ _ _ _ (sym (c .bytes .given .1) ∙ c .before .before .size .ensures)
+
 loop-holds : tie.Need-loop-holds Inv-loop μ-loop
 loop-holds c = sizing-begins _ _ _ _ (c .before .before .pre .1 .1)
 
@@ -28,13 +38,31 @@ row-at-requires : tie.Need-row-at-requires Inv-loop μ-loop
 row-at-requires c κs = inside c
 
 size-requires : tie.Need-size-requires Inv-loop μ-loop
-size-requires c κs = let p = begin (c .before) .pre in (p .0, (p .1 .0, row-short _ _ _ (inside (c .before)) (c .row-at .ensures) _ (p .1 .0)))
+size-requires c κs =
+    let p = begin (c .before) .pre in
+    let e = c .row-at .ensures in
+    (p .0, (p .1 .0, (row-short _ _ _ (inside (c .before)) e _ (p .1 .0), row-kind _ _ _ (inside (c .before)) e _ (p .1 .0))))
+
+enum-known-bytes : tie.Need-enum-known-bytes Inv-loop μ-loop
+enum-known-bytes c = search needs
 
 add-total : tie.Need-add-total Inv-loop μ-loop
 add-total c =
-    let d = c .before .before in
-    let z = sizing-small _ _ _ _ _ _ _ _ (d .before .loop .inv) (inside d) (c .before .row-at .ensures) (c .size .ensures) in
+    let r = c .before .before .before .before in
+    let d = r .before in
+    let z = sizing-small _ _ _ _ _ _ _ _ (d .before .loop .inv) (inside d) (r .row-at .ensures) (says (c .before) .1) in
     omega arith
+
+enum-known-reply : tie.Need-enum-known-reply Inv-loop μ-loop
+enum-known-reply c = search needs
+
+returns : tie.Need-returns Inv-loop μ-loop
+returns c =
+    let w = c .before .before .before in
+    let r = w .before in
+    let d = r .before in
+    let s = size-says _ _ _ _ _ (sym (c .before .reply .given .1) ∙ w .size .ensures) in
+    rw (s .1) (sizing-stops _ _ _ _ _ _ _ (d .before .loop .inv) (inside d) (r .row-at .ensures) (s .0))
 
 add-i : tie.Need-add-i Inv-loop μ-loop
 add-i c = omega arith
@@ -44,12 +72,14 @@ loop-less c = search needs
 
 loop-again : tie.Need-loop-again Inv-loop μ-loop
 loop-again c =
-    let d = c .before .before in
-    sizing-next _ _ _ _ _ _ _ _ (d .before .loop .inv) (inside d) (c .before .row-at .ensures) (c .size .ensures)
+    let r = c .before .before .before .before in
+    let d = r .before in
+    let s = says (c .before) in
+    sizing-next _ _ _ _ _ _ _ _ (d .before .loop .inv) (inside d) (r .row-at .ensures) (s .1) (s .0)
 
-returns : tie.Need-returns Inv-loop μ-loop
+returns-2 : tie.Need-returns-2 Inv-loop μ-loop
 unfolding row-count
-returns c = sizing-ends _ _ _ _ _ _ (c .before .loop .inv) (omega arith)
+returns-2 c = sizing-ends _ _ _ _ _ _ (c .before .loop .inv) (omega arith)
 
 pub size-spec : {M : Type 1} → statement M
 size-spec =
@@ -60,8 +90,11 @@ size-spec =
     loop-holds
     row-at-requires
     size-requires
+    enum-known-bytes
     add-total
+    enum-known-reply
+    returns
     add-i
     loop-less
     loop-again
-    returns)
+    returns-2)
