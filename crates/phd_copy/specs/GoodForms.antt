@@ -70,8 +70,18 @@ primitive-good : (lent : ℕ) (r : Row) → r .kind ≡ 4 → r .word ≡ 0 → 
     → r .prim < 8 → good-kind lent r ≡ true
 unfolding good-kind good-primitive every
 primitive-good lent r k a b c d e f =
-    rw (ne-eqb (r .kind) 1 (λ z. omega arith), ne-eqb (r .kind) 2 (λ z. omega arith), ne-eqb (r .kind) 3 (λ z. omega arith), eq-eqb _ _ k,
-      eq-eqb (r .word) 0 a, eq-eqb (r .count) 0 b, lt-ltb _ _ c, lt-ltb _ _ d, unnamed-good r e, lt-ltb _ _ f)
+    rw (
+      ne-eqb (r .kind) 1 (λ z. omega arith),
+      ne-eqb (r .kind) 2 (λ z. omega arith),
+      ne-eqb (r .kind) 3 (λ z. omega arith),
+      eq-eqb _ _ k,
+      eq-eqb (r .word) 0 a,
+      eq-eqb (r .count) 0 b,
+      lt-ltb _ _ c,
+      lt-ltb _ _ d,
+      unnamed-good r e,
+      lt-ltb _ _ f,
+    )
 
 refs-good : (top : ℕ) (rs : List ℕ) → GoodRefs top rs → good-refs top rs ≡ true
 unfolding good-refs good-ref every
@@ -226,8 +236,7 @@ module _ (h : Facts) (w : Word (h .word)) (s : List ℕ) (c : Cache) (t f known 
   unfolding good-row good-numbers every refs-of
   row-good fm refs g e o =
       let x = form-good fm g o in
-      let l : r .first + r .count ≤ length (refs ++ rs) = simp length-append (omega (arith, o .first, o .refs .many)) in
-      (
+      let l : r .first + r .count ≤ length (refs ++ rs) = simp length-append (omega (arith, o .first, o .refs .many)) in (
         rw (
           place-good top r (o .fours) (o .most) (x .word),
           span-good (length refs) (length (refs ++ rs)) r (o .first ∙ e) l (x .few),

@@ -2,3 +2,4 @@
 pub mod GoodRead
 pub mod GoodForms
 pub mod GoodTables
+pub mod Rewritten

@@ -1,4 +1,5 @@
--- In reading order: Terms (what the promises speak of) and Promises (the round trip, and the cuts of a written dump).
+-- In reading order: Terms (what the promises speak of), Promises (the round trip, and the cuts of a written dump) and InMemory (both as a
+-- caller sees them).
 -- The rest is for proofs. Of one record: Fit (what a record must be to be read as it was), Fields (its parts are read back), Entry (it
 -- is read back whole), Forms (a good record in its form is fit, by Formed, Objects and Arrays) and Back (so a good record is read
 -- back). Of a dump: Within (the bytes of records, and which lie within a cut), HeaderBack (the header read back), Handed (record
@@ -6,6 +7,7 @@
 -- written is a good dump).
 pub mod Terms
 pub mod Promises
+pub mod InMemory
 pub mod Fit
 pub mod Fields
 pub mod Entry

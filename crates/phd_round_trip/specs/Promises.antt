@@ -1,12 +1,12 @@
 -- The promises about a written dump and its reading: demand 2's round trip, and the second part of demand 3. Of any rows; what a
 -- write of a table gives (`writing`) is what a write of its rows gives.
 -- A reader must believe the statements and their records. Assumes nothing.
-use mathlib.Core.Path.{_≡_, refl, sym, ap, _∙_}
-use Prim.Native.Nat.{ℕ, _*_, _≤_}
+use mathlib.Core.Path.{_≡_, refl, sym, ap, subst, _∙_}
+use Prim.Native.Nat.{ℕ, _+_, _-_, _*_, _≤_, _<_}
 use mathlib.Core.Bool.{true}
 use mathlib.Core.List.{List, [], append-nil, _++_}
 use lib.ListN.{length, take, drop, length-append}
-use lib.Seq.{take-length}
+use lib.Seq.{take-length, take-append-seam, take-append-add}
 use lib.Dec.{leb}
 use native.Mathlib.Omega.{arith}
 use borrow.Author.Tests.{le-leb}
@@ -16,7 +16,7 @@ use Rattle.table.specs.Rows.{Rec, recs, rows-of, first-recs, all-recs, length-r
 use Rattle.table.specs.Buffer.{stored}
 use Rattle.table.specs.CheckOrder.{done}
 use Rattle.table.specs.declared.Row.{Row}
-use Rattle.phd.specs.Phd.{empty, Result, reading}
+use Rattle.phd.specs.Phd.{no-facts, empty, Result, reading}
 use Rattle.phd.specs.declared.Facts.{Facts}
 use Rattle.phd_rows.specs.Good.{good-vm, vm-text}
 use Rattle.phd_read.specs.Answer.{answer}
@@ -55,15 +55,26 @@ pub record Back (h : Facts) (names refs : List ℕ) (rows : List Row) (bytes : L
 same-header : (h : Facts) (names rest : List ℕ) → good-vm names (h .vm) ≡ true → SameHeader h names (written-facts h) (put-header names h ++ rest)
 same-header h names rest g = record { word = refl; hashed = refl; openj9 = refl; there = vm-kept (h .vm); text = vm-stands names h rest g }
 
+-- the header is there in every cut after it
+cut-header : (h : Facts) (names : List ℕ) (rs : List Rec) (m : ℕ) → good-vm names (h .vm) ≡ true → length (put-header names h) ≤ m
+    → SameHeader h names (written-facts h) (take m (put-dump names h rs))
+unfolding put-dump
+cut-header h names rs m g l =
+    let hd : List ℕ = put-header names h in
+    let rest : List ℕ = put-records h 0 empty rs in
+    let e : length hd + (m - length hd) ≡ m = omega arith in
+    subst (λ (x : ℕ). SameHeader h names (written-facts h) (take x (hd ++ rest))) e
+    (rw (take-append-add hd rest (m - length hd)) (same-header h names (take (m - length hd) rest) g))
+
 -- all records of a dump lie within all of it
-all-within : (h : Facts) (names : List ℕ) (rs : List Rec) → kept names h rs (length (put-dump names h rs)) ≡ rs
+pub all-within : (h : Facts) (names : List ℕ) (rs : List Rec) → kept names h rs (length (put-dump names h rs)) ≡ rs
 unfolding put-dump
 all-within h names rs =
     let t = length-append (put-header names h) (put-records h 0 empty rs) in
     within-all (length (put-dump names h rs)) h (length (put-header names h)) 0 empty rs (omega arith)
 
 -- and a reading of all of it stops after the end tag
-all-read : (h : Facts) (names : List ℕ) (rs : List Rec) → stop-at names h rs (length (put-dump names h rs)) ≡ length (put-dump names h rs)
+pub all-read : (h : Facts) (names : List ℕ) (rs : List Rec) → stop-at names h rs (length (put-dump names h rs)) ≡ length (put-dump names h rs)
 unfolding put-dump
 all-read h names rs =
     let t = length-append (put-header names h) (put-records h 0 empty rs) in
@@ -116,6 +127,9 @@ pub record Handed (h : Facts) (names refs : List ℕ) (rows : List Row) (bytes :
   pub reply : rd .reply ≡ pick (leb (length bytes) m) 0 1
   -- with it, the place: after the end tag, or else the tag of the first record that is not whole, and 0 in the header
   pub place : rd .place ≡ stop-at names h (recs names refs rows) m
+  -- the header is the one passed in, if it lies within the cut, and else there are no header facts
+  pub header : length (put-header names h) ≤ m → SameHeader h names (rd .facts) (take m bytes)
+  pub no-header : m < length (put-header names h) → rd .facts ≡ no-facts
 
 -- Any cut of any dump that was written, read with a row for each record and a number for each of their references.
 pub handed : (h : Facts) (names refs : List ℕ) (rows : List Row) (room m R F : ℕ) → write-rows h names refs rows room .answer .reply ≡ 0
@@ -134,6 +148,8 @@ handed h names refs rows room m R F z p q =
       refs-all = reads-cut names h rs m R F g r q .refs;
       reply = reads-cut names h rs m R F g r q .reply;
       place = reads-cut names h rs m R F g r q .place;
+      header = λ l. rw (reads-cut names h rs m R F g r q .facts l) (cut-header h names rs m (g .vm) l);
+      no-header = reads-cut names h rs m R F g r q .early;
     })
 
 -- The same as a caller sees it, who passes the tables rows′ and refs′ to the reading: as many rows as are counted, in the
@@ -144,6 +160,9 @@ pub record Seen (h : Facts) (names refs : List ℕ) (rows : List Row) (bytes : L
   pub refs-count : answer rd .refs ≡ length (all-refs (kept names h (recs names refs rows) m))
   pub reply : answer rd .reply ≡ pick (leb (length bytes) m) 0 1
   pub place : answer rd .place ≡ stop-at names h (recs names refs rows) m
+  pub refs-all : take (answer rd .refs) (stored refs′ (rd .refs)) ≡ all-refs (kept names h (recs names refs rows) m)
+  pub header : length (put-header names h) ≤ m → SameHeader h names (answer rd .facts) (take m bytes)
+  pub no-header : m < length (put-header names h) → answer rd .facts ≡ no-facts
 
 pub handed-seen : (h : Facts) (names refs : List ℕ) (rows : List Row) (room m : ℕ) (rows′ refs′ : List ℕ) → write-rows h names refs rows room .answer .reply ≡ 0
     → length rows * row-width ≤ length rows′ → length (all-refs (recs names refs rows)) ≤ length refs′
@@ -162,4 +181,7 @@ handed-seen h names refs rows room m rows′ refs′ z p q =
       refs-count = ap length (reads-cut names h rs m _ _ g r q .refs);
       reply = reads-cut names h rs m _ _ g r q .reply;
       place = reads-cut names h rs m _ _ g r q .place;
+      refs-all = take-append-seam (rd .refs) _ ∙ reads-cut names h rs m _ _ g r q .refs;
+      header = λ l. rw (reads-cut names h rs m _ _ g r q .facts l) (cut-header h names rs m (g .vm) l);
+      no-header = reads-cut names h rs m _ _ g r q .early;
     })

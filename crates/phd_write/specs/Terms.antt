@@ -5,17 +5,26 @@ use mathlib.Core.Logic.{_⊎_}
 use Prim.Native.Nat.{ℕ, _<_}
 use mathlib.Core.List.{List, [], _∷_, _++_}
 use lib.ListN.{length}
+use Rattle.table.specs.Buffer.{stored}
 use Rattle.table.specs.Rows.{recs}
+use Rattle.table.specs.declared.Answer.{Answer}
 use Rattle.table.specs.declared.Row.{Row}
 use Rattle.phd.specs.Phd.{limit}
 use Rattle.phd.specs.declared.Facts.{Facts}
-use Rattle.phd_write.specs.Write.{put-dump}
+use Rattle.phd_write.specs.Write.{put-dump, writing}
 
 -- ---- of rows
 
 -- the bytes of rows, in order, under their header
 abbrev pub dump-of : Facts → (names refs : List ℕ) → List Row → List ℕ
 dump-of h names refs rows = put-dump names h (recs names refs rows)
+
+-- ---- of a call
+
+-- What the contract of `write` says of a call: its answer a, and the output out, which is out′ afterwards.
+pub record AfterWrite (header : Facts) (names refs rows out : List ℕ) (a : Answer) (out′ : List ℕ) : Type 0 where
+  pub is : a ≡ writing header names refs rows (length out) .answer
+  pub output : out′ ≡ stored out (writing header names refs rows (length out) .bytes)
 
 -- ---- of a dump
 

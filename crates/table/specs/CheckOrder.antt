@@ -34,12 +34,9 @@ judged true NotFound (At i) fits bytes = refused 18 i
 judged true NotFound NotFound false bytes = refused 17 0
 judged true NotFound NotFound true bytes = done bytes
 
--- What is answered by the first two tests alone, and by the third: 0 where they hold, and there is nothing to write.
+-- What is answered by the first two tests alone: 0 where they hold, and there is nothing to write.
 unfoldable pub checked : Bool → Search → Answer
 checked good bad = judged good bad NotFound true [] .answer
-
-unfoldable pub classed : Search → Answer
-classed lost = judged true NotFound lost true [] .answer
 
 -- ---- each reply exactly in its case
 
@@ -152,18 +149,6 @@ unfolding checked judged refused done
 checked-stops false bad lost fits bytes w e z = rw e
 checked-stops true (At i) lost fits bytes w e z = rw e
 checked-stops true NotFound lost fits bytes w e z = absurd (z (rw e))
-
--- so for the third, where the first two hold
-pub classed-right : (lost : Search) (w : Answer) → w ≡ classed lost → w .reply ≡ 0 → lost ≡ NotFound
-unfolding classed judged refused
-classed-right (At i) w e z = absurd (omega (arith, rw e at z))
-classed-right NotFound w e z = refl
-
-pub classed-stops : (lost : Search) (fits : Bool) (bytes : List ℕ) (w : Answer) → w ≡ classed lost → (w .reply ≡ 0 → ⊥)
-    → judged true NotFound lost fits bytes ≡ refused (w .reply) (w .place)
-unfolding classed judged refused done
-classed-stops (At i) fits bytes w e z = rw e
-classed-stops NotFound fits bytes w e z = absurd (z (rw e))
 
 -- ---- the answer and the output, as a function gives them
 

@@ -11,7 +11,7 @@ use native.Mathlib.Omega.{arith}
 use native.Mathlib.Decide.{decLe}
 use borrow.Author.Tests.{le-leb, lt-leb}
 use Rattle.layout.specs.Numbers.{both}
-use Rattle.table.specs.CheckOrder.{Outcome, refused, done, judged, checked, classed, checked-stops, classed-stops}
+use Rattle.table.specs.CheckOrder.{Outcome, refused, done, judged, checked, checked-stops}
 use Rattle.table.specs.declared.Search.{Search}
 use Rattle.table.specs.declared.Search.the-variants.{At, NotFound}
 use Rattle.table.specs.declared.Answer.{Answer}
@@ -92,11 +92,6 @@ module _ (good : Bool) (bad lost : Search) (within : Bool) (bytes : List ℕ) wh
   pub asked-checked : (w : Answer) → w ≡ checked good bad → (w .reply ≡ 0 → ⊥) → w ≡ judged good bad lost within bytes .answer
   unfolding refused
   asked-checked w e z = ap (λ (o : Outcome). o .answer) (sym (checked-stops good bad lost within bytes w e z))
-
-  -- by the third, where those hold
-  pub asked-classed : good ≡ true → bad ≡ NotFound → (w : Answer) → w ≡ classed lost → (w .reply ≡ 0 → ⊥) → w ≡ judged good bad lost within bytes .answer
-  unfolding refused
-  asked-classed p q w e z = rw (p, q) (ap (λ (o : Outcome). o .answer) (sym (classed-stops lost within bytes w e z)))
 
   -- where all of them hold, the count of the bytes, or 17 where they are too many
   pub asked-counts : good ≡ true → bad ≡ NotFound → lost ≡ NotFound → within ≡ true → record { reply = 0; place = length bytes } ≡ judged good bad lost within bytes .answer
