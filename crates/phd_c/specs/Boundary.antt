@@ -1,10 +1,11 @@
 -- How a header and an answer stand as numbers at the C boundary.
 -- A reader must believe these lines.
-use mathlib.Core.Bool.{Bool}
+use mathlib.Core.Path.{_≡_, refl}
+use mathlib.Core.Bool.{Bool, true, false}
 use mathlib.Core.List.{List, [], _∷_}
 use Prim.Native.Nat.{ℕ}
 use lib.Dec.{ltb}
-use lib.ListN.{getD}
+use lib.ListN.{getD, take, drop}
 use Rattle.layout.specs.Numbers.{pick}
 use Rattle.phd.specs.declared.Facts.{Facts}
 use Rattle.phd_read.specs.declared.Reading.{Reading}
@@ -36,3 +37,19 @@ read-facts r =
 -- the numbers of the answer of a writing, or of asking for its size: reply and place
 unfoldable pub written-facts : Answer → List ℕ
 written-facts w = w .reply ∷ w .place ∷ 0 ∷ 0 ∷ 0 ∷ 0 ∷ 0 ∷ 0 ∷ 0 ∷ 0 ∷ 0 ∷ 0 ∷ 0 ∷ 0 ∷ 0 ∷ 0 ∷ []
+
+-- ---- the header facts of a reading are a header to write
+
+set-again : (b : Bool) → ltb 0 (flag b) ≡ b
+set-again true = refl
+set-again false = refl
+
+-- Numbers 4 to 9 of a reading's answer, passed on as a header, say the header that was read.
+pub header-kept : (r : Reading) → header (take 6 (drop 4 (read-facts r))) ≡ r .facts
+unfolding header read-facts
+header-kept r = λ j. record {
+  word = r .facts .word;
+  hashed = set-again (r .facts .hashed) j;
+  openj9 = set-again (r .facts .openj9) j;
+  vm = record { there = set-again (r .facts .vm .there) j; place = r .facts .vm .place; len = r .facts .vm .len };
+}

@@ -140,9 +140,12 @@ impl Case<'_> {
         }
         let lent = Tables::of_reading(dump, &read.facts, &read.tables[0], &read.tables[1]);
         let written = self.make_twice(&WRITE, &lent, 2 * dump.len())?;
-        self.make_twice(&TEXT, &lent, lent.text_bound())?;
+        let told = self.make_twice(&TEXT, &lent, lent.text_bound())?;
         if written.reply != 0 {
             return Err(of_dump("what was read is not written", dump));
+        }
+        if !matches!(told.reply, 0 | 18) {
+            return Err(of_dump("what was read is refused as a text", dump));
         }
         Ok(Some(written.out[..written.place()].to_vec()))
     }
