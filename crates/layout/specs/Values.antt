@@ -156,10 +156,14 @@ unfolding check
 refuses-check r true p = refuses-yield tt
 refuses-check r false p = refuses-refuse r p
 
-pub refuses-need : {P : ℕ → Type 0} (r : ℕ) (m : Maybe) → P r → Refuses P (need r m)
+-- a value that must be there is refused only where it is not
+pub refuses-nothing : {P : ℕ → Type 0} (r : ℕ) (m : Maybe) → (m ≡ Nothing → P r) → Refuses P (need r m)
 unfolding need
-refuses-need r (Just a) p = refuses-yield a
-refuses-need r Nothing p = refuses-refuse r p
+refuses-nothing r (Just a) p = refuses-yield a
+refuses-nothing r Nothing p = refuses-refuse r (p refl)
+
+pub refuses-need : {P : ℕ → Type 0} (r : ℕ) (m : Maybe) → P r → Refuses P (need r m)
+refuses-need r m p = refuses-nothing r m (λ _. p)
 
 -- ---- the range of addresses and references
 

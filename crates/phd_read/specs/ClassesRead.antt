@@ -2,24 +2,27 @@
 -- short object's class is out of the slot that its tag names.
 -- A reader must believe `tag-at`, `puts-class`, `words-put` and `InTurn`.
 use mathlib.Core.Path.{_≡_, refl, sym, ap, subst, _∙_}
-use Prim.Native.Nat.{ℕ, zero, suc, _+_, _*_, _/_, _%_, _≤_, _<_}
+use Prim.Native.Nat.{ℕ, zero, suc, _+_, _-_, _*_, _/_, _%_, _≤_, _<_}
+use native.Mathlib.Decide.{decLe}
 use native.Mathlib.Omega.{arith}
 use mathlib.Core.Logic.{inl, inr}
 use mathlib.Core.Bool.{Bool, true, false}
 use mathlib.Core.List.{List, [], _∷_, _++_}
-use lib.Dec.{eqb}
+use lib.Dec.{leb, eqb}
 use lib.ListN.{length, getD, take, drop}
 use lib.Seq.{getD-take, length-take-le}
-use borrow.Author.Tests.{le-leb}
+use borrow.Author.Tests.{le-leb, leb-true}
 use Rattle.layout.specs.Numbers.{pick, value}
-use Rattle.layout.specs.Layout.{whole, run, run-then, run-field}
-use Rattle.layout.specs.Values.{Gives, gives-yield, gives-refuse, gives-then, gives-last, gives-when, gives-pick, gives-need}
-use Rattle.layout.specs.declared.Maybe.the-variants.{Just}
+use Rattle.layout.specs.Layout.{yield, whole, stops, run, run-then, run-field, run-field-short, reply-of, missing-of}
+use Rattle.layout.specs.Values.{Gives, gives-yield, gives-refuse, gives-then, gives-last, gives-when, gives-pick, gives-need, refuses-yield, refuses-pick}
+use Rattle.layout.specs.declared.Stop.{Stop}
+use Rattle.layout.specs.declared.Stop.the-variants.{Cut, Refused}
+use Rattle.layout.specs.declared.Maybe.the-variants.{Just, Nothing}
 use Rattle.table.specs.Table.{row-width, offset-number, row-count, row-of, number, number-in, whole-more, one-more, number-before, number-last}
-use Rattle.reading.specs.Reading.{found, onto, first}
-use Rattle.reading.specs.Steps.{step-by}
+use Rattle.reading.specs.Reading.{found, onto, first, ended, nothing}
+use Rattle.reading.specs.Steps.{step-by, Either, reading-holds}
 use Rattle.reading.specs.Offsets.{offset-of, After, CameFrom}
-use Rattle.phd.specs.Phd.{in-turn, empty, put, slot, tagged, formed, known-class, shape, there, row, linked, fields, record-of, from-tag, Before, Item, over, item, entry, State, Next, phd, capacity, go, halt, reading}
+use Rattle.phd.specs.Phd.{in-turn, empty, put, slot, tagged, formed, known-class, shape, there, row, linked, fields, record-of, from-tag, Before, Item, over, item, entry, header, State, Result, Next, phd, capacity, go, halt, reading}
 use Rattle.phd.specs.ClassCache.{filled, slot-in-turn}
 use Rattle.phd.specs.Origins.{at-place, entry-at}
 use Rattle.phd.specs.Shapes.{Word}
@@ -35,6 +38,7 @@ use Rattle.phd.specs.declared.Tagged.the-variants.{Begins, Other}
 use Rattle.phd_read.specs.Links.{entry-forth, links-stand}
 use Rattle.phd_read.specs.Lawful.{always}
 use Rattle.phd_read.specs.Offsets.{reading-traced}
+use Rattle.phd_read.specs.Replies.{OfField, header-by, record-by}
 use Rattle.phd_read.specs.RecordBytes.{takes-header}
 
 -- the tag at a place of a dump
@@ -235,3 +239,69 @@ reading-classes s R F i l = record {
 
     record-short : 0x80 ≤ tag-at s (st .at) → slot (st .context .cache) (tag-at s (st .at) / 0x20 % 4) ≡ Just (getD (row-of rows i) 2 0)
     record-short = cache-after h s (st .context .address) (st .context .cache) (length (st .refs)) (st .at) (row-of rows i) (x .list) (x .note) (x .context) (x .end) w (x .gives) .1
+
+-- ---- an empty slot
+
+-- What holds where a reading of the dump s stops with 10, after these rows: the tag there is a short object's, and no class word that was put
+-- is in the slot that it names.
+pub record EmptySlot (s rows : List ℕ) (place : ℕ) : Type 0 where
+  pub short : 0x80 ≤ tag-at s place
+  pub unfilled : in-turn (words-put s rows (row-count rows)) (tag-at s place / 0x20 % 4) ≡ Nothing
+
+-- a reply to a field is not 10
+not-ten : {Q : Type 0} (r : ℕ) → OfField r → r ≡ 10 → Q
+not-ten r k e = clash (rw e at k)
+
+slot-empty : (h : Facts) (s : List ℕ) (before : ℕ) (c : Cache) (index at : ℕ) → run (entry h before c index) s at ≡ stops (Refused 10)
+    → (0x80 ≤ tag-at s at) × (slot c (tag-at s at / 0x20 % 4) ≡ Nothing)
+unfolding from-tag known-class
+slot-empty h s before c index at e = elim (decLe (at + 1) (length s)) [
+  | yes l ↦ by (leb 0x80 t) refl (refused (rw (entry-at, run-then, run-field 1 s at l) at e))
+  | no l ↦
+      let x : stops (Cut (at + 1 - length s)) ≡ stops (Refused 10) = rw (entry-at, run-then, run-field-short 1 s at (omega arith)) at e in
+      let z : _≡_ {A = ℕ} 0 1 = cc in
+      absurd (omega arith)
+]
+  where
+    t : ℕ
+    t = tag-at s at
+
+    refused : run (pick (eqb t 3) (yield over) (record-of h before c (at-place at index) t)) s (at + 1) ≡ stops (Refused 10) → known-class c t ≡ Nothing
+    refused x =
+        refuses-pick {P = λ r. r ≡ 10 → known-class c t ≡ Nothing} (eqb t 3) _ _ (refuses-yield over)
+        (record-by (λ r. r ≡ 10 → known-class c t ≡ Nothing) not-ten h before c (at-place at index) t (λ k _. k)) .each s (at + 1) 10 x refl
+
+    by : (b : Bool) → leb 0x80 t ≡ b → pick b (slot c (t / 0x20 % 4)) (Just 0) ≡ Nothing → (0x80 ≤ t) × (slot c (t / 0x20 % 4) ≡ Nothing)
+    by true d k = (leb-true _ _ d, k)
+    by false d k = let z : _≡_ {A = ℕ} 0 1 = cc in absurd (omega arith)
+
+module _ (s : List ℕ) (R F : ℕ) where
+  abbrev Stops : Result → Type 0
+  Stops r = r .reply ≡ 10 → EmptySlot s (r .rows) (r .place)
+
+  abbrev Between : Facts → State → Type 0
+  Between h st = Word (h .word) × InTurn s st
+
+  -- a stop between records
+  stopped : (h : Facts) (st : State) → Between h st → (w : Stop) → found phd h s st ≡ stops w → Stops (ended h st (reply-of w) (st .at) (missing-of w))
+  unfolding ended reply-of
+  stopped h st g (Cut n) e z = absurd (omega arith)
+  stopped h st g (Refused r) e z =
+      let x = slot-empty h s (st .context .address) (st .context .cache) (length (st .refs)) (st .at) (rw z at e) in
+      let c = g .1 .cache in
+      record { short = x .0; unfilled = sym (slot-in-turn _ _ (omega arith)) ∙ rw c at (x .1) }
+
+  in-header : (w : Stop) → run header s 0 ≡ stops w → Stops (nothing phd (reply-of w) (missing-of w))
+  unfolding nothing reply-of
+  in-header (Cut n) e z = absurd (omega arith)
+  in-header (Refused r) e z = header-by (λ r. r ≡ 10 → EmptySlot s [] 0) not-ten .each s 0 r e z
+
+  pub reading-empty-slot : reading s R F .reply ≡ 10 → EmptySlot s (reading s R F .rows) (reading s R F .place)
+  unfolding nothing ended first words-put row-count
+  reading-empty-slot =
+      reading-holds phd s (capacity R F) Between Stops (λ z. absurd (omega arith)) in-header
+      (λ h n e. (takes-header .each s 0 h n e .2 .1, record { whole-rows = refl; cache = refl }))
+      (λ h st g. step-by phd (Either (Between h) Stops) h s (capacity R F) st (λ n e z. absurd (omega arith))
+      (λ r rs m k n e _ _. (g .0, one-on h s R F (g .0) st (g .1) r rs m k n e))
+      (λ z. absurd (omega arith)) (λ z. absurd (omega arith)) (stopped h st g))
+      (λ h st g z. absurd (omega arith))

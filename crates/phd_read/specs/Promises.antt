@@ -23,7 +23,7 @@ use Rattle.phd_read.specs.Lawful.{lawful, always}
 use Rattle.phd_read.specs.Offsets.{TagAt, reading-traced, reading-tagged}
 use Rattle.phd_read.specs.Replies.{reading-answers}
 use Rattle.phd_read.specs.Counts.{counts}
-use Rattle.phd_read.specs.ClassesRead.{ClassOf, reading-classes}
+use Rattle.phd_read.specs.ClassesRead.{ClassOf, EmptySlot, reading-classes, reading-empty-slot}
 use Rattle.phd_read.specs.RecordBytes.{header-least, least-bytes, rows-most, refs-most, RowBytes, together-most, rows-enough, refs-enough, row-bytes}
 
 -- ---- demand 1, of reading
@@ -129,6 +129,10 @@ pub slots-in-turn : (s : List ℕ) (R F i : ℕ) (l : i < row-count (reading s R
     → ClassOf s (reading s R F .rows) i (came-from s R F .each i l .before .context .cache)
 unfolding came-from
 slots-in-turn = reading-classes
+
+-- And 10 comes only for a slot that none of the class words put so far is in.
+pub empty-slot : (s : List ℕ) (R F : ℕ) → reading s R F .reply ≡ 10 → EmptySlot s (reading s R F .rows) (reading s R F .place)
+empty-slot = reading-empty-slot
 
 -- ---- how much a dump of a given length can give
 

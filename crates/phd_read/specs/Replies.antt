@@ -2,7 +2,7 @@
 -- Assumes nothing.
 use mathlib.Core.Path.{_≡_, refl}
 use Prim.Native.Nat.{ℕ, zero, suc, _≤_}
-use mathlib.Core.Bool.{true}
+use mathlib.Core.Bool.{true, not}
 use mathlib.Core.List.{List, []}
 use lib.Dec.{leb, eqb, lit≤}
 use native.Mathlib.Omega.{arith}
@@ -10,8 +10,9 @@ use borrow.Author.Tests.{leb-true}
 use Rattle.layout.specs.Numbers.{both}
 use Rattle.layout.specs.Layout.{Layout}
 use Rattle.layout.specs.Fields.{no-text}
-use Rattle.layout.specs.Values.{both-left, both-right, Refuses, refuses-yield, refuses-refuse, refuses-then, refuses-pick, refuses-field, refuses-raw, refuses-position, refuses-check, refuses-need, refuses-exactly, refuses-below, refuses-address, refuses-reference, refuses-count, refuses-string}
-use Rattle.phd.specs.Phd.{opening-bytes, preamble, after-vm, header-records, header, formed, flag-byte, front, middle, class-name, link-count, references, links, true-length, tail, over, linked, fields, record-of, from-tag, entry, phd, capacity, reading}
+use Rattle.layout.specs.declared.Maybe.the-variants.{Nothing}
+use Rattle.layout.specs.Values.{both-left, both-right, Refuses, refuses-yield, refuses-refuse, refuses-then, refuses-pick, refuses-field, refuses-raw, refuses-position, refuses-check, refuses-nothing, refuses-exactly, refuses-below, refuses-address, refuses-reference, refuses-count, refuses-string}
+use Rattle.phd.specs.Phd.{opening-bytes, preamble, after-vm, header-records, header, formed, known-class, flag-byte, front, middle, class-name, link-count, references, links, true-length, tail, over, linked, fields, record-of, from-tag, entry, phd, capacity, reading}
 use Rattle.phd.specs.Origins.{entry-refuses}
 use Rattle.phd.specs.declared.classes.Cache.{Cache}
 use Rattle.phd.specs.declared.Facts.{Facts}
@@ -21,108 +22,124 @@ use Rattle.phd.specs.declared.Tagged.{Tagged}
 use Rattle.phd.specs.declared.Tagged.the-variants.{Begins, Other}
 use Rattle.reading.specs.Capacity.{reading-replies}
 
--- a reply to what was read and is refused
+-- a reply to what was read and is refused, and one to a field
 abbrev Known : ℕ → Type 0
 Known r = both (leb 3 r) (leb r 12) ≡ true
+
+abbrev pub OfField : ℕ → Type 0
+OfField r = both (both (leb 3 r) (leb r 12)) (not (eqb r 10)) ≡ true
+
+-- What holds of every reply to a field holds of those that a header is refused with, and a record's fields.
+module _ (P : ℕ → Type 0) (p : (r : ℕ) → OfField r → P r) where
+  -- ---- the header
+
+  opening-by : Refuses P opening-bytes
+  unfolding opening-bytes
+  opening-by = refuses-then _ _ (refuses-raw 18) (λ text. refuses-check 3 _ (p 3 refl))
+
+  preamble-by : Refuses P preamble
+  unfolding preamble
+  preamble-by =
+      refuses-then _ _ (refuses-exactly 2 18 3 (p 3 refl)) (λ _. refuses-then _ _ opening-by (λ _.
+      refuses-then _ _ (refuses-exactly 4 6 4 (p 4 refl)) (λ _. refuses-then _ _ (refuses-below 4 8 5 (p 5 refl)) (λ flags.
+      refuses-then _ _ (refuses-exactly 1 1 6 (p 6 refl)) (λ _. refuses-yield flags)))))
+
+  after-vm-by : Refuses P after-vm
+  unfolding after-vm
+  after-vm-by = refuses-then _ _ (refuses-field 1) (λ tag. refuses-then _ _ (refuses-check 7 _ (p 7 refl)) (λ _. refuses-check 6 _ (p 6 refl)))
+
+  header-records-by : Refuses P header-records
+  unfolding header-records
+  header-records-by =
+      refuses-then _ _ (refuses-field 1) (λ tag. refuses-pick (eqb tag 2) _ _ (refuses-yield no-text) (refuses-pick (eqb tag 4) _ _
+      (refuses-then _ _ (refuses-string 0x20 0 (p 7 refl)) (λ vm. refuses-then _ _ after-vm-by (λ _. refuses-yield vm)))
+      (refuses-refuse 6 (p 6 refl))))
+
+  pub header-by : Refuses P header
+  unfolding header
+  header-by =
+      refuses-then _ _ preamble-by (λ flags. refuses-then _ _ header-records-by (λ vm.
+      refuses-then _ _ (refuses-exactly 1 2 6 (p 6 refl)) (λ _. refuses-yield _)))
+
+  -- ---- a record
+
+  formed-by : (t : Tagged) → Refuses P (formed t)
+  unfolding formed
+  formed-by (Begins fm) = refuses-yield fm
+  formed-by Other = refuses-refuse 6 (p 6 refl)
+
+  flag-byte-by : (h : Facts) (t : ℕ) → Refuses P (flag-byte h t)
+  unfolding flag-byte
+  flag-byte-by h t = refuses-then _ _ (refuses-field _) (λ f. refuses-then _ _ (refuses-check 11 _ (p 11 refl)) (λ _. refuses-yield f))
+
+  front-by : (top before : ℕ) (sh : Shape) → Refuses P (front top before sh)
+  unfolding front
+  front-by top before sh =
+      refuses-then _ _ (refuses-address (sh .gap) before top (p 8 refl)) (λ a. refuses-then _ _ (refuses-field (sh .word)) (λ word.
+      refuses-then _ _ (refuses-count (sh .len) (p 12 refl)) (λ len. refuses-yield _)))
+
+  middle-by : (sh : Shape) (hb : ℕ) → Refuses P (middle sh hb)
+  unfolding middle
+  middle-by sh hb =
+      refuses-then _ _ (refuses-count (sh .inst) (p 12 refl)) (λ inst. refuses-then _ _ (refuses-field hb) (λ hash.
+      refuses-then _ _ (refuses-field (sh .superclass)) (λ superclass. refuses-yield _)))
+
+  class-name-by : (n : ℕ) → Refuses P (class-name n)
+  unfolding class-name
+  class-name-by n = refuses-pick (eqb n 0) _ _ (refuses-yield no-text) (refuses-string 0x21 1 (p 7 refl))
+
+  link-count-by : (n known : ℕ) → Refuses P (link-count n known)
+  unfolding link-count
+  link-count-by n known = refuses-pick (eqb n 0) _ _ (refuses-yield known) (refuses-count n (p 12 refl))
+
+  references-by : (w a top n : ℕ) → Refuses P (references w a top n)
+  unfolding references
+  references-by w a top zero = refuses-yield []
+  references-by w a top (suc n) =
+      refuses-then _ _ (refuses-reference w a top (p 8 refl) (p 9 refl)) (λ r. refuses-then _ _ (references-by w a top n) (λ rs. refuses-yield _))
+
+  links-by : (w a top n : ℕ) → Refuses P (links w a top n)
+  unfolding links
+  links-by w a top n = refuses-then _ _ refuses-position (λ p. refuses-then _ _ (references-by w a top n) (λ rs. refuses-yield _))
+
+  true-length-by : (w n : ℕ) → Refuses P (true-length w n)
+  unfolding true-length
+  true-length-by w n =
+      refuses-pick (eqb w 0) _ _ (refuses-yield 0)
+      (refuses-then _ _ (refuses-count w (p 12 refl)) (λ t. refuses-then _ _ (refuses-check 12 _ (p 12 refl)) (λ _. refuses-yield t)))
+
+  tail-by : (size truelen n : ℕ) → Refuses P (tail size truelen n)
+  unfolding tail
+  tail-by size truelen n = refuses-then _ _ (refuses-field size) (λ z. refuses-then _ _ (true-length-by truelen n) (λ t. refuses-yield _))
+
+  fields-by : (top before : ℕ) (c : Cache) (origin : Origin) (known hk : ℕ) (sh : Shape) → Refuses P (fields top before c origin known hk sh)
+  unfolding fields linked
+  fields-by top before c origin known hk sh =
+      refuses-then _ _ (front-by top before sh) (λ v. refuses-then _ _ (middle-by sh _) (λ m. refuses-then _ _ (class-name-by (sh .name)) (λ name.
+      refuses-then _ _ (link-count-by (sh .counted) (sh .count)) (λ n. refuses-then _ _ (links-by (sh .link) (v .address) top n) (λ ls.
+      refuses-then _ _ (tail-by (sh .size) (sh .truelen) n) (λ t. refuses-yield _))))))
+
+  -- a record, of which an empty slot is one more refusal
+  pub record-by : (h : Facts) (before : ℕ) (c : Cache) (origin : Origin) (t : ℕ) → (known-class c t ≡ Nothing → P 10) → Refuses P (record-of h before c origin t)
+  unfolding record-of
+  record-by h before c origin t ten =
+      refuses-then _ _ (formed-by _) (λ fm. refuses-then _ _ (refuses-nothing 10 _ ten) (λ known.
+      refuses-then _ _ (flag-byte-by h t) (λ f. fields-by _ before c origin known _ _)))
 
 -- a layout that refuses with such a reply only
 abbrev pub Fine : {A : Type 0} → Layout A → Type 0
 Fine l = Refuses Known l
 
--- ---- the header
-
-opening-fine : Fine opening-bytes
-unfolding opening-bytes
-opening-fine = refuses-then _ _ (refuses-raw 18) (λ text. refuses-check 3 _ refl)
-
-preamble-fine : Fine preamble
-unfolding preamble
-preamble-fine =
-    refuses-then _ _ (refuses-exactly 2 18 3 refl) (λ _. refuses-then _ _ opening-fine (λ _.
-    refuses-then _ _ (refuses-exactly 4 6 4 refl) (λ _. refuses-then _ _ (refuses-below 4 8 5 refl) (λ flags.
-    refuses-then _ _ (refuses-exactly 1 1 6 refl) (λ _. refuses-yield flags)))))
-
-after-vm-fine : Fine after-vm
-unfolding after-vm
-after-vm-fine = refuses-then _ _ (refuses-field 1) (λ tag. refuses-then _ _ (refuses-check 7 _ refl) (λ _. refuses-check 6 _ refl))
-
-header-records-fine : Fine header-records
-unfolding header-records
-header-records-fine =
-    refuses-then _ _ (refuses-field 1) (λ tag. refuses-pick (eqb tag 2) _ _ (refuses-yield no-text) (refuses-pick (eqb tag 4) _ _
-    (refuses-then _ _ (refuses-string 0x20 0 refl) (λ vm. refuses-then _ _ after-vm-fine (λ _. refuses-yield vm)))
-    (refuses-refuse 6 refl)))
+field-known : (r : ℕ) → OfField r → Known r
+field-known r k = both-left (both (leb 3 r) (leb r 12)) (not (eqb r 10)) k
 
 pub header-fine : Fine header
-unfolding header
-header-fine =
-    refuses-then _ _ preamble-fine (λ flags. refuses-then _ _ header-records-fine (λ vm.
-    refuses-then _ _ (refuses-exactly 1 2 6 refl) (λ _. refuses-yield _)))
-
--- ---- a record
-
-formed-fine : (t : Tagged) → Fine (formed t)
-unfolding formed
-formed-fine (Begins fm) = refuses-yield fm
-formed-fine Other = refuses-refuse 6 refl
-
-flag-byte-fine : (h : Facts) (t : ℕ) → Fine (flag-byte h t)
-unfolding flag-byte
-flag-byte-fine h t = refuses-then _ _ (refuses-field _) (λ f. refuses-then _ _ (refuses-check 11 _ refl) (λ _. refuses-yield f))
-
-front-fine : (top before : ℕ) (sh : Shape) → Fine (front top before sh)
-unfolding front
-front-fine top before sh =
-    refuses-then _ _ (refuses-address (sh .gap) before top refl) (λ a. refuses-then _ _ (refuses-field (sh .word)) (λ word.
-    refuses-then _ _ (refuses-count (sh .len) refl) (λ len. refuses-yield _)))
-
-middle-fine : (sh : Shape) (hb : ℕ) → Fine (middle sh hb)
-unfolding middle
-middle-fine sh hb =
-    refuses-then _ _ (refuses-count (sh .inst) refl) (λ inst. refuses-then _ _ (refuses-field hb) (λ hash.
-    refuses-then _ _ (refuses-field (sh .superclass)) (λ superclass. refuses-yield _)))
-
-class-name-fine : (n : ℕ) → Fine (class-name n)
-unfolding class-name
-class-name-fine n = refuses-pick (eqb n 0) _ _ (refuses-yield no-text) (refuses-string 0x21 1 refl)
-
-link-count-fine : (n known : ℕ) → Fine (link-count n known)
-unfolding link-count
-link-count-fine n known = refuses-pick (eqb n 0) _ _ (refuses-yield known) (refuses-count n refl)
-
-references-fine : (w a top n : ℕ) → Fine (references w a top n)
-unfolding references
-references-fine w a top zero = refuses-yield []
-references-fine w a top (suc n) =
-    refuses-then _ _ (refuses-reference w a top refl refl) (λ r. refuses-then _ _ (references-fine w a top n) (λ rs. refuses-yield _))
-
-links-fine : (w a top n : ℕ) → Fine (links w a top n)
-unfolding links
-links-fine w a top n = refuses-then _ _ refuses-position (λ p. refuses-then _ _ (references-fine w a top n) (λ rs. refuses-yield _))
-
-true-length-fine : (w n : ℕ) → Fine (true-length w n)
-unfolding true-length
-true-length-fine w n =
-    refuses-pick (eqb w 0) _ _ (refuses-yield 0)
-    (refuses-then _ _ (refuses-count w refl) (λ t. refuses-then _ _ (refuses-check 12 _ refl) (λ _. refuses-yield t)))
-
-tail-fine : (size truelen n : ℕ) → Fine (tail size truelen n)
-unfolding tail
-tail-fine size truelen n = refuses-then _ _ (refuses-field size) (λ z. refuses-then _ _ (true-length-fine truelen n) (λ t. refuses-yield _))
-
-fields-fine : (top before : ℕ) (c : Cache) (origin : Origin) (known hk : ℕ) (sh : Shape) → Fine (fields top before c origin known hk sh)
-unfolding fields linked
-fields-fine top before c origin known hk sh =
-    refuses-then _ _ (front-fine top before sh) (λ v. refuses-then _ _ (middle-fine sh _) (λ m. refuses-then _ _ (class-name-fine (sh .name)) (λ name.
-    refuses-then _ _ (link-count-fine (sh .counted) (sh .count)) (λ n. refuses-then _ _ (links-fine (sh .link) (v .address) top n) (λ ls.
-    refuses-then _ _ (tail-fine (sh .size) (sh .truelen) n) (λ t. refuses-yield _))))))
+header-fine = header-by Known field-known
 
 pub entry-fine : (h : Facts) (before : ℕ) (c : Cache) (index : ℕ) → Fine (entry h before c index)
-unfolding from-tag record-of
+unfolding from-tag
 entry-fine h before c index = entry-refuses h before c index (λ origin.
-    refuses-then _ _ (refuses-field 1) (λ t. refuses-pick (eqb t 3) _ _ (refuses-yield over)
-    (refuses-then _ _ (formed-fine _) (λ fm. refuses-then _ _ (refuses-need 10 _ refl) (λ known.
-    refuses-then _ _ (flag-byte-fine h t) (λ f. fields-fine _ before c origin known _ _))))))
+    refuses-then _ _ (refuses-field 1) (λ t. refuses-pick (eqb t 3) _ _ (refuses-yield over) (record-by Known field-known h before c origin t (λ _. refl))))
 
 -- ---- the reading
 
