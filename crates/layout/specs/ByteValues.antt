@@ -12,7 +12,7 @@ use lib.IntN.{ℤ, pos, negsuc}
 use borrow.Author.Tests.{leb-true}
 use Rattle.layout.specs.Numbers.{pick, value-after, value, signed, in-range, moved, counted, within}
 use Rattle.layout.specs.Parts.{part-cons}
-use Rattle.layout.specs.Layout.{Layout, yield, whole, run, run-then, run-enough, run-position, run-raw, had, then-inv, _>>=_, raw, field, position}
+use Rattle.layout.specs.Layout.{Layout, yield, whole, run-then, run-enough, run-position, run-raw, had, then-inv, _>>=_, raw, field, position}
 use Rattle.layout.specs.Fields.{address, reference, count, string}
 use Rattle.layout.specs.Values.{Gives, gives-then, gives-last, gives-when, gives-yield, gives-check, gives-need, in-range-is, counted-below}
 use Rattle.layout.specs.declared.Maybe.the-variants.{Just, Nothing}

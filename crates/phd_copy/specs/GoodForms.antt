@@ -12,7 +12,6 @@ use lib.ListN.{length, take, drop, length-append}
 use lib.Seq.{take-all, drop-at}
 use borrow.Author.Tests.{le-leb, lt-ltb, eq-eqb, ne-eqb}
 use Rattle.layout.specs.Numbers.{pick, within}
-use Rattle.layout.specs.ByteValues.{StringAt}
 use Rattle.layout.specs.Values.{pick-either}
 use Rattle.layout.specs.declared.Maybe.the-variants.{Just}
 use Rattle.table.specs.Rows.{refs-of, name-of}
@@ -26,7 +25,7 @@ use Rattle.phd.specs.declared.Form.the-variants.{Short, Medium, Long, Class, Ob
 use Rattle.phd.specs.declared.Tagged.{Tagged}
 use Rattle.phd.specs.declared.Tagged.the-variants.{Begins, Other}
 use Rattle.phd_rows.specs.Good.{every, good-hash, good-class, no-name, good-object, good-array, good-primitive, good-kind, good-place, good-span, good-numbers, good-ref, good-refs, good-row}
-use Rattle.phd_rows.specs.Kept.{GoodRef, GoodRefs}
+use Rattle.phd_rows.specs.Kept.{GoodRefs}
 use Rattle.phd_copy.specs.GoodRead.{RowOk}
 
 -- ---- the tests of a row

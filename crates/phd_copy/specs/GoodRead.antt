@@ -1,41 +1,32 @@
 -- The row of a record that was read from bytes passes every check that the writer makes of a row.
 -- A reader must believe `GoodBefore`.
 use mathlib.Core.Path.{_≡_, refl, sym, ap, _∙_}
-use mathlib.Core.Logic.{inl, inr}
-use Prim.Native.Nat.{ℕ, zero, suc, _+_, _/_, _%_, _^_, _≤_, _<_}
+use Prim.Native.Nat.{ℕ, zero, suc, _/_, _%_, _^_, _≤_, _<_}
 use native.Mathlib.Decide.{decLt, ℕ-discrete}
 use native.Mathlib.Omega.{arith}
 use mathlib.Core.Bool.{Bool, true, false}
-use mathlib.Core.List.{List, [], _∷_, _++_}
+use mathlib.Core.List.{List, [], _∷_}
 use lib.Dec.{leb, ltb, eqb}
-use lib.ListN.{length, getD, set, take, drop, length-append}
+use lib.ListN.{length, getD, set}
 use lib.Seq.{getD-set-same, getD-set-other, set-out}
-use borrow.Author.Tests.{le-leb, lt-leb, lt-ltb, eq-eqb, ne-eqb, eqb-true}
-use Rattle.layout.specs.Numbers.{pick, within}
-use Rattle.layout.specs.Layout.{whole, run}
+use borrow.Author.Tests.{eq-eqb}
+use Rattle.layout.specs.Numbers.{pick}
 use Rattle.layout.specs.Fields.{no-text}
-use Rattle.layout.specs.Values.{Gives, gives-yield, gives-refuse, gives-then, gives-last, gives-when, gives-pick, gives-by, gives-need, gives-count, gives-address, gives-reference}
+use Rattle.layout.specs.Values.{Gives, gives-yield, gives-then, gives-last, gives-when, gives-by, gives-count, gives-address, gives-reference}
 use Rattle.layout.specs.ByteValues.{Bytes, StringAt, gives-both, gives-field, gives-count-of, gives-fours, reference-fours, gives-string}
 use Rattle.layout.specs.declared.Maybe.the-variants.{Just, Nothing}
 use Rattle.layout.specs.declared.Text.{Text}
 use Rattle.table.specs.Rows.{row-at}
 use Rattle.table.specs.declared.Row.{Row}
-use Rattle.phd.specs.Phd.{highest, beginning, empty, put, slot, tagged, formed, known-class, hash-kind, hash-bytes, shape, front, middle, class-name, link-count, references, Links, links, tail, there, row, Before, Item, over, item, linked, fields, record-of, from-tag, entry}
-use Rattle.phd.specs.Origins.{entry-gives}
-use Rattle.phd.specs.Shapes.{Word}
+use Rattle.phd.specs.Phd.{highest, beginning, empty, put, slot, known-class, hash-bytes, front, middle, class-name, link-count, references, Links, links, tail, there, row, Before, Item, over, item, linked, fields}
 use Rattle.phd.specs.declared.classes.Cache.{Cache}
 use Rattle.phd.specs.declared.Facts.{Facts}
-use Rattle.phd.specs.declared.Form.{Form}
-use Rattle.phd.specs.declared.Form.the-variants.{Short, Medium, Long, Class, ObjectArray, Primitive, LongPrimitive}
 use Rattle.phd.specs.declared.Front.{Front}
 use Rattle.phd.specs.declared.Middle.{Middle}
 use Rattle.phd.specs.declared.Origin.{Origin}
 use Rattle.phd.specs.declared.Shape.{Shape}
-use Rattle.phd.specs.declared.Span.{Span}
-use Rattle.phd.specs.declared.Tagged.{Tagged}
-use Rattle.phd.specs.declared.Tagged.the-variants.{Begins, Other}
 use Rattle.phd.specs.declared.Tail.{Tail}
-use Rattle.phd_rows.specs.Kept.{GoodRef, GoodRefs}
+use Rattle.phd_rows.specs.Kept.{GoodRefs}
 use Rattle.phd_read.specs.Lengths.{Least, gives-true}
 
 -- What a reading keeps between records: the address of the record before is in fours, and the class words of the cache lie in 0 to

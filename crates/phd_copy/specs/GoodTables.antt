@@ -1,21 +1,20 @@
 -- Every row that a reading of bytes stores passes the writer's checks, and so does the header: record after record.
 -- A reader must believe `GoodState`.
-use mathlib.Core.Path.{_≡_, refl, sym, ap, _∙_}
-use Prim.Native.Nat.{ℕ, suc, _+_, _-_, _/_, _%_, _^_, _≤_, _<_}
+use mathlib.Core.Path.{_≡_, refl}
+use Prim.Native.Nat.{ℕ, suc, _+_, _-_, _/_, _%_, _≤_}
 use native.Mathlib.Nat.{zero-add, add-zero}
 use native.Mathlib.Omega.{arith}
-use mathlib.Core.Bool.{Bool, true, false}
+use mathlib.Core.Bool.{true}
 use mathlib.Core.List.{List, [], _∷_, _++_}
-use lib.Dec.{leb, eqb}
-use lib.ListN.{length, getD, take, drop, length-append, length-drop}
+use lib.Dec.{eqb}
+use lib.ListN.{length, getD, drop, length-append, length-drop}
 use lib.Seq.{take-append-le, drop-append-le}
-use borrow.Author.Tests.{le-leb, leb-true, eqb-true}
 use Rattle.layout.specs.Numbers.{within}
-use Rattle.layout.specs.Layout.{whole, run, run-then, run-field}
+use Rattle.layout.specs.Layout.{whole, run}
 use Rattle.layout.specs.Values.{Gives, gives-yield, gives-then, gives-last, gives-when, gives-pick, gives-need}
 use Rattle.layout.specs.ByteValues.{Bytes}
 use Rattle.layout.specs.declared.Maybe.the-variants.{Just}
-use Rattle.table.specs.Table.{row-width, row-count, whole-more}
+use Rattle.table.specs.Table.{row-width, whole-more}
 use Rattle.table.specs.Rows.{row-at, rows-of, rows-last, refs-of, name-of}
 use Rattle.table.specs.Sums.{sum}
 use Rattle.table.specs.declared.Row.{Row}

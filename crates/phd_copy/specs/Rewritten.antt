@@ -1,7 +1,7 @@
 -- What a reading of any bytes gave can be written and converted: its header and its rows, with the dump as name bytes, pass every check.
 -- So a copy of a damaged dump is refused for want of room alone, and its text for that or for a class that was lost.
 -- A reader must believe the records `Copies` and `Converts`.
-use mathlib.Core.Path.{_≡_, refl, sym, ap, _∙_}
+use mathlib.Core.Path.{_≡_, refl, sym, _∙_}
 use mathlib.Core.Logic.{_↔_, _⊎_, inl, inr}
 use Prim.Native.Nat.{ℕ, _+_, _*_, _^_, _≤_, _<_}
 use native.Mathlib.Decide.{decLe}
@@ -11,9 +11,9 @@ use mathlib.Core.List.{List, [], _∷_}
 use lib.Dec.{leb, ltb, eqb}
 use lib.ListN.{length, take, drop}
 use lib.Seq.{take-append-seam}
-use borrow.Author.Tests.{le-leb, lt-ltb, eq-eqb}
+use borrow.Author.Tests.{le-leb, lt-ltb}
 use Rattle.layout.specs.Numbers.{either, within}
-use Rattle.layout.specs.Layout.{whole, run, reply-of, missing-of}
+use Rattle.layout.specs.Layout.{reply-of, missing-of}
 use Rattle.layout.specs.Fields.{no-text}
 use Rattle.layout.specs.Values.{Gives, gives-yield, gives-refuse, gives-then, gives-last, gives-pick}
 use Rattle.layout.specs.ByteValues.{Bytes, StringAt, gives-string}

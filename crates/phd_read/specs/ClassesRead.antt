@@ -22,7 +22,7 @@ use Rattle.table.specs.Table.{row-width, offset-number, row-count, row-of, numb
 use Rattle.reading.specs.Reading.{found, onto, first, ended, nothing}
 use Rattle.reading.specs.Steps.{step-by, Either, reading-holds}
 use Rattle.reading.specs.Offsets.{offset-of, After, CameFrom}
-use Rattle.phd.specs.Phd.{in-turn, empty, put, slot, tagged, formed, known-class, shape, there, row, linked, fields, record-of, from-tag, Before, Item, over, item, entry, header, State, Result, Next, phd, capacity, go, halt, reading}
+use Rattle.phd.specs.Phd.{in-turn, put, slot, tagged, formed, known-class, shape, there, row, linked, fields, record-of, from-tag, Before, Item, over, item, entry, header, State, Result, Next, phd, capacity, go, halt, reading}
 use Rattle.phd.specs.ClassCache.{filled, slot-in-turn}
 use Rattle.phd.specs.Origins.{at-place, entry-at}
 use Rattle.phd.specs.Shapes.{Word}

@@ -76,7 +76,7 @@ module _ (h : Facts) (names refs rows out : List ℕ) (a : Answer) (out′ : Lis
   -- Demand 3, second part: any first m of the bytes written.
   pub cut-read : (m : ℕ) → m ≤ a .place → AfterRead (take m out′) rows₀ refs₀ b rows′ refs′ → CutRead h names rs (a .place) m out′ b rows′ refs′
   cut-read m l r =
-      let d = first-bytes m l in
+      let d = first-bytes m (omega (arith, l)) in
       let s = handed-seen h names refs (rows-of rows) (length out) m rows₀ refs₀ written p q in
       rw (r .is, r .row-table, r .ref-table, d)
       (record {

@@ -23,7 +23,7 @@ use Rattle.reading.specs.Steps.{reading-opens, reading-stops}
 use Rattle.table.specs.Rows.{Rec, recs, first-recs}
 use Rattle.phd_rows.specs.Good.{good-vm}
 use Rattle.phd_write.specs.Write.{put-header, put-records, put-dump}
-use Rattle.phd_round_trip.specs.Terms.{all-refs, within-cut, kept, stop-in, stop-at}
+use Rattle.phd_round_trip.specs.Terms.{all-refs, within-cut, kept, stop-at}
 use Rattle.phd_round_trip.specs.Within.{AllGood, within-none, records-long, records-same, stop-same, within-same, all-same}
 use Rattle.phd_round_trip.specs.HeaderBack.{written-facts, header-back}
 use Rattle.phd_round_trip.specs.Handed.{rows-back, length-rows, Coming, body}
