@@ -158,6 +158,17 @@ record FormGood (top : ℕ) (s : List ℕ) (r : Row) : Type 0 where
   pub kind : good-kind (length s) r ≡ true
   pub name : within 0x21 0x7E (name-of s r) ≡ true
 
+module _ (top : ℕ) (s : List ℕ) (r : Row) where
+  object-form : r .kind ≡ 2 → r .size < 1 → r .len ≡ 0 → (r .place ≡ 0) × (r .namelen ≡ 0) → r .prim ≡ 0 → r .word ≤ top → r .count < 2 ^ 31 → FormGood top s r
+  unfolding name-of
+  object-form k z l n p w c =
+      record { word = w; few = c; kind = object-good (length s) r k (omega arith) l n p; name = no-bytes s (r .place) (r .namelen) (n .1) }
+
+  primitive-form : r .kind ≡ 4 → r .word ≡ 0 → r .count ≡ 0 → r .size < 2 ^ 32 → r .len < 2 ^ 31 → (r .place ≡ 0) × (r .namelen ≡ 0) → r .prim < 8 → FormGood top s r
+  unfolding name-of
+  primitive-form k w c z l n p =
+      record { word = omega arith; few = omega arith; kind = primitive-good (length s) r k w c z l n p; name = no-bytes s (r .place) (r .namelen) (n .1) }
+
 module _ (h : Facts) (w : Word (h .word)) (s : List ℕ) (c : Cache) (t f known index : ℕ) (r : Row) (rs : List ℕ)
     (d : known-class c t ≡ Just known) (k : known ≤ highest (h .word)) where
   abbrev top : ℕ
@@ -170,64 +181,43 @@ module _ (h : Facts) (w : Word (h .word)) (s : List ℕ) (c : Cache) (t f known 
   unfolding tagged
   no-class fm g n = known-none c t known (below-short (leb 0x80 t) _ fm g n) d
 
+  some : eqb (h .word / 8) 0 ≡ false
+  some = word-some (h .word) w
+
+  worded : r .word < 256 ^ (h .word / 8) → r .word ≤ top
+  worded = word-most (h .word) (r .word) w
+
   form-good : (fm : Form) → tagged t ≡ Begins fm → Ok fm → FormGood top s r
   unfolding shape name-of tagged
   form-good Short g o =
-      let z : r .size < 1 = o .size refl in
-      record {
-        word = omega (arith, o .wordless refl refl);
-        few = omega (arith, o .count .fixed refl);
-        kind = object-good (length s) r (o .kind) (omega arith) (o .len refl .1 refl) (o .name .none refl) (o .prim);
-        name = no-bytes s (r .place) (r .namelen) (o .name .none refl .1);
-      }
+      object-form top s r (o .kind) (o .size refl) (o .len refl .1 refl) (o .name .none refl) (o .prim) (omega (arith, o .wordless refl refl)) (omega (arith, o .count .fixed refl))
   form-good Medium g o =
-      let z : r .size < 1 = o .size refl in
-      record {
-        word = word-most (h .word) (r .word) w (o .worded (word-some (h .word) w));
-        few = omega (arith, o .count .fixed refl);
-        kind = object-good (length s) r (o .kind) (omega arith) (o .len refl .1 refl) (o .name .none refl) (o .prim);
-        name = no-bytes s (r .place) (r .namelen) (o .name .none refl .1);
-      }
+      object-form top s r (o .kind) (o .size refl) (o .len refl .1 refl) (o .name .none refl) (o .prim) (worded (o .worded some)) (omega (arith, o .count .fixed refl))
   form-good Long g o =
-      let z : r .size < 1 = o .size refl in
-      record {
-        word = word-most (h .word) (r .word) w (o .worded (word-some (h .word) w));
-        few = o .count .counted refl;
-        kind = object-good (length s) r (o .kind) (omega arith) (o .len refl .1 refl) (o .name .none refl) (o .prim);
-        name = no-bytes s (r .place) (r .namelen) (o .name .none refl .1);
-      }
+      object-form top s r (o .kind) (o .size refl) (o .len refl .1 refl) (o .name .none refl) (o .prim) (worded (o .worded some)) (o .count .counted refl)
   form-good Class g o =
       let n = o .name .some refl in
+      let t6 = class-tag (leb 0x80 t) (leb 0x40 t) (leb 0x20 t) (eqb t 4) (eqb t 6) (eqb t 7) (eqb t 8) g in
       record {
-        word = word-most (h .word) (r .word) w (o .superclass refl (word-some (h .word) w));
+        word = worded (o .superclass refl some);
         few = o .count .counted refl;
         kind =
-            class-good (length s) r (o .kind) (λ z. class-hash h t f (class-tag (leb 0x80 t) (leb 0x40 t) (leb 0x20 t) (eqb t 4) (eqb t 6) (eqb t 7) (eqb t 8) g) (sym (o .hashkind) ∙ z)) (o .inst refl)
-            (o .len refl .1 refl) (n .enough) (n .short) (n .inside) (o .prim);
+            class-good (length s) r (o .kind) (λ z. class-hash h t f t6 (sym (o .hashkind) ∙ z)) (o .inst refl) (o .len refl .1 refl) (n .enough) (n .short)
+            (n .inside) (o .prim);
         name = n .bytes;
       }
   form-good ObjectArray g o = record {
-    word = word-most (h .word) (r .word) w (o .worded (word-some (h .word) w));
+    word = worded (o .worded some);
     few = o .count .counted refl;
     kind = array-good (length s) r (o .kind) (o .size refl) (o .long refl .0) (o .long refl .1) (o .name .none refl) (o .prim);
     name = no-bytes s (r .place) (r .namelen) (o .name .none refl .1);
   }
   form-good Primitive g o =
-      let z : r .word ≡ 0 = o .wordless refl refl ∙ no-class Primitive g (λ e. let z : _≡_ {A = ℕ} 0 1 = cc in omega arith) in
-      record {
-        word = omega arith;
-        few = omega (arith, o .count .fixed refl);
-        kind = primitive-good (length s) r (o .kind) z (o .count .fixed refl) (o .size refl) (o .len refl .0) (o .name .none refl) (omega (arith, o .prim));
-        name = no-bytes s (r .place) (r .namelen) (o .name .none refl .1);
-      }
+      let z : known ≡ 0 = no-class Primitive g (λ e. let z : _≡_ {A = ℕ} 0 1 = cc in omega arith) in
+      primitive-form top s r (o .kind) (o .wordless refl refl ∙ z) (o .count .fixed refl) (o .size refl) (o .len refl .0) (o .name .none refl) (omega (arith, o .prim))
   form-good LongPrimitive g o =
-      let z : r .word ≡ 0 = o .wordless refl refl ∙ no-class LongPrimitive g (λ e. let z : _≡_ {A = ℕ} 0 1 = cc in omega arith) in
-      record {
-        word = omega arith;
-        few = omega (arith, o .count .fixed refl);
-        kind = primitive-good (length s) r (o .kind) z (o .count .fixed refl) (o .size refl) (o .len refl .0) (o .name .none refl) (omega (arith, o .prim));
-        name = no-bytes s (r .place) (r .namelen) (o .name .none refl .1);
-      }
+      let z : known ≡ 0 = no-class LongPrimitive g (λ e. let z : _≡_ {A = ℕ} 0 1 = cc in omega arith) in
+      primitive-form top s r (o .kind) (o .wordless refl refl ∙ z) (o .count .fixed refl) (o .size refl) (o .len refl .0) (o .name .none refl) (omega (arith, o .prim))
 
   -- The row is good, with its references after those before it, and so is its class word.
   pub row-good : (fm : Form) (refs : List ℕ) → tagged t ≡ Begins fm → index ≡ length refs → Ok fm
