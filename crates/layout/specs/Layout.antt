@@ -148,10 +148,6 @@ then-assoc (refuse r) f g = refl
 then-assoc (here k) f g = ap here (fun-ext (λ p. then-assoc (k p) f g))
 then-assoc (bytes n k) f g = ap (bytes n) (fun-ext (λ b. then-assoc (k b) f g))
 
-pub then-yield : {A B : Type 0} (a : A) (f : A → Layout B) → yield a >>= f ≡ f a
-unfolding _>>=_
-then-yield a f = refl
-
 -- ---- the small layouts, run
 
 pub run-yield : {A : Type 0} (a : A) (s : List ℕ) (at : ℕ) → run (yield a) s at ≡ whole a at

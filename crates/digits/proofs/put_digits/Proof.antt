@@ -1,4 +1,5 @@
 -- `put_digits` meets its contract: storing the digits that are left, from the first on, is storing all of them.
+use borrow.Author.Needs.{needs}
 use mathlib.Core.Path.{_≡_, refl, sym, _∙_}
 use Prim.Native.Nat.{_+_, _≤_}
 use native.Mathlib.Nat.{mod-lt}
@@ -22,25 +23,25 @@ loop-holds : tie.Need-loop-holds Inv-loop μ-loop
 loop-holds c = (omega arith, rw length-numeral at (c .before .pre .1), refl, refl)
 
 sub-i : tie.Need-sub-i Inv-loop μ-loop
-sub-i c = omega arith
+sub-i c = search needs
 
 rem-glyph : tie.Need-rem-glyph Inv-loop μ-loop
-rem-glyph c = omega arith
+rem-glyph c = search needs
 
 glyph-requires : tie.Need-glyph-requires Inv-loop μ-loop
 glyph-requires c κs = omega (arith, mod-lt (c .before .loop .rest) {m = c .before .before .before .args .base} (omega arith))
 
 add-out : tie.Need-add-out Inv-loop μ-loop
-add-out c = omega arith
+add-out c = search needs
 
 slice-write-out : tie.Need-slice-write-out Inv-loop μ-loop
-slice-write-out c = omega arith
+slice-write-out c = search needs
 
 div-rest : tie.Need-div-rest Inv-loop μ-loop
-div-rest c = omega arith
+div-rest c = search needs
 
 loop-less : tie.Need-loop-less Inv-loop μ-loop
-loop-less c = omega arith
+loop-less c = search needs
 
 loop-again : tie.Need-loop-again Inv-loop μ-loop
 loop-again c =
@@ -52,10 +53,10 @@ loop-again c =
     )
 
 add-result : tie.Need-add-result Inv-loop μ-loop
-add-result c = omega arith
+add-result c = search needs
 
 same-length : tie.Need-same-length Inv-loop μ-loop
-same-length c = omega arith
+same-length c = search needs
 
 returns : tie.Need-returns Inv-loop μ-loop
 unfolding numeral

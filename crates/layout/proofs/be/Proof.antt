@@ -25,10 +25,10 @@ mul-sum : tie.Need-mul-sum Inv-loop μ-loop
 mul-sum c = omega (arith, seven _ (c .before .loop .inv .1) (omega arith))
 
 add-wide : tie.Need-add-wide Inv-loop μ-loop
-add-wide c = omega arith
+add-wide c = search needs
 
 shared-slice-read-wide : tie.Need-shared-slice-read-wide Inv-loop μ-loop
-shared-slice-read-wide c = omega arith
+shared-slice-read-wide c = search needs
 
 wide-requires : tie.Need-wide-requires Inv-loop μ-loop
 wide-requires c κs = search needs
@@ -43,10 +43,10 @@ add-sum : tie.Need-add-sum Inv-loop μ-loop
 add-sum c = omega (arith, digit c, seven _ (c .before .before .before .loop .inv .1) (omega arith))
 
 add-i : tie.Need-add-i Inv-loop μ-loop
-add-i c = omega arith
+add-i c = search needs
 
 loop-less : tie.Need-loop-less Inv-loop μ-loop
-loop-less c = omega arith
+loop-less c = search needs
 
 loop-again : tie.Need-loop-again Inv-loop μ-loop
 loop-again c =

@@ -1,6 +1,6 @@
 -- `count_all` meets its contract: what is counted, and what the rows that are left add to it, is the sum over all.
+use borrow.Author.Needs.{needs}
 use Prim.Native.Nat.{_-_}
-use native.Mathlib.Omega.{arith}
 use Rattle.table.specs.Table.{row-count}
 use Rattle.phd_counts.specs.Counting.{Counting, counting-begins, counting-next, counting-small, counting-ends}
 use Rattle.phd_counts.proofs.count_all.Statement.{statement}
@@ -17,7 +17,7 @@ loop-holds c = counting-begins _
 
 row-at-requires : tie.Need-row-at-requires Inv-loop μ-loop
 unfolding row-count
-row-at-requires c κs = omega arith
+row-at-requires c κs = search needs
 
 counted-requires : tie.Need-counted-requires Inv-loop μ-loop
 unfolding row-count
@@ -27,10 +27,10 @@ counted-requires c κs =
     counting-small _ (l .loop .i) _ (l .loop .inv) _ (c .before .loop-test .taken) (c .row-at .ensures) (d .pre)
 
 add-i : tie.Need-add-i Inv-loop μ-loop
-add-i c = omega arith
+add-i c = search needs
 
 loop-less : tie.Need-loop-less Inv-loop μ-loop
-loop-less c = omega arith
+loop-less c = search needs
 
 loop-again : tie.Need-loop-again Inv-loop μ-loop
 unfolding row-count

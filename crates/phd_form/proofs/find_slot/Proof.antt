@@ -30,7 +30,11 @@ choice-requires-4 c κs = search needs
 
 returns : tie.Need-returns
 unfolding slot-of
-returns c = cc
+returns c =
+    let one = c .before .before in
+    let two = one .before .before in
+    let three = two .before .before in
+    rw (c .choice4 .ensures, one .choice3 .ensures, two .choice2 .ensures, three .choice .ensures, ← c .before .holds4 .ensures, ← one .before .holds3 .ensures, ← two .before .holds2 .ensures, ← three .before .holds .ensures)
 
 pub find-slot-spec : {M : Type 1} → statement M
 find-slot-spec =

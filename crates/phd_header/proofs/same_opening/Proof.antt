@@ -20,10 +20,10 @@ loop-holds : tie.Need-loop-holds Inv-loop μ-loop
 loop-holds c = (omega arith, simp add-zero)
 
 add-if1 : tie.Need-add-if1 Inv-loop μ-loop
-add-if1 c = omega arith
+add-if1 c = search needs
 
 shared-slice-read-if1 : tie.Need-shared-slice-read-if1 Inv-loop μ-loop
-shared-slice-read-if1 c = omega arith
+shared-slice-read-if1 c = search needs
 
 opening-byte-requires : tie.Need-opening-byte-requires Inv-loop μ-loop
 opening-byte-requires c κs = search needs
@@ -39,10 +39,10 @@ returns c =
     sym (sym (l .loop .inv .1) ∙ same-off (a .s .now) opening (a .at) 18 (l .loop .i) (omega arith) (omega arith) eighteen (λ e. c .if1 .taken (e ∙ sym (c .before .opening-byte .ensures))))
 
 add-i : tie.Need-add-i Inv-loop μ-loop
-add-i c = omega arith
+add-i c = search needs
 
 loop-less : tie.Need-loop-less Inv-loop μ-loop
-loop-less c = omega arith
+loop-less c = search needs
 
 loop-again : tie.Need-loop-again Inv-loop μ-loop
 loop-again c =

@@ -60,7 +60,7 @@ same-length : tie.Need-same-length
 same-length c = search needs
 
 returns : tie.Need-returns
-returns c = c .before .before .put-lean .ensures
+returns c = search needs
 
 put-tag-requires : tie.Need-put-tag-requires
 put-tag-requires c κs = fits (none (c .before .before .before .before .before .before .before))

@@ -1,5 +1,5 @@
 -- `find_bad` meets its contract: what is left of the rows, of a row's references and of its name, from here, says what the whole says.
-use mathlib.Core.Path.{_≡_, refl, sym, ap, _∙_}
+use mathlib.Core.Path.{_≡_, sym, ap, _∙_}
 use mathlib.Core.Bool.{true, false}
 use mathlib.Core.Logic.{⊎-elim}
 use Prim.Native.Nat.{_+_, _-_, _≤_, _<_}
@@ -10,6 +10,7 @@ use borrow.Author.Tests.{not-true, not-false}
 use Rattle.layout.specs.Numbers.{within}
 use Rattle.table.specs.Rows.{row-at, refs-of, name-of, rows-of, rows-left}
 use Rattle.table.specs.Table.{row-count}
+use Rattle.table.specs.declared.Search.the-variants.{At}
 use Rattle.phd_rows.specs.Good.{good-numbers, good-refs, good-row, first-bad, bad-of}
 use Rattle.phd_rows.specs.Kept.{Lent, first-by, lent-by}
 use Rattle.phd_rows.proofs.Laws.{fails-at, ref-bad, ref-good, byte-bad, byte-good, bad-here, bad-later, bad-none, row-good, whole-refs, whole-name}
@@ -60,11 +61,11 @@ highest-of-requires : tie.Need-highest-of-requires Inv-loop μ-loop Inv-loop2 μ
 highest-of-requires c κs = search needs
 
 rows-holds : tie.Need-rows-holds Inv-loop μ-loop Inv-loop2 μ-loop2 Inv-rows μ-rows
-rows-holds c = (omega arith, refl)
+rows-holds c = search needs
 
 row-at-requires : tie.Need-row-at-requires Inv-loop μ-loop Inv-loop2 μ-loop2 Inv-rows μ-rows
 unfolding row-count
-row-at-requires c κs = omega arith
+row-at-requires c κs = search needs
 
 all-requires : tie.Need-all-requires Inv-loop μ-loop Inv-loop2 μ-loop2 Inv-rows μ-rows
 all-requires c κs = search needs
@@ -77,19 +78,19 @@ loop-holds c =
     (omega arith, omega (arith, lent (c .before)), ap (good-refs _) (whole-refs _ (c .before .before .before .row-at .result)))
 
 mul-reference : tie.Need-mul-reference Inv-loop μ-loop Inv-loop2 μ-loop2 Inv-rows μ-rows
-mul-reference c = omega arith
+mul-reference c = search needs
 
 shared-slice-read-reference : tie.Need-shared-slice-read-reference Inv-loop μ-loop Inv-loop2 μ-loop2 Inv-rows μ-rows
-shared-slice-read-reference c = omega arith
+shared-slice-read-reference c = search needs
 
 reference-requires : tie.Need-reference-requires Inv-loop μ-loop Inv-loop2 μ-loop2 Inv-rows μ-rows
 reference-requires c κs = search needs
 
 add-j : tie.Need-add-j Inv-loop μ-loop Inv-loop2 μ-loop2 Inv-rows μ-rows
-add-j c = omega arith
+add-j c = search needs
 
 loop-less : tie.Need-loop-less Inv-loop μ-loop Inv-loop2 μ-loop2 Inv-rows μ-rows
-loop-less c = omega arith
+loop-less c = search needs
 
 loop-again : tie.Need-loop-again Inv-loop μ-loop Inv-loop2 μ-loop2 Inv-rows μ-rows
 loop-again c =
@@ -106,16 +107,16 @@ loop2-holds c =
     (omega arith, omega (arith, lent d), ap (within 0x21 0x7E) (whole-name _ (d .before .before .row-at .result)))
 
 shared-slice-read-if3 : tie.Need-shared-slice-read-if3 Inv-loop μ-loop Inv-loop2 μ-loop2 Inv-rows μ-rows
-shared-slice-read-if3 c = omega arith
+shared-slice-read-if3 c = search needs
 
 shared-slice-read-if3-2 : tie.Need-shared-slice-read-if3-2 Inv-loop μ-loop Inv-loop2 μ-loop2 Inv-rows μ-rows
-shared-slice-read-if3-2 c = omega arith
+shared-slice-read-if3-2 c = search needs
 
 add-k : tie.Need-add-k Inv-loop μ-loop Inv-loop2 μ-loop2 Inv-rows μ-rows
 add-k c = let d = c .before .before .before .before .before .before .before .before .before in omega (arith, start (head d) .good .1 .0)
 
 loop2-less : tie.Need-loop2-less Inv-loop μ-loop Inv-loop2 μ-loop2 Inv-rows μ-rows
-loop2-less c = omega arith
+loop2-less c = search needs
 
 loop2-again : tie.Need-loop2-again Inv-loop μ-loop Inv-loop2 μ-loop2 Inv-rows μ-rows
 loop2-again c =
@@ -136,7 +137,7 @@ add-i : tie.Need-add-i Inv-loop μ-loop Inv-loop2 μ-loop2 Inv-rows μ-rows
 add-i c = omega (arith, start (head (good-from c)) .good .1 .1 .1 .0)
 
 rows-less : tie.Need-rows-less Inv-loop μ-loop Inv-loop2 μ-loop2 Inv-rows μ-rows
-rows-less c = omega arith
+rows-less c = search needs
 
 -- a row that was passed is good
 passed : (c : tie.After-struct-known3 Inv-loop μ-loop Inv-loop2 μ-loop2 Inv-rows μ-rows)
@@ -183,12 +184,15 @@ left-at c more =
     (λ o. rw (← o .1 .ensures) (fails-at _ 2 (sym (o .8 .inv .2) ∙ byte-bad _ (o .8 .k) _ (omega arith) (omega arith) (o .12 .taken))))))
     (c .rows-test .came)
 
+-- the row returned is the one at which the loop was left
 returns : tie.Need-returns Inv-loop μ-loop Inv-loop2 μ-loop2 Inv-rows μ-rows
 unfolding row-count
 returns c =
     let w = c .before .before in
     let a = start w .args in
-    sym (bad-here (a .facts) (a .names .now) (a .refs .now) (a .rows .now) (w .rows .i) (w .rows .index) (omega arith) (left-at (c .before) (omega arith))) ∙ w .rows .inv .1
+    ap At (omega arith)
+    ∙ sym (bad-here (a .facts) (a .names .now) (a .refs .now) (a .rows .now) (w .rows .i) (w .rows .index) (omega arith) (left-at (c .before) (omega arith)))
+    ∙ w .rows .inv .1
 
 returns-2 : tie.Need-returns-2 Inv-loop μ-loop Inv-loop2 μ-loop2 Inv-rows μ-rows
 unfolding row-count

@@ -13,15 +13,15 @@ write-size-requires : tie.Need-write-size-requires
 write-size-requires c κs = search needs
 
 returns : tie.Need-returns
-returns c = refused-keeps _ _ _ _ (asked-split _ _ _ _ _ _ (c .before .before .write-size .ensures) .refusal (c .if1 .taken))
+returns c = refused-keeps _ _ _ _ (asked-split _ _ _ _ _ _ (c .before .before .write-size .ensures) .refusal (omega arith))
 
 returns-2 : tie.Need-returns-2
-returns-2 c = refused-keeps _ _ 17 0 (asked-split _ _ _ _ _ _ (c .before .before .before .before .write-size .ensures) .too-small (c .before .before .if1 .left) (omega arith))
+returns-2 c = refused-keeps _ _ 17 0 (asked-split _ _ _ _ _ _ (c .before .before .before .before .write-size .ensures) .too-small (omega arith) (omega arith))
 
 -- the dump is put only where the output holds it: there the writing answers 0
 writes : (c : tie.Else2) → let a = c .before .before .before .before .before .before .before .before .before .args in
     writing (a .header) (a .names .now) (a .refs .now) (a .rows .now) (length (a .out .now)) .answer .reply ≡ 0
-writes c = asked-split _ _ _ _ _ _ (c .before .before .before .before .write-size .ensures) .done .1 (c .before .before .if1 .left, omega arith)
+writes c = asked-split _ _ _ _ _ _ (c .before .before .before .before .write-size .ensures) .done .1 (omega arith, omega arith)
 
 put-requires : tie.Need-put-requires
 put-requires c κs = let s = said-0 _ _ _ _ _ (writes (c .before)) in (s .0, omega (arith, s .1))

@@ -1,6 +1,6 @@
 -- `read_records` meets its contract: what is left, from here, is read as the whole.
 use borrow.Author.Needs.{needs}
-use mathlib.Core.Path.{_≡_, ap, subst, _∙_}
+use mathlib.Core.Path.{_≡_, subst}
 use Prim.Native.Nat.{_-_, _≤_}
 use native.Mathlib.Omega.{arith}
 use lib.ListN.{length}
@@ -40,9 +40,7 @@ loop-holds c =
     (begins toy lawful (a .rows .now) (a .refs .now) (omega arith), omega arith)
 
 step-requires : tie.Need-step-requires Inv-loop μ-loop
-step-requires c κs =
-    let i = c .before .before .loop .inv in
-    record { inside = i .0 .fits; few = i .1 }
+step-requires c κs = search needs
 
 enum-told : tie.Need-enum-told Inv-loop μ-loop
 enum-told c = search needs
@@ -65,14 +63,10 @@ enum-known-how : tie.Need-enum-known-how Inv-loop μ-loop
 enum-known-how c = search needs
 
 same-length : tie.Need-same-length Inv-loop μ-loop
-same-length c =
-    let stepped = c .before .before .before .before .before .before .before .before in
-    ap length (did stepped (End _ _ _) (c .before .how .given .1) .rows-same) ∙ turn stepped .loop .inv .0 .rows-long
+same-length c = search needs
 
 same-length-2 : tie.Need-same-length-2 Inv-loop μ-loop
-same-length-2 c =
-    let stepped = c .before .before .before .before .before .before .before .before in
-    ap length (did stepped (End _ _ _) (c .before .how .given .1) .refs-same) ∙ turn stepped .loop .inv .0 .refs-long
+same-length-2 c = search needs
 
 returns : tie.Need-returns Inv-loop μ-loop
 returns c =

@@ -1,6 +1,6 @@
 -- `read_records` meets its contract: what is left, from here, is read as the whole.
 use borrow.Author.Needs.{needs}
-use mathlib.Core.Path.{_≡_, ap, subst, _∙_}
+use mathlib.Core.Path.{_≡_, subst}
 use Prim.Native.Nat.{ℕ, _-_}
 use native.Mathlib.Omega.{arith}
 use lib.ListN.{length}
@@ -51,7 +51,7 @@ loop-holds c =
     rw (c .new .ensures) (begins phd lawful (a .rows .now) (a .refs .now) (omega arith))
 
 step-requires : tie.Need-step-requires Inv-loop μ-loop
-step-requires c κs = (c .before .before .loop .inv .fits, c .before .before .before .before .before .before .before .pre .2)
+step-requires c κs = search needs
 
 enum-told : tie.Need-enum-told Inv-loop μ-loop
 enum-told c = search needs
@@ -73,16 +73,10 @@ enum-known-how : tie.Need-enum-known-how Inv-loop μ-loop
 enum-known-how c = search needs
 
 same-length : tie.Need-same-length Inv-loop μ-loop
-same-length c =
-    let d = c .before .before .before .before .before .before .before .before in
-    let l = turn d in
-    ap length (stayed d _ _ _ (c .before .how .given .1) .rows-same) ∙ l .loop .inv .rows-long
+same-length c = search needs
 
 same-length-2 : tie.Need-same-length-2 Inv-loop μ-loop
-same-length-2 c =
-    let d = c .before .before .before .before .before .before .before .before in
-    let l = turn d in
-    ap length (stayed d _ _ _ (c .before .how .given .1) .refs-same) ∙ l .loop .inv .refs-long
+same-length-2 c = search needs
 
 returns : tie.Need-returns Inv-loop μ-loop
 returns c =

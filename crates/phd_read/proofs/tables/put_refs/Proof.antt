@@ -1,6 +1,6 @@
 -- `put_refs` meets its contract: storing what is left, from here, is storing all of them.
 use borrow.Author.Needs.{needs}
-use mathlib.Core.Path.{_≡_, refl, sym, ap, _∙_}
+use mathlib.Core.Path.{_≡_, sym, ap, _∙_}
 use mathlib.Core.Bool.{true}
 use Prim.Native.Nat.{_+_, _*_, _≤_, _<_}
 use native.Mathlib.Omega.{arith}
@@ -38,7 +38,7 @@ module _ (c : tie.Then1 Inv-loop μ-loop) where
   bytes-few = few _ _ (omega arith) (quick .1)
 
 clear-requires : tie.Need-clear-requires Inv-loop μ-loop
-clear-requires c κs = tt
+clear-requires c κs = search needs
 
 mul-if2 : tie.Need-mul-if2 Inv-loop μ-loop
 mul-if2 c = omega (arith, bytes-few c)
@@ -47,7 +47,7 @@ add-if2 : tie.Need-add-if2 Inv-loop μ-loop
 add-if2 c = omega (arith, bytes-few c)
 
 sub-if2 : tie.Need-sub-if2 Inv-loop μ-loop
-sub-if2 c = omega arith
+sub-if2 c = search needs
 
 put-clear-requires : tie.Need-put-clear-requires Inv-loop μ-loop
 put-clear-requires c κs =
@@ -62,10 +62,10 @@ returns : tie.Need-returns Inv-loop μ-loop
 returns c = search needs
 
 loop-holds : tie.Need-loop-holds Inv-loop μ-loop
-loop-holds c = (omega arith, omega arith, refl, c .before .before .before .before .pre .1, refl)
+loop-holds c = search needs
 
 reference-requires : tie.Need-reference-requires Inv-loop μ-loop
-reference-requires c κs = omega arith
+reference-requires c κs = search needs
 
 enum-known-a : tie.Need-enum-known-a Inv-loop μ-loop
 enum-known-a c = search needs

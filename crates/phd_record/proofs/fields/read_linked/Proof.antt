@@ -62,9 +62,6 @@ module _ (c : tie.After-t) where
       run (tail (a .sh .size) (a .sh .truelen) (count-of (links-of c) .k .given .0 .0)) (a .s .now) (links-of c .e .given .0 .0) ≡ whole (c .t .given .0 .0) (c .t .given .0 .1 .0)
   got-tail = sym (c .before .before .read-tail .ensures) ∙ ap tail-outcome (c .t .given .1)
 
-  in-tail : let a = start (count-of (links-of c)) .args in (c .t .given .0 .1 .0) ≤ length (a .s .now)
-  in-tail = let a = start (count-of (links-of c)) .args in inside (tail (a .sh .size) (a .sh .truelen) (count-of (links-of c) .k .given .0 .0)) (a .s .now) (links-of c .e .given .0 .0) _ _ (in-links (links-of c)) got-tail
-
 link-count-requires : tie.Need-link-count-requires
 link-count-requires c κs = search needs
 

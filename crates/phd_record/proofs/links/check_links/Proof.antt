@@ -1,6 +1,6 @@
 -- `check_links` meets its contract: what is left, from here, gives the answer of the whole.
 use borrow.Author.Needs.{needs}
-use mathlib.Core.Path.{_≡_, refl, sym, ap, _∙_}
+use mathlib.Core.Path.{_≡_, sym, ap, _∙_}
 use Prim.Native.Nat.{_-_, _≤_}
 use native.Mathlib.Omega.{arith}
 use lib.ListN.{length}
@@ -31,10 +31,10 @@ module _ (c : tie.After-reference Inv-loop μ-loop) where
       sym (l .loop .inv .1) ∙ turn (a .w) (a .base) (a .top) (a .s .now) (l .loop .here) (l .loop .left) (c .reference .result) (c .reference .ensures) (omega arith)
 
 loop-holds : tie.Need-loop-holds Inv-loop μ-loop
-loop-holds c = (omega arith, refl)
+loop-holds c = search needs
 
 reference-requires : tie.Need-reference-requires Inv-loop μ-loop
-reference-requires c κs = omega arith
+reference-requires c κs = search needs
 
 enum-known-next : tie.Need-enum-known-next Inv-loop μ-loop
 enum-known-next c = search needs
@@ -46,10 +46,10 @@ returns : tie.Need-returns Inv-loop μ-loop
 returns c = rw (whole-by (c .before .before .before), c .before .stop .given .1)
 
 sub-left : tie.Need-sub-left Inv-loop μ-loop
-sub-left c = omega arith
+sub-left c = search needs
 
 loop-less : tie.Need-loop-less Inv-loop μ-loop
-loop-less c = omega arith
+loop-less c = search needs
 
 loop-again : tie.Need-loop-again Inv-loop μ-loop
 loop-again c =

@@ -43,9 +43,6 @@ module _ (c : tie.After-len) where
       run (count (a .sh .len)) (a .s .now) (word-of c .c .given .0 .1 .0) ≡ whole (c .len .given .0 .0) (c .len .given .0 .1 .0)
   got-len = sym (c .before .before .count .ensures) ∙ ap outcome (c .len .given .1)
 
-  in-len : let a = start (address-of (word-of c)) .args in (c .len .given .0 .1 .0) ≤ length (a .s .now)
-  in-len = let a = start (address-of (word-of c)) .args in inside (count (a .sh .len)) (a .s .now) (word-of c .c .given .0 .1 .0) _ _ (in-word (word-of c)) got-len
-
 address-requires : tie.Need-address-requires
 address-requires c κs = search needs
 

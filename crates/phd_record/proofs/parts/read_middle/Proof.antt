@@ -43,9 +43,6 @@ module _ (c : tie.After-superclass) where
       run (field (a .sh .superclass)) (a .s .now) (hash-of c .h .given .0 .1 .0) ≡ whole (c .superclass .given .0 .0) (c .superclass .given .0 .1 .0)
   got-superclass = sym (c .before .before .field2 .ensures .0) ∙ ap outcome (c .superclass .given .1)
 
-  in-superclass : let a = start (inst-of (hash-of c)) .args in (c .superclass .given .0 .1 .0) ≤ length (a .s .now)
-  in-superclass = let a = start (inst-of (hash-of c)) .args in inside (field (a .sh .superclass)) (a .s .now) (hash-of c .h .given .0 .1 .0) _ _ (in-hash (hash-of c)) got-superclass
-
 count-requires : tie.Need-count-requires
 count-requires c κs = search needs
 

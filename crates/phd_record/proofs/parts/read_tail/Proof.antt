@@ -31,9 +31,6 @@ module _ (c : tie.After-t) where
       run (true-length (a .truelen) (a .count)) (a .s .now) (size-of c .v .given .0 .1 .0) ≡ whole (c .t .given .0 .0) (c .t .given .0 .1 .0)
   got-truelen = sym (c .before .before .true-length .ensures) ∙ ap outcome (c .t .given .1)
 
-  in-truelen : let a = start (size-of c) .args in (c .t .given .0 .1 .0) ≤ length (a .s .now)
-  in-truelen = let a = start (size-of c) .args in inside (true-length (a .truelen) (a .count)) (a .s .now) (size-of c .v .given .0 .1 .0) _ _ (in-size (size-of c)) got-truelen
-
 field-requires : tie.Need-field-requires
 field-requires c κs = search needs
 

@@ -80,7 +80,7 @@ put-requires : tie.Need-put-requires Inv-loop μ-loop
 put-requires c κs = putting-end-room _ _ _ _ _ _ _ _ _ _ _ (c .before .before .loop .inv) (over (c .before))
 
 same-length : tie.Need-same-length Inv-loop μ-loop
-same-length c = let l = c .before .before .before .before .before .loop .inv .rest .long in omega arith
+same-length c = search needs
 
 returns : tie.Need-returns Inv-loop μ-loop
 returns c = putting-ends _ _ _ _ _ _ _ _ _ _ _ (c .before .before .before .before .before .loop .inv) (over (c .before .before .before .before)) _ _ (c .before .before .put .ensures)
