@@ -1,4 +1,5 @@
 -- `class_at` meets its contract: the rows from here on say what all rows say.
+use borrow.Author.Needs.{needs}
 use mathlib.Core.Path.{sym, _∙_}
 use Prim.Native.Nat.{_-_}
 use native.Mathlib.Omega.{arith}
@@ -20,7 +21,7 @@ loop-holds c = search-begins _ _
 
 row-at-requires : tie.Need-row-at-requires Inv-loop μ-loop
 unfolding row-count
-row-at-requires c κs = omega arith
+row-at-requires c κs = search needs
 
 returns : tie.Need-returns Inv-loop μ-loop
 unfolding row-count
@@ -31,11 +32,11 @@ returns c =
 
 add-i : tie.Need-add-i Inv-loop μ-loop
 unfolding row-count
-add-i c = omega arith
+add-i c = search needs
 
 loop-less : tie.Need-loop-less Inv-loop μ-loop
 unfolding row-count
-loop-less c = omega arith
+loop-less c = search needs
 
 loop-again : tie.Need-loop-again Inv-loop μ-loop
 unfolding row-count

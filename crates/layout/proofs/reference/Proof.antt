@@ -2,6 +2,7 @@
 use borrow.Author.Needs.{needs}
 use borrow.Author.Tests.{eq-eqb, ne-eqb}
 use mathlib.Core.Path.{_≡_, sym, ap, _∙_}
+use native.Mathlib.Omega.{arith}
 use Rattle.layout.specs.Layout.{whole, run, run-then, run-check, run-yield}
 use Rattle.layout.specs.Fields.{outcome, address, reference}
 use Rattle.layout.proofs.reference.Statement.{statement}
@@ -19,7 +20,9 @@ enum-known-a c = search needs
 
 returns : tie.Need-returns
 unfolding reference
-returns c = rw (run-then, got (c .before .before), run-then, run-check, eq-eqb _ _ (c .if1 .taken))
+returns c =
+    let z : c .before .before .a .given .0 .0 ≡ 0 = omega arith in
+    rw (run-then, got (c .before .before), run-then, run-check, eq-eqb _ _ z)
 
 enum-known-w : tie.Need-enum-known-w
 enum-known-w c = search needs

@@ -35,7 +35,7 @@ put-requires c κs =
     (p .0, (p .1 .0, (row-short _ _ _ (inside d) e _ (p .1 .0), (row-kind _ _ _ (inside d) e _ (p .1 .0), (row-classed _ _ _ (inside d) e (p .1 .1 .0), (row-linked _ _ _ (inside d) e _ (p .1 .1 .1 .0), putting-room _ _ _ _ _ _ _ _ _ _ (d .before .loop .inv) (inside d) e))))))
 
 add-i : tie.Need-add-i Inv-loop μ-loop
-add-i c = omega arith
+add-i c = search needs
 
 loop-less : tie.Need-loop-less Inv-loop μ-loop
 loop-less c = search needs

@@ -65,7 +65,7 @@ returns c =
     rw (s .1) (sizing-stops _ _ _ _ _ _ _ (d .before .loop .inv) (inside d) (r .row-at .ensures) (s .0))
 
 add-i : tie.Need-add-i Inv-loop μ-loop
-add-i c = omega arith
+add-i c = search needs
 
 loop-less : tie.Need-loop-less Inv-loop μ-loop
 loop-less c = search needs
