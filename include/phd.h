@@ -35,8 +35,8 @@ enum phd_number {
     PHD_ROW
 };
 
-/* What a function says in `facts`, by its place there. Every call fills all 16 numbers, a refused one too: they are how it answers. The
- * rest is 0; after any function but phd_read that is all but the first two. */
+/* What a function says in `facts`, by its place there. Every call fills all 16 numbers, a refused one too: they are how it
+ * answers. The rest is 0; after any function but phd_read that is all but the first two. */
 enum phd_fact {
     PHD_REPLY = 0,
     PHD_PLACE = 1,
@@ -103,9 +103,11 @@ uint64_t phd_text_size(const uint64_t header[PHD_HEADER], const uint64_t *rows, 
                        size_t refs_len, const uint8_t *names, size_t names_len, uint64_t facts[16]);
 
 /* Writes the whole rows of a table and their references as a dump, or as classic text, to the start of `out`. Names are taken
- * from `names`. Only reply 0 changes `out`, and behind what was written it stays as it was: a refused call changes nothing that it is lent
- * but `facts`. What phd_read filled passes every check, with facts[4] to facts[9] as the header and the dump as the names, if it
- * read the header: then only 17 is left, and of a text 18. No size need be asked before. */
+ * from `names`. Only reply 0 changes `out`, and after what was written it stays as it was: a refused call changes nothing that it
+ * is lent but `facts`. No size need be asked before.
+ *
+ * What phd_read filled passes every check, if it read the header: facts[4] to facts[9] as `header`, PHD_ROW * facts[2] numbers of
+ * its rows, facts[3] of its references, and the dump as `names`. Only 17 can refuse it then, and of a text 18. */
 uint64_t phd_write(const uint64_t header[PHD_HEADER], const uint64_t *rows, size_t rows_len, const uint64_t *refs,
                    size_t refs_len, const uint8_t *names, size_t names_len, uint8_t *out, size_t out_len, uint64_t facts[16]);
 uint64_t phd_text(const uint64_t header[PHD_HEADER], const uint64_t *rows, size_t rows_len, const uint64_t *refs,

@@ -1,5 +1,5 @@
 -- What holds of the values that are read from bytes, each below 256: a field's value is below the power of its width, an address that is
--- read from one in fours is in fours, and a string stands within the dump.
+-- read from one in fours is in fours, and a string lies within the dump.
 -- A reader must believe `Bytes` and `StringAt`.
 use mathlib.Core.Path.{_≡_, refl, sym, _∙_}
 use Prim.Native.Nat.{ℕ, zero, suc, _+_, _-_, _*_, _%_, _^_, _≤_, _<_}
@@ -92,7 +92,7 @@ reference-fours n base highest z = gives-then _ _ _ (gives-fours n base highest 
 
 -- ---- strings
 
--- a string of bytes from low to 0x7E that stands in the dump s, `least` of them at least
+-- a string of bytes from low to 0x7E that lies in the dump s, `least` of them at least
 pub record StringAt (s : List ℕ) (low least : ℕ) (t : Text) : Type 0 where
   pub is-there : t .there ≡ true
   pub enough : least ≤ t .len

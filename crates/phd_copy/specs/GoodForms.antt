@@ -34,9 +34,9 @@ place-good : (top : ℕ) (r : Row) → r .address % 4 ≡ 0 → r .address ≤ t
 unfolding good-place every
 place-good top r a b c = rw (eq-eqb _ _ a, le-leb _ _ b, le-leb _ _ c)
 
-pub span-good : (index lent : ℕ) (r : Row) → r .first ≡ index → r .first + r .count ≤ lent → r .count < 2 ^ 31 → good-span index lent r ≡ true
+pub span-good : (index given : ℕ) (r : Row) → r .first ≡ index → r .first + r .count ≤ given → r .count < 2 ^ 31 → good-span index given r ≡ true
 unfolding good-span every
-span-good index lent r a b c = rw (eq-eqb _ _ a, le-leb _ _ b, lt-ltb _ _ c)
+span-good index given r a b c = rw (eq-eqb _ _ a, le-leb _ _ b, lt-ltb _ _ c)
 
 hash-good : (hashed : Bool) (r : Row) → (hashed ≡ true → r .hashkind ≡ 3) → (hashed ≡ false → r .hashkind < 3) → r .hash < 256 ^ hash-bytes (r .hashkind)
     → good-hash hashed r ≡ true
@@ -48,27 +48,27 @@ unnamed-good : (r : Row) → (r .place ≡ 0) × (r .namelen ≡ 0) → no-name 
 unfolding no-name
 unnamed-good r e = rw (eq-eqb _ _ (e .0), eq-eqb _ _ (e .1))
 
-class-good : (lent : ℕ) (r : Row) → r .kind ≡ 1 → (r .hashkind ≡ 1 → ⊥) → r .size < 2 ^ 31 → r .len ≡ 0 → 1 ≤ r .namelen → r .namelen < 65536
-    → r .place + r .namelen ≤ lent → r .prim ≡ 0 → good-kind lent r ≡ true
+class-good : (given : ℕ) (r : Row) → r .kind ≡ 1 → (r .hashkind ≡ 1 → ⊥) → r .size < 2 ^ 31 → r .len ≡ 0 → 1 ≤ r .namelen → r .namelen < 65536
+    → r .place + r .namelen ≤ given → r .prim ≡ 0 → good-kind given r ≡ true
 unfolding good-kind good-class every
-class-good lent r k a b c d e f g =
+class-good given r k a b c d e f g =
     rw (eq-eqb _ _ k, ne-eqb _ _ a, lt-ltb _ _ b, eq-eqb _ _ c, le-leb _ _ d, lt-ltb _ _ e, le-leb _ _ f, eq-eqb _ _ g)
 
-object-good : (lent : ℕ) (r : Row) → r .kind ≡ 2 → r .size ≡ 0 → r .len ≡ 0 → (r .place ≡ 0) × (r .namelen ≡ 0) → r .prim ≡ 0 → good-kind lent r ≡ true
+object-good : (given : ℕ) (r : Row) → r .kind ≡ 2 → r .size ≡ 0 → r .len ≡ 0 → (r .place ≡ 0) × (r .namelen ≡ 0) → r .prim ≡ 0 → good-kind given r ≡ true
 unfolding good-kind good-object every
-object-good lent r k a b c d =
+object-good given r k a b c d =
     rw (ne-eqb (r .kind) 1 (λ z. omega arith), eq-eqb _ _ k, eq-eqb (r .size) 0 a, eq-eqb (r .len) 0 b, unnamed-good r c, eq-eqb (r .prim) 0 d)
 
-array-good : (lent : ℕ) (r : Row) → r .kind ≡ 3 → r .size < 2 ^ 32 → r .len < 2 ^ 31 → r .count ≤ r .len → (r .place ≡ 0) × (r .namelen ≡ 0) → r .prim ≡ 0
-    → good-kind lent r ≡ true
+array-good : (given : ℕ) (r : Row) → r .kind ≡ 3 → r .size < 2 ^ 32 → r .len < 2 ^ 31 → r .count ≤ r .len → (r .place ≡ 0) × (r .namelen ≡ 0) → r .prim ≡ 0
+    → good-kind given r ≡ true
 unfolding good-kind good-array every
-array-good lent r k a b c d e =
+array-good given r k a b c d e =
     rw (ne-eqb (r .kind) 1 (λ z. omega arith), ne-eqb (r .kind) 2 (λ z. omega arith), eq-eqb _ _ k, lt-ltb _ _ a, lt-ltb _ _ b, le-leb _ _ c, unnamed-good r d, eq-eqb (r .prim) 0 e)
 
-primitive-good : (lent : ℕ) (r : Row) → r .kind ≡ 4 → r .word ≡ 0 → r .count ≡ 0 → r .size < 2 ^ 32 → r .len < 2 ^ 31 → (r .place ≡ 0) × (r .namelen ≡ 0)
-    → r .prim < 8 → good-kind lent r ≡ true
+primitive-good : (given : ℕ) (r : Row) → r .kind ≡ 4 → r .word ≡ 0 → r .count ≡ 0 → r .size < 2 ^ 32 → r .len < 2 ^ 31 → (r .place ≡ 0) × (r .namelen ≡ 0)
+    → r .prim < 8 → good-kind given r ≡ true
 unfolding good-kind good-primitive every
-primitive-good lent r k a b c d e f =
+primitive-good given r k a b c d e f =
     rw (
       ne-eqb (r .kind) 1 (λ z. omega arith),
       ne-eqb (r .kind) 2 (λ z. omega arith),

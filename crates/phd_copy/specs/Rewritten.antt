@@ -1,5 +1,6 @@
 -- What a reading of any bytes gave can be written and converted: its header and its rows, with the dump as name bytes, pass every check.
--- So a copy of a damaged dump is refused for want of room alone, and its text for that or for a class that was lost.
+-- So a copy of a damaged dump is refused only if the output is too small or the size limit is exceeded, and its text only if the output is
+-- too small or a class row is missing.
 -- A reader must believe the records `Copies` and `Converts`.
 use mathlib.Core.Path.{_≡_, refl, sym, _∙_}
 use mathlib.Core.Logic.{_↔_, _⊎_, inl, inr}
@@ -46,7 +47,7 @@ use Rattle.phd_copy.specs.GoodTables.{GoodState, good-on}
 
 -- ---- the header
 
--- a VM string, if there is one, stands in the dump
+-- a VM string, if there is one, lies in the dump
 abbrev VmOk : List ℕ → Text → Type 0
 VmOk s t = t .there ≡ true → StringAt s 0x20 0 t
 
@@ -142,13 +143,13 @@ module _ (s : List ℕ) (b : Bytes s) (R F : ℕ) where
 
 -- ---- as a caller sees it
 
--- What holds of a writing of these tables: 17 for want of room alone, and no other refusal.
+-- What holds of a write of these tables: 17 if the dump is longer than the output or than the size limit, and no other refusal.
 pub record Copies (h : Facts) (names refs : List ℕ) (rows : List Row) (room : ℕ) (w : Outcome) : Type 0 where
   pub any : (w .answer .reply ≡ 0) ⊎ (w .answer .reply ≡ 17)
   pub done : (w .answer .reply ≡ 0) ↔ ((length (dump-of h names refs rows) ≤ room) × (length (dump-of h names refs rows) ≤ limit))
   pub no-room : (w .answer .reply ≡ 17) ↔ TooLong room (dump-of h names refs rows)
 
--- What holds of a text of them: 18 too, for the first row whose class is lost.
+-- What holds of a text of them: 18 too, for the first row whose class row is missing.
 pub record Converts (h : Facts) (names refs : List ℕ) (rows : List Row) (room : ℕ) (w : Outcome) : Type 0 where
   pub any : (w .answer .reply ≡ 0) ⊎ ((w .answer .reply ≡ 17) ⊎ (w .answer .reply ≡ 18))
   pub done : (w .answer .reply ≡ 0) ↔ ((first-row (is-lost rows) rows ≡ NotFound) × (length (text-of h names refs rows) ≤ room))
@@ -211,7 +212,8 @@ module _ (dump : List ℕ) (b : Bytes dump) (rows₀ refs₀ : List ℕ) (a : Re
   unfolding stored
   refs-are = rw (r .is, r .ref-table, sound dump (length rows₀) (length refs₀) .refs-counted) (take-append-seam (rd .refs) _)
 
-  right : AllRight (a .facts) dump refs (rows-of rows)
+  -- The header and the rows that it filled pass every check.
+  pub right : AllRight (a .facts) dump refs (rows-of rows)
   unfolding answer
   right = rw (rows-are, refs-are, r .is) (all-right dump b (length rows₀) (length refs₀) (rw (r .is) at n))
 

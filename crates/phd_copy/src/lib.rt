@@ -1,1 +1,16 @@
-// What a reading gave can be written: theorems alone, over the reader, the writer and the text. There is no code here.
+// What a reading gave passes every check of the writer and of the text: specs/Rewritten.antt.
+// The function below only calls `read`. It is here for its contract, by which that theorem holds of every call.
+ghost use mathlib.Core.Path.{_≡_};
+ghost use Prim.Native.Nat.{_*_};
+ghost use lib.ListN.{take};
+ghost use Rattle.table.specs.Table.{row-width};
+ghost use Rattle.table.specs.Rows.{rows-of};
+ghost use Rattle.phd_rows.specs.Good.{AllRight};
+use phd_read::Reading;
+
+// Calls `phd_read::read`. If the header was read, the header and the rows stored pass every check, with the dump as name bytes.
+pub fn read_checked(dump: &[u8], rows: &mut [u64], refs: &mut [u64]) -> Reading
+    ensures { λ a. ⌜ ((a .facts .word ≡ 0 → ⊥) → AllRight (a .facts) (now (dump .entry)) (take (a .refs) (now (refs .exit))) (rows-of (take (a .rows * row-width) (now (rows .exit))))) ⌝ }
+{
+    phd_read::read(dump, rows, refs)
+}

@@ -1,5 +1,5 @@
 -- Demands 2 and 3 as a caller sees them in memory: an output that `write` filled, and the tables that `read` then fills from its first
--- bytes. The premises are the two public contracts, word for word: `AfterWrite` (phd_write) and `AfterRead` (phd_read).
+-- bytes. The premises are what a call of each gives, by its contract: `AfterWrite` (phd_write) and `AfterRead` (phd_read).
 -- A reader must believe the records `CutRead` and `AllRead`.
 use mathlib.Core.Path.{_≡_, ap, _∙_}
 use Prim.Native.Nat.{ℕ, _*_, _≤_, _<_}

@@ -1,2 +1,29 @@
 // Theorems that speak of writing and of reading: a written dump reads back as the records that were passed in, and a cut of it as those
-// that lie whole within the cut. Specs only.
+// that lie whole within the cut (specs/).
+// The two functions below only call the public operations. They are here for their contracts, which are the premises of the theorems
+// in specs/InMemory.antt: so a call of `write` or `read` gives these, and the theorems hold of calls.
+ghost use Rattle.phd_read.specs.Answer.{AfterRead};
+ghost use Rattle.phd_write.specs.Terms.{AfterWrite};
+use phd_read::Reading;
+use phd_rows::Header;
+use table::Answer;
+
+// Calls `phd_write::write`.
+pub fn call_write(
+    header: Header,
+    rows: &[u64],
+    refs: &[u64],
+    names: &[u8],
+    out: &mut [u8],
+) -> Answer
+    ensures { λ a. ⌜ AfterWrite header (now (names .entry)) (now (refs .entry)) (now (rows .entry)) (now (out .entry)) a (now (out .exit)) ⌝ }
+{
+    phd_write::write(header, rows, refs, names, out)
+}
+
+// Calls `phd_read::read`.
+pub fn call_read(dump: &[u8], rows: &mut [u64], refs: &mut [u64]) -> Reading
+    ensures { λ a. ⌜ AfterRead (now (dump .entry)) (now (rows .entry)) (now (refs .entry)) a (now (rows .exit)) (now (refs .exit)) ⌝ }
+{
+    phd_read::read(dump, rows, refs)
+}
