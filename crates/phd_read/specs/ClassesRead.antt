@@ -74,23 +74,26 @@ Cached c t (item r rs sp k) =
 record Shaped (fm : Form) (sh : Shape) : Type 0 where
   pub cached : sh .cached ≡ puts-class (Begins fm)
   pub worded : sh .cached ≡ true → eqb (sh .word) 0 ≡ false
-  pub short : fm ≡ Short → (sh .word ≡ 0) × (sh .superclass ≡ 0)
 
 clash : {P : Type 0} → false ≡ true → P
 clash e = let z : _≡_ {A = ℕ} 0 1 = cc in absurd (omega arith)
 
 shaped-form : (w : ℕ) → eqb w 0 ≡ false → (fm : Form) (t f : ℕ) → Shaped fm (shape w fm t f)
 unfolding shape puts-class
-shaped-form w n Short t f = record { cached = refl; worded = λ e. clash e; short = λ _. (refl, refl) }
-shaped-form w n Medium t f = record { cached = refl; worded = λ _. n; short = λ e. let z : _≡_ {A = ℕ} 0 1 = cc in absurd (omega arith) }
-shaped-form w n Long t f = record { cached = refl; worded = λ _. n; short = λ e. let z : _≡_ {A = ℕ} 0 1 = cc in absurd (omega arith) }
-shaped-form w n Class t f = record { cached = refl; worded = λ e. clash e; short = λ e. let z : _≡_ {A = ℕ} 0 1 = cc in absurd (omega arith) }
-shaped-form w n ObjectArray t f = record { cached = refl; worded = λ e. clash e; short = λ e. let z : _≡_ {A = ℕ} 0 1 = cc in absurd (omega arith) }
-shaped-form w n Primitive t f = record { cached = refl; worded = λ e. clash e; short = λ e. let z : _≡_ {A = ℕ} 0 1 = cc in absurd (omega arith) }
-shaped-form w n LongPrimitive t f = record { cached = refl; worded = λ e. clash e; short = λ e. let z : _≡_ {A = ℕ} 0 1 = cc in absurd (omega arith) }
+shaped-form w n Short t f = record { cached = refl; worded = λ e. clash e }
+shaped-form w n Medium t f = record { cached = refl; worded = λ _. n }
+shaped-form w n Long t f = record { cached = refl; worded = λ _. n }
+shaped-form w n Class t f = record { cached = refl; worded = λ e. clash e }
+shaped-form w n ObjectArray t f = record { cached = refl; worded = λ e. clash e }
+shaped-form w n Primitive t f = record { cached = refl; worded = λ e. clash e }
+shaped-form w n LongPrimitive t f = record { cached = refl; worded = λ e. clash e }
 
-is-short : (fm : Form) → Begins fm ≡ Begins Short → fm ≡ Short
-is-short fm e = cc
+-- a short object has no field for a class
+short-wordless : (w : ℕ) (fm : Form) (t f : ℕ) → Begins fm ≡ Begins Short → (shape w fm t f .word ≡ 0) × (shape w fm t f .superclass ≡ 0)
+unfolding shape
+short-wordless w fm t f e =
+    let z : Short ≡ fm = cc in
+    subst (λ (x : Form). (shape w x t f .word ≡ 0) × (shape w x t f .superclass ≡ 0)) z (refl, refl)
 
 short-tag : {t : ℕ} → 0x80 ≤ t → tagged t ≡ Begins Short
 unfolding tagged
@@ -132,7 +135,7 @@ module _ (h : Facts) (before : ℕ) (c : Cache) (w : eqb (h .word / 8) 0 ≡ fal
           let g = shaped-form _ w fm t f in (
             x .0 ∙ ap (λ (b : Bool). pick b (put c (getD r 2 0)) c) (g .cached ∙ sym (ap puts-class e)),
             λ l.
-                let q = g .short (is-short fm (sym e ∙ short-tag l)) in
+                let q = short-wordless _ fm t f (sym e ∙ short-tag l) in
                 rw (x .1 (q .0) (q .1)) (rw (le-leb 0x80 t l) at d),
           )
 
