@@ -103,8 +103,8 @@ uint64_t phd_text_size(const uint64_t header[PHD_HEADER], const uint64_t *rows, 
                        size_t refs_len, const uint8_t *names, size_t names_len, uint64_t facts[16]);
 
 /* Writes the whole rows of a table and their references as a dump, or as classic text, to the start of `out`. Names are taken
- * from `names`. Only reply 0 changes `out`, and after what was written it stays as it was: a refused call changes nothing that it
- * is lent but `facts`. No size need be asked before.
+ * from `names`. Only reply 0 changes `out`, and after what was written it stays as it was: a refused call changes nothing
+ * passed in but `facts`. No size need be asked before.
  *
  * What phd_read filled passes every check, if it read the header: facts[4] to facts[9] as `header`, PHD_ROW * facts[2] numbers of
  * its rows, facts[3] of its references, and the dump as `names`. Only 17 can refuse it then, and of a text 18. */

@@ -8,6 +8,7 @@ use mathlib.Core.Bool.{Bool, true, false}
 use mathlib.Core.List.{List, [], _∷_, _++_}
 use lib.ListN.{length, getD, take, drop, length-append}
 use lib.Dec.{eqb}
+use Rattle.layout.specs.Values.{by-cases}
 use Rattle.layout.specs.Numbers.{pick}
 use Rattle.layout_put.specs.Put.{join}
 use Rattle.phd.specs.Shapes.{Word}
@@ -67,11 +68,6 @@ row-size-or-18 word names rows r = pick (is-lost rows r) (ReplySize 18) (Bytes (
 
 -- ---- what an answer says of the row
 
--- a choice, in each of its cases
-chosen : {X : Type 0} (P : X → Type 0) (b : Bool) (x y : X) → (b ≡ true → P x) → (b ≡ false → P y) → P (pick b x y)
-chosen P true x y f g = f refl
-chosen P false x y f g = g refl
-
 module _ (rows : List Row) (r : Row) where
   abbrev pub EntrySays : EntryFound → Type 0
   EntrySays (Is e) = (is-lost rows r ≡ false) × (e ≡ entry rows r)
@@ -79,7 +75,7 @@ module _ (rows : List Row) (r : Row) where
 
   pub entry-says : (f : EntryFound) → f ≡ entry-or-18 rows r → EntrySays f
   unfolding entry-or-18
-  entry-says f q = rw q (chosen EntrySays (is-lost rows r) _ _ (λ p. (p, refl)) (λ p. (p, refl)))
+  entry-says f q = rw q (by-cases (λ t. EntrySays (pick t (Reply 18) (Is (entry rows r)))) (is-lost rows r) (λ p. (p, refl)) (λ p. (p, refl)))
 
 module _ (word : ℕ) (names : List ℕ) (rows : List Row) (r : Row) where
   abbrev pub SizeSays : RowSize → Type 0
@@ -88,7 +84,8 @@ module _ (word : ℕ) (names : List ℕ) (rows : List Row) (r : Row) where
 
   pub size-says : (f : RowSize) → f ≡ row-size-or-18 word names rows r → SizeSays f
   unfolding row-size-or-18
-  size-says f q = rw q (chosen SizeSays (is-lost rows r) _ _ (λ p. (p, refl)) (λ p. (p, refl)))
+  size-says f q =
+      rw q (by-cases (λ t. SizeSays (pick t (ReplySize 18) (Bytes (row-size word names rows r)))) (is-lost rows r) (λ p. (p, refl)) (λ p. (p, refl)))
 
 -- ---- the two say the same
 

@@ -15,11 +15,9 @@ use lib.Signed.{ltZ}
 use borrow.Author.Tests.{lt-ltb, le-ltb, ltb-true, le-leb, lt-leb}
 use Rattle.layout.specs.Parts.{part-next}
 use Rattle.layout.specs.Numbers.{pick, both, value-after, signed, step, moved, in-range, counted, within}
+use Rattle.layout.specs.Values.{true-false}
 use Rattle.layout.specs.declared.Step.the-variants.{Up, Down}
 use Rattle.layout.specs.declared.Maybe.the-variants.{Just, Nothing}
-
-true-false : true ≡ false → ⊥
-true-false e = let z : _≡_ {A = ℕ} 0 1 = cc in omega arith
 
 -- ---- digits
 

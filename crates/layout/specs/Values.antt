@@ -23,6 +23,15 @@ pub pick-either {ℓ} : {X : Type ℓ} (P : X → Type 0) (b : Bool) (x y : X) �
 pick-either P true x y p q = p
 pick-either P false x y p q = q
 
+-- a test has one answer
+pub true-false : true ≡ false → ⊥
+true-false e = let z : _≡_ {A = ℕ} 0 1 = cc in omega arith
+
+-- a statement about a test, from its two cases
+pub by-cases : (P : Bool → Type 0) (b : Bool) → (b ≡ true → P true) → (b ≡ false → P false) → P b
+by-cases P true p q = p refl
+by-cases P false p q = q refl
+
 -- two tests that hold together
 pub both-left : (a b : Bool) → both a b ≡ true → a ≡ true
 both-left true b e = refl
@@ -30,7 +39,7 @@ both-left false b e = e
 
 pub both-right : (a b : Bool) → both a b ≡ true → b ≡ true
 both-right true b e = e
-both-right false b e = let z : _≡_ {A = ℕ} 0 1 = cc in absurd (omega arith)
+both-right false b e = absurd (true-false (sym e))
 
 -- 1 or 0 is at most 1
 pub one-most : (b : Bool) → pick b 1 0 ≤ 1

@@ -2,7 +2,7 @@
 -- Assumes nothing.
 use mathlib.Core.Path.{_≡_, refl}
 use Prim.Native.Nat.{ℕ, zero, suc, _+_, _-_, _/_, _^_, _≤_, _<_}
-use mathlib.Core.Bool.{Bool, true, false}
+use mathlib.Core.Bool.{true, false}
 use mathlib.Core.List.{List, [], _∷_}
 use native.Mathlib.Nat.{add-zero, pow-le-pow-right}
 use native.Mathlib.Omega.{arith}
@@ -11,13 +11,8 @@ use lib.Dec.{leb, ltb, lit<}
 use lib.IntN.{ℤ, pos, negsuc}
 use borrow.Author.Tests.{le-leb, lt-leb, lt-ltb, ltb-true, leb-true, leb-false}
 use Rattle.layout.specs.Numbers.{pick}
-use Rattle.layout.specs.Values.{pick-either}
+use Rattle.layout.specs.Values.{pick-either, by-cases}
 use Rattle.layout_put.specs.Put.{gap, fits, code, most, widest}
-
--- a statement about a test, from its two cases
-by-test : (P : Bool → Type 0) (b : Bool) → (b ≡ true → P true) → (b ≡ false → P false) → P b
-by-test P true p q = p refl
-by-test P false p q = q refl
 
 -- ---- what a width holds
 
@@ -71,7 +66,7 @@ module _ (g : ℤ) where
   least-first : (k c n : ℕ) → fits (2 ^ k) g ≡ true → c ≤ k → least-code g c n ≤ k
   least-first k c zero h l = l
   least-first k c (suc n) h l =
-      by-test (λ t. pick t c (least-code g (suc c) n) ≤ k) (fits (2 ^ c) g) (λ _. l)
+      by-cases (λ t. pick t c (least-code g (suc c) n) ≤ k) (fits (2 ^ c) g) (λ _. l)
       (λ e. least-first k (suc c) n h (omega (arith, differ c k e h)))
 
   -- its own width holds the number, if that of the next code does where none of these does
@@ -79,7 +74,7 @@ module _ (g : ℤ) where
   least-holds c zero h = rw add-zero at h
   least-holds c (suc n) h =
       let e : c + suc n ≡ suc c + n = omega arith in
-      by-test (λ t. fits (2 ^ pick t c (least-code g (suc c) n)) g ≡ true) (fits (2 ^ c) g) (λ d. d) (λ _. least-holds (suc c) n (rw e at h))
+      by-cases (λ t. fits (2 ^ pick t c (least-code g (suc c) n)) g ≡ true) (fits (2 ^ c) g) (λ d. d) (λ _. least-holds (suc c) n (rw e at h))
 
   -- from a code whose width holds the number on, none is too narrow
   none-narrow : (c n : ℕ) → fits (2 ^ c) g ≡ true → too-narrow g c n ≡ 0
@@ -90,7 +85,7 @@ module _ (g : ℤ) where
   least-counts : (c n : ℕ) → c + too-narrow g c n ≡ least-code g c n
   least-counts c zero = omega arith
   least-counts c (suc n) =
-      by-test (λ t. c + (pick t 0 1 + too-narrow g (suc c) n) ≡ pick t c (least-code g (suc c) n)) (fits (2 ^ c) g)
+      by-cases (λ t. c + (pick t 0 1 + too-narrow g (suc c) n) ≡ pick t c (least-code g (suc c) n)) (fits (2 ^ c) g)
       (λ e. omega (arith, none-narrow c (suc n) e)) (λ _. omega (arith, least-counts (suc c) n))
 
   -- a number's code is the least of 0, 1 and 2 whose width holds it, or 3
@@ -120,10 +115,10 @@ code-more g c l h = fits-more (2 ^ code g) (2 ^ c) g (pow-le-pow-right {n = 2} (
 -- ---- the greater of two, and the greatest of all references
 
 pub most-left : (a b : ℕ) → a ≤ most a b
-most-left a b = by-test (λ t. a ≤ pick t b a) (leb a b) (leb-true a b) (λ _. omega arith)
+most-left a b = by-cases (λ t. a ≤ pick t b a) (leb a b) (leb-true a b) (λ _. omega arith)
 
 pub most-right : (a b : ℕ) → b ≤ most a b
-most-right a b = by-test (λ t. b ≤ pick t b a) (leb a b) (λ _. omega arith) (λ e. omega (arith, leb-false a b e))
+most-right a b = by-cases (λ t. b ≤ pick t b a) (leb a b) (λ _. omega arith) (λ e. omega (arith, leb-false a b e))
 
 pub most-le : (a b k : ℕ) → a ≤ k → b ≤ k → most a b ≤ k
 most-le a b k p q = pick-either (λ x. x ≤ k) (leb a b) b a q p

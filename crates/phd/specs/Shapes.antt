@@ -1,23 +1,59 @@
--- Laws of the shapes of records: W is 32 or 64, every field has at most 8 bytes, and how many bytes a record has by its shape.
+-- Laws of the tags and shapes of records: W is 32 or 64, every field has at most 8 bytes, and how many bytes a record has by its shape.
 -- A reader must believe `record-bytes`.
-use mathlib.Core.Path.{_≡_, refl}
-use mathlib.Core.Logic.{_⊎_}
+use mathlib.Core.Path.{_≡_, refl, subst}
+use mathlib.Core.Logic.{_⊎_, inl, inr}
 use mathlib.Core.Bool.{Bool, true, false}
 use Prim.Native.Nat.{ℕ, _+_, _*_, _/_, _%_, _≤_, _<_}
 use native.Mathlib.Nat.{pow-le-pow-right, one-le-pow, mul-le-mul-left, mul-one}
 use native.Mathlib.Omega.{arith}
-use lib.Dec.{ltb, eqb}
+use lib.Dec.{leb, ltb, eqb}
 use Rattle.layout.specs.Numbers.{pick}
 use Rattle.layout.specs.Values.{one-most}
 use Rattle.table.specs.declared.Row.{Row}
-use Rattle.phd.specs.Phd.{bit, width, shape, hash-bytes}
+use Rattle.phd.specs.Phd.{bit, tagged, width, shape, hash-bytes}
 use Rattle.phd.specs.declared.Shape.{Shape}
 use Rattle.phd.specs.declared.Form.{Form}
 use Rattle.phd.specs.declared.Form.the-variants.{Short, Medium, Long, Class, ObjectArray, Primitive, LongPrimitive}
+use Rattle.phd.specs.declared.Tagged.the-variants.{Begins, Other}
 
 -- W is 32 or 64
 abbrev pub Word : ℕ → Type 0
 Word w = (w ≡ 32) ⊎ (w ≡ 64)
+
+-- a word has a byte at least
+pub word-some : (w : ℕ) → Word w → eqb (w / 8) 0 ≡ false
+word-some w (inl e) = rw e
+word-some w (inr e) = rw e
+
+-- the tests by which a tag begins a record of a form
+abbrev pub TagOf : Form → ℕ → Type 0
+TagOf Short t = leb 0x80 t ≡ true
+TagOf Medium t = (leb 0x80 t ≡ false) × (leb 0x40 t ≡ true)
+TagOf Primitive t = (leb 0x80 t ≡ false) × (leb 0x20 t ≡ true)
+TagOf Long t = (leb 0x80 t ≡ false) × (eqb t 4 ≡ true)
+TagOf Class t = (leb 0x80 t ≡ false) × (eqb t 6 ≡ true)
+TagOf LongPrimitive t = (leb 0x80 t ≡ false) × (eqb t 7 ≡ true)
+TagOf ObjectArray t = (leb 0x80 t ≡ false) × (eqb t 8 ≡ true)
+
+pub tag-of-form : (t : ℕ) (fm : Form) → tagged t ≡ Begins fm → TagOf fm t
+unfolding tagged
+tag-of-form t fm e = by _ _ _ _ _ _ _ refl refl refl refl refl refl refl e
+  where
+    is : {a : Form} → TagOf a t → Begins a ≡ Begins fm → TagOf fm t
+    is {a} p d = let z : a ≡ fm = cc in subst (λ (x : Form). TagOf x t) z p
+
+    by : (a b c d e f g : Bool) → leb 0x80 t ≡ a → leb 0x40 t ≡ b → leb 0x20 t ≡ c → eqb t 4 ≡ d → eqb t 6 ≡ e → eqb t 7 ≡ f → eqb t 8 ≡ g
+        → pick a (Begins Short) (pick b (Begins Medium) (pick c (Begins Primitive) (pick d (Begins Long) (pick e (Begins Class)
+        (pick f (Begins LongPrimitive) (pick g (Begins ObjectArray) Other)))))) ≡ Begins fm
+        → TagOf fm t
+    by true b c d e f g p q r s u v w x = is {a = Short} p x
+    by false true c d e f g p q r s u v w x = is {a = Medium} (p, q) x
+    by false false true d e f g p q r s u v w x = is {a = Primitive} (p, r) x
+    by false false false true e f g p q r s u v w x = is {a = Long} (p, s) x
+    by false false false false true f g p q r s u v w x = is {a = Class} (p, u) x
+    by false false false false false true g p q r s u v w x = is {a = LongPrimitive} (p, v) x
+    by false false false false false false true p q r s u v w x = is {a = ObjectArray} (p, w) x
+    by false false false false false false false p q r s u v w x = let z : _≡_ {A = ℕ} 0 1 = cc in absurd (omega arith)
 
 -- every field that is read as a number has at most 8 bytes
 pub record Narrow (sh : Shape) : Type 0 where

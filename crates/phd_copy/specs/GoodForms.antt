@@ -17,13 +17,12 @@ use Rattle.layout.specs.declared.Maybe.the-variants.{Just}
 use Rattle.table.specs.Rows.{refs-of, name-of}
 use Rattle.table.specs.declared.Row.{Row}
 use Rattle.phd.specs.Phd.{bit, highest, tagged, known-class, moved-bit, hashed-bit, hash-kind, hash-bytes, shape}
-use Rattle.phd.specs.Shapes.{Word}
+use Rattle.phd.specs.Shapes.{Word, word-some, tag-of-form}
 use Rattle.phd.specs.declared.classes.Cache.{Cache}
 use Rattle.phd.specs.declared.Facts.{Facts}
 use Rattle.phd.specs.declared.Form.{Form}
 use Rattle.phd.specs.declared.Form.the-variants.{Short, Medium, Long, Class, ObjectArray, Primitive, LongPrimitive}
-use Rattle.phd.specs.declared.Tagged.{Tagged}
-use Rattle.phd.specs.declared.Tagged.the-variants.{Begins, Other}
+use Rattle.phd.specs.declared.Tagged.the-variants.{Begins}
 use Rattle.phd_rows.specs.Good.{every, good-hash, good-class, no-name, good-object, good-array, good-primitive, good-kind, good-place, good-span, good-numbers, good-ref, good-refs, good-row}
 use Rattle.phd_rows.specs.Kept.{GoodRefs}
 use Rattle.phd_copy.specs.GoodRead.{RowOk}
@@ -97,24 +96,6 @@ no-bytes : (s : List ℕ) (place len : ℕ) → len ≡ 0 → within 0x21 0x7E (
 unfolding within
 no-bytes s place len e = rw e
 
--- ---- tags
-
--- a tag that begins another form is below 0x80
-below-short : (x : Bool) (g : Tagged) (fm : Form) → pick x (Begins Short) g ≡ Begins fm → (fm ≡ Short → ⊥) → x ≡ false
-below-short true g fm e d = absurd (d cc)
-below-short false g fm e d = refl
-
-class-tag : (a b c d e f g : Bool) → pick a (Begins Short) (pick b (Begins Medium) (pick c (Begins Primitive) (pick d (Begins Long)
-    (pick e (Begins Class) (pick f (Begins LongPrimitive) (pick g (Begins ObjectArray) Other)))))) ≡ Begins Class → e ≡ true
-class-tag true b c d e f g h = let z : _≡_ {A = ℕ} 0 1 = cc in absurd (omega arith)
-class-tag false true c d e f g h = let z : _≡_ {A = ℕ} 0 1 = cc in absurd (omega arith)
-class-tag false false true d e f g h = let z : _≡_ {A = ℕ} 0 1 = cc in absurd (omega arith)
-class-tag false false false true e f g h = let z : _≡_ {A = ℕ} 0 1 = cc in absurd (omega arith)
-class-tag false false false false true f g h = refl
-class-tag false false false false false true g h = let z : _≡_ {A = ℕ} 0 1 = cc in absurd (omega arith)
-class-tag false false false false false false true h = let z : _≡_ {A = ℕ} 0 1 = cc in absurd (omega arith)
-class-tag false false false false false false false h = let z : _≡_ {A = ℕ} 0 1 = cc in absurd (omega arith)
-
 -- ---- hash kinds
 
 all-hashed : (h : Facts) (t f : ℕ) → h .hashed ≡ true → hash-kind h t f ≡ 3
@@ -142,10 +123,6 @@ word-most : (W x : ℕ) → Word W → x < 256 ^ (W / 8) → x ≤ highest W
 unfolding highest
 word-most W x (inl e) l = let k : x < 256 ^ 4 = rw e at l in rw e (omega arith)
 word-most W x (inr e) l = let k : x < 256 ^ 8 = rw e at l in rw e (omega arith)
-
-word-some : (W : ℕ) → Word W → eqb (W / 8) 0 ≡ false
-word-some W (inl e) = rw e
-word-some W (inr e) = rw e
 
 known-none : (c : Cache) (t known : ℕ) → leb 0x80 t ≡ false → known-class c t ≡ Just known → known ≡ 0
 unfolding known-class
@@ -177,10 +154,6 @@ module _ (h : Facts) (w : Word (h .word)) (s : List ℕ) (c : Cache) (t f known 
   abbrev Ok : Form → Type 0
   Ok fm = RowOk top known (hash-kind h t f) index s (shape (h .word / 8) fm t f) r rs
 
-  no-class : (fm : Form) → tagged t ≡ Begins fm → (fm ≡ Short → ⊥) → known ≡ 0
-  unfolding tagged
-  no-class fm g n = known-none c t known (below-short (leb 0x80 t) _ fm g n) d
-
   some : eqb (h .word / 8) 0 ≡ false
   some = word-some (h .word) w
 
@@ -188,7 +161,7 @@ module _ (h : Facts) (w : Word (h .word)) (s : List ℕ) (c : Cache) (t f known 
   worded = word-most (h .word) (r .word) w
 
   form-good : (fm : Form) → tagged t ≡ Begins fm → Ok fm → FormGood top s r
-  unfolding shape name-of tagged
+  unfolding shape name-of
   form-good Short g o =
       object-form top s r (o .kind) (o .size refl) (o .len refl .1 refl) (o .name .none refl) (o .prim) (omega (arith, o .wordless refl refl)) (omega (arith, o .count .fixed refl))
   form-good Medium g o =
@@ -197,12 +170,11 @@ module _ (h : Facts) (w : Word (h .word)) (s : List ℕ) (c : Cache) (t f known 
       object-form top s r (o .kind) (o .size refl) (o .len refl .1 refl) (o .name .none refl) (o .prim) (worded (o .worded some)) (o .count .counted refl)
   form-good Class g o =
       let n = o .name .some refl in
-      let t6 = class-tag (leb 0x80 t) (leb 0x40 t) (leb 0x20 t) (eqb t 4) (eqb t 6) (eqb t 7) (eqb t 8) g in
       record {
         word = worded (o .superclass refl some);
         few = o .count .counted refl;
         kind =
-            class-good (length s) r (o .kind) (λ z. class-hash h t f t6 (sym (o .hashkind) ∙ z)) (o .inst refl) (o .len refl .1 refl) (n .enough) (n .short)
+            class-good (length s) r (o .kind) (λ z. class-hash h t f (tag-of-form t Class g .1) (sym (o .hashkind) ∙ z)) (o .inst refl) (o .len refl .1 refl) (n .enough) (n .short)
             (n .inside) (o .prim);
         name = n .bytes;
       }
@@ -213,10 +185,10 @@ module _ (h : Facts) (w : Word (h .word)) (s : List ℕ) (c : Cache) (t f known 
     name = no-bytes s (r .place) (r .namelen) (o .name .none refl .1);
   }
   form-good Primitive g o =
-      let z : known ≡ 0 = no-class Primitive g (λ e. let z : _≡_ {A = ℕ} 0 1 = cc in omega arith) in
+      let z : known ≡ 0 = known-none c t known (tag-of-form t Primitive g .0) d in
       primitive-form top s r (o .kind) (o .wordless refl refl ∙ z) (o .count .fixed refl) (o .size refl) (o .len refl .0) (o .name .none refl) (omega (arith, o .prim))
   form-good LongPrimitive g o =
-      let z : known ≡ 0 = no-class LongPrimitive g (λ e. let z : _≡_ {A = ℕ} 0 1 = cc in omega arith) in
+      let z : known ≡ 0 = known-none c t known (tag-of-form t LongPrimitive g .0) d in
       primitive-form top s r (o .kind) (o .wordless refl refl ∙ z) (o .count .fixed refl) (o .size refl) (o .len refl .0) (o .name .none refl) (omega (arith, o .prim))
 
   -- The row is good, with its references after those before it, and so is its class word.

@@ -12,7 +12,7 @@ use lib.Seq.{getD-set-same, getD-set-other, set-out}
 use borrow.Author.Tests.{eq-eqb}
 use Rattle.layout.specs.Numbers.{pick}
 use Rattle.layout.specs.Fields.{no-text}
-use Rattle.layout.specs.Values.{Gives, gives-yield, gives-then, gives-last, gives-when, gives-by, gives-count, gives-address, gives-reference}
+use Rattle.layout.specs.Values.{Gives, gives-yield, gives-then, gives-last, gives-when, gives-by, gives-count, gives-address, gives-reference, true-false}
 use Rattle.layout.specs.ByteValues.{Bytes, StringAt, gives-both, gives-field, gives-count-of, gives-fours, reference-fours, gives-string}
 use Rattle.layout.specs.declared.Maybe.the-variants.{Just, Nothing}
 use Rattle.layout.specs.declared.Text.{Text}
@@ -104,9 +104,6 @@ record TailOk (wide truelen n : ℕ) (t : Tail) : Type 0 where
   pub size : t .size < 256 ^ wide
   pub long : Least truelen n (t .truelen)
 
-clash : {P : Type 0} → true ≡ false → P
-clash e = let z : _≡_ {A = ℕ} 0 1 = cc in absurd (omega arith)
-
 module _ {s : List ℕ} (b : Bytes s) where
   gives-front : (top before : ℕ) (sh : Shape) → before % 4 ≡ 0 → Gives s (FrontOk top sh) (front top before sh)
   unfolding front
@@ -124,14 +121,14 @@ module _ {s : List ℕ} (b : Bytes s) where
   gives-name : (n : ℕ) → Gives s (NameOk s n) (class-name n)
   unfolding class-name
   gives-name n =
-      gives-by (eqb n 0) _ _ (λ e. gives-yield no-text (record { none = λ _. (refl, refl); some = λ f. clash (sym e ∙ f) }))
-      (λ e. gives-when (gives-string b 0x21 1) (λ t k. record { none = λ z. clash (sym (eq-eqb n 0 z) ∙ e); some = λ _. k }))
+      gives-by (eqb n 0) _ _ (λ e. gives-yield no-text (record { none = λ _. (refl, refl); some = λ f. absurd (true-false (sym e ∙ f)) }))
+      (λ e. gives-when (gives-string b 0x21 1) (λ t k. record { none = λ z. absurd (true-false (sym (eq-eqb n 0 z) ∙ e)); some = λ _. k }))
 
   gives-link-count : (n known : ℕ) → Gives s (CountOk n known) (link-count n known)
   unfolding link-count
   gives-link-count n known =
-      gives-by (eqb n 0) _ _ (λ e. gives-yield known (record { fixed = λ _. refl; counted = λ f. clash (sym e ∙ f) }))
-      (λ e. gives-when (gives-count n) (λ v k. record { fixed = λ z. clash (sym (eq-eqb n 0 z) ∙ e); counted = λ _. k }))
+      gives-by (eqb n 0) _ _ (λ e. gives-yield known (record { fixed = λ _. refl; counted = λ f. absurd (true-false (sym e ∙ f)) }))
+      (λ e. gives-when (gives-count n) (λ v k. record { fixed = λ z. absurd (true-false (sym (eq-eqb n 0 z) ∙ e)); counted = λ _. k }))
 
   gives-refs : (w a top n : ℕ) → a % 4 ≡ 0 → Gives s (RefsOk top n) (references w a top n)
   unfolding references

@@ -16,7 +16,7 @@ use Rattle.layout.specs.ByteValues.{Bytes}
 use Rattle.layout.specs.declared.Maybe.the-variants.{Just}
 use Rattle.table.specs.Table.{row-width, whole-more}
 use Rattle.table.specs.Rows.{row-at, rows-of, rows-last, refs-of, name-of}
-use Rattle.table.specs.Sums.{sum}
+use Rattle.table.specs.Sums.{sum, sum-last}
 use Rattle.table.specs.declared.Row.{Row}
 use Rattle.table.specs.declared.Search.the-variants.{NotFound}
 use Rattle.phd.specs.Phd.{highest, tagged, known-class, shape, hash-kind, Before, Item, over, item, record-of, from-tag, entry, State, phd, carried}
@@ -28,6 +28,7 @@ use Rattle.phd.specs.declared.Form.{Form}
 use Rattle.phd.specs.declared.Origin.{Origin}
 use Rattle.phd.specs.declared.Span.{Span}
 use Rattle.phd.specs.declared.Tagged.the-variants.{Begins}
+use Rattle.phd_counts.specs.Counts.{count-of}
 use Rattle.phd_rows.specs.Good.{every, good-hash, good-kind, good-place, good-numbers, good-refs, good-row, first-bad, bad-of}
 use Rattle.phd_rows.specs.Kept.{every-at, first-by, lent-of, none-bad}
 use Rattle.phd_read.specs.Links.{entry-forth, links-stand}
@@ -80,18 +81,13 @@ bad-more h names refs rs i index (r ∷ rows) e =
 
 -- a good row after good ones
 bad-last : (h : Facts) (names refs : List ℕ) (i index : ℕ) (rows : List Row) (r : Row) → first-bad h names refs i index rows ≡ NotFound
-    → good-row h names refs (index + sum (λ x. x .count) rows) r ≡ true → first-bad h names refs i index (rows ++ (r ∷ [])) ≡ NotFound
+    → good-row h names refs (index + sum count-of rows) r ≡ true → first-bad h names refs i index (rows ++ (r ∷ [])) ≡ NotFound
 unfolding first-bad sum
 bad-last h names refs i index [] r e g = rw (rw add-zero at g)
 bad-last h names refs i index (x ∷ rows) r e g =
     let b = none-bad h names refs i index x rows e in
-    let a : index + (x .count + sum (λ x. x .count) rows) ≡ index + x .count + sum (λ x. x .count) rows = omega arith in
+    let a : index + (x .count + sum count-of rows) ≡ index + x .count + sum count-of rows = omega arith in
     rw (b .0) (bad-last h names refs (suc i) (index + x .count) rows r (b .1) (rw a at g))
-
-sum-last : (f : Row → ℕ) (rows : List Row) (r : Row) → sum f (rows ++ (r ∷ [])) ≡ sum f rows + f r
-unfolding sum
-sum-last f [] r = omega arith
-sum-last f (x ∷ rows) r = omega (arith, sum-last f rows r)
 
 -- ---- a record
 
@@ -140,7 +136,7 @@ pub record GoodState (h : Facts) (s : List ℕ) (st : State) : Type 0 where
   pub word : Word (h .word)
   pub before : GoodBefore h (st .context)
   pub whole-rows : length (st .rows) % row-width ≡ 0
-  pub counts : sum (λ r. r .count) (rows-of (st .rows)) ≡ length (st .refs)
+  pub counts : sum count-of (rows-of (st .rows)) ≡ length (st .refs)
   pub good : bad-of h s (st .refs) (rows-of (st .rows)) ≡ NotFound
 
 pub good-on : (h : Facts) (s : List ℕ) → Bytes s → (st : State) → GoodState h s st → (r rs : List ℕ) (m : Span) (k : Before) (n : ℕ)
@@ -154,6 +150,6 @@ good-on h s b st g r rs m k n e =
       word = g .word;
       before = x .1;
       whole-rows = whole-more (st .rows) r (g .whole-rows) l;
-      counts = rw a (simp (sum-last (λ r. r .count) rows (row-at r 0), length-append (st .refs) rs) (omega (arith, g .counts, x .0 .count)));
+      counts = rw a (simp (sum-last count-of rows (row-at r 0), length-append (st .refs) rs) (omega (arith, g .counts, x .0 .count)));
       good = rw a (bad-last h s (st .refs ++ rs) 0 0 rows (row-at r 0) (bad-more h s (st .refs) rs 0 0 rows (g .good)) (rw (zero-add, g .counts) (x .0 .good)));
     }

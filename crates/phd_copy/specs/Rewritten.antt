@@ -16,7 +16,7 @@ use borrow.Author.Tests.{le-leb, lt-ltb}
 use Rattle.layout.specs.Numbers.{either, within}
 use Rattle.layout.specs.Layout.{reply-of, missing-of}
 use Rattle.layout.specs.Fields.{no-text}
-use Rattle.layout.specs.Values.{Gives, gives-yield, gives-refuse, gives-then, gives-last, gives-pick}
+use Rattle.layout.specs.Values.{Gives, gives-yield, gives-refuse, gives-then, gives-last, gives-pick, true-false}
 use Rattle.layout.specs.ByteValues.{Bytes, StringAt, gives-string}
 use Rattle.layout.specs.declared.Text.{Text}
 use Rattle.table.specs.Table.{row-width, row-count}
@@ -36,7 +36,7 @@ use Rattle.phd_rows.specs.Good.{every, good-vm, good-header, first-bad, bad-of,
 use Rattle.phd_read.specs.Answer.{answer, AfterRead}
 use Rattle.phd_read.specs.declared.Reading.{Reading}
 use Rattle.phd_read.specs.Promises.{sound, most-stored}
-use Rattle.phd_read.specs.RecordBytes.{takes-header}
+use Rattle.phd_header.specs.Header.{header-word}
 use Rattle.phd_write.specs.Write.{write-rows, writing}
 use Rattle.phd_write.specs.Terms.{dump-of, TooLong}
 use Rattle.phd_write.specs.Promises as Written
@@ -51,16 +51,13 @@ use Rattle.phd_copy.specs.GoodTables.{GoodState, good-on}
 abbrev VmOk : List ℕ → Text → Type 0
 VmOk s t = t .there ≡ true → StringAt s 0x20 0 t
 
-clash : {P : Type 0} → false ≡ true → P
-clash e = let z : _≡_ {A = ℕ} 0 1 = cc in absurd (omega arith)
-
 found : {P : Type 0} {i : ℕ} → At i ≡ NotFound → P
 found e = let z : _≡_ {A = ℕ} 0 1 = cc in absurd (omega arith)
 
 gives-vm : {s : List ℕ} → Bytes s → Gives s (VmOk s) header-records
 unfolding header-records
 gives-vm b =
-    gives-last _ _ (λ tag. gives-pick (eqb tag 2) _ _ (gives-yield no-text (λ e. clash e)) (gives-pick (eqb tag 4) _ _
+    gives-last _ _ (λ tag. gives-pick (eqb tag 2) _ _ (gives-yield no-text (λ e. absurd (true-false (sym e)))) (gives-pick (eqb tag 4) _ _
     (gives-then _ _ _ (gives-string b 0x20 0) (λ vm k. gives-last _ _ (λ _. gives-yield vm (λ _. k))))
     (gives-refuse 6)))
 
@@ -118,7 +115,7 @@ module _ (s : List ℕ) (b : Bytes s) (R F : ℕ) where
       (λ h n e. (
         gives-header b .each 0 h n (omega arith) e,
         record {
-          word = takes-header .each s 0 h n e .2 .1;
+          word = header-word s h n e;
           before = good-beginning h;
           whole-rows = refl;
           counts = refl;
@@ -170,7 +167,7 @@ module _ (h : Facts) (names refs : List ℕ) (rows : List Row) (a : AllRight h n
       two : (let n = write-rows h names refs rows room .answer .reply in (n ≡ 0) ⊎ ((n ≡ 15) ⊎ ((n ≡ 16) ⊎ (n ≡ 17))))
           → (let n = write-rows h names refs rows room .answer .reply in (n ≡ 0) ⊎ (n ≡ 17))
       two (inl e) = inl e
-      two (inr (inl e)) = clash (sym (x .header .0 e) ∙ a .0)
+      two (inr (inl e)) = absurd (true-false (sym (a .0) ∙ x .header .0 e))
       two (inr (inr (inl e))) = found (sym (x .row _ .0 (e, refl) .1) ∙ a .1)
       two (inr (inr (inr e))) = inr e
 
@@ -188,7 +185,7 @@ module _ (h : Facts) (names refs : List ℕ) (rows : List Row) (a : AllRight h n
       three : (let n = text-rows h names refs rows room .answer .reply in (n ≡ 0) ⊎ ((n ≡ 15) ⊎ ((n ≡ 16) ⊎ ((n ≡ 17) ⊎ (n ≡ 18)))))
           → (let n = text-rows h names refs rows room .answer .reply in (n ≡ 0) ⊎ ((n ≡ 17) ⊎ (n ≡ 18)))
       three (inl e) = inl e
-      three (inr (inl e)) = clash (sym (x .header .0 e) ∙ a .0)
+      three (inr (inl e)) = absurd (true-false (sym (a .0) ∙ x .header .0 e))
       three (inr (inr (inl e))) = found (sym (x .row _ .0 (e, refl) .1) ∙ a .1)
       three (inr (inr (inr e))) = inr e
 

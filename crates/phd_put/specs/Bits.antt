@@ -8,7 +8,7 @@ use lib.Dec.{ltb, eqb, lit<}
 use native.Mathlib.Omega.{arith}
 use borrow.Author.Tests.{eqb-true, eq-eqb, ne-eqb}
 use Rattle.layout.specs.Numbers.{pick, both, either}
-use Rattle.layout.specs.Values.{pick-either, both-left, both-right}
+use Rattle.layout.specs.Values.{pick-either, both-left, both-right, true-false}
 use Rattle.layout.specs.declared.Maybe.the-variants.{Just, Nothing}
 use Rattle.phd.specs.Phd.{bit, slot, moved-bit, hashed-bit}
 use Rattle.phd.specs.declared.classes.Cache.{Cache}
@@ -25,9 +25,6 @@ pub record Bits (all : Bool) (k : ℕ) (moved hashed : Bool) : Type 0 where
 pub record Kinds (all : Bool) (k : ℕ) : Type 0 where
   pub three : all ≡ true → k ≡ 3
   pub below : all ≡ false → k < 3
-
-pub true-false : _≡_ {A = Bool} true false → ⊥
-true-false e = let z : _≡_ {A = ℕ} 0 1 = cc in omega arith
 
 bit-yes : (m x : ℕ) → x / m % 2 ≡ 1 → bit m x ≡ true
 unfolding bit

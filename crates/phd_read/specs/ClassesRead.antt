@@ -2,19 +2,17 @@
 -- short object's class is out of the slot that its tag names.
 -- A reader must believe `tag-at`, `puts-class`, `words-put` and `InTurn`.
 use mathlib.Core.Path.{_≡_, refl, sym, ap, subst, _∙_}
-use Prim.Native.Nat.{ℕ, zero, suc, _+_, _-_, _*_, _/_, _%_, _≤_, _<_}
+use Prim.Native.Nat.{ℕ, zero, suc, _+_, _-_, _*_, _/_, _%_, _<_}
 use native.Mathlib.Decide.{decLe}
 use native.Mathlib.Omega.{arith}
-use mathlib.Core.Logic.{inl, inr}
 use mathlib.Core.Bool.{Bool, true, false}
 use mathlib.Core.List.{List, [], _∷_, _++_}
 use lib.Dec.{leb, eqb}
 use lib.ListN.{length, getD, take, drop}
 use lib.Seq.{getD-take, length-take-le}
-use borrow.Author.Tests.{le-leb, leb-true}
 use Rattle.layout.specs.Numbers.{pick, value}
 use Rattle.layout.specs.Layout.{yield, whole, stops, run, run-then, run-field, run-field-short, reply-of, missing-of}
-use Rattle.layout.specs.Values.{Gives, gives-yield, gives-refuse, gives-then, gives-last, gives-when, gives-pick, gives-need, refuses-yield, refuses-pick}
+use Rattle.layout.specs.Values.{Gives, gives-yield, gives-refuse, gives-then, gives-last, gives-when, gives-pick, gives-need, refuses-yield, refuses-pick, true-false}
 use Rattle.layout.specs.declared.Stop.{Stop}
 use Rattle.layout.specs.declared.Stop.the-variants.{Cut, Refused}
 use Rattle.layout.specs.declared.Maybe.the-variants.{Just, Nothing}
@@ -25,7 +23,7 @@ use Rattle.reading.specs.Offsets.{offset-of, After, CameFrom}
 use Rattle.phd.specs.Phd.{in-turn, put, slot, tagged, formed, known-class, shape, there, row, linked, fields, record-of, from-tag, Before, Item, over, item, entry, header, State, Result, Next, phd, capacity, go, halt, reading}
 use Rattle.phd.specs.ClassCache.{filled, slot-in-turn}
 use Rattle.phd.specs.Origins.{at-place, entry-at}
-use Rattle.phd.specs.Shapes.{Word}
+use Rattle.phd.specs.Shapes.{Word, word-some, tag-of-form}
 use Rattle.phd.specs.declared.classes.Cache.{Cache}
 use Rattle.phd.specs.declared.Facts.{Facts}
 use Rattle.phd.specs.declared.Form.{Form}
@@ -39,7 +37,7 @@ use Rattle.phd_read.specs.Links.{entry-forth, links-stand}
 use Rattle.phd_read.specs.Lawful.{always}
 use Rattle.phd_read.specs.Offsets.{reading-traced}
 use Rattle.phd_read.specs.Replies.{OfField, header-by, record-by}
-use Rattle.phd_read.specs.RecordBytes.{takes-header}
+use Rattle.phd_header.specs.Header.{header-word}
 
 -- the tag at a place of a dump
 abbrev pub tag-at : List ℕ → ℕ → ℕ
@@ -68,25 +66,22 @@ words-put s rows (suc i) =
 abbrev Cached : Cache → ℕ → Item → Type 0
 Cached c t over = Unit {0}
 Cached c t (item r rs sp k) =
-    (k .cache ≡ pick (puts-class (tagged t)) (put c (getD r 2 0)) c) × (0x80 ≤ t → slot c (t / 0x20 % 4) ≡ Just (getD r 2 0))
+    (k .cache ≡ pick (puts-class (tagged t)) (put c (getD r 2 0)) c) × (tagged t ≡ Begins Short → slot c (t / 0x20 % 4) ≡ Just (getD r 2 0))
 
 -- what the shape of a form says of it, where W has a byte at least
 record Shaped (fm : Form) (sh : Shape) : Type 0 where
   pub cached : sh .cached ≡ puts-class (Begins fm)
   pub worded : sh .cached ≡ true → eqb (sh .word) 0 ≡ false
 
-clash : {P : Type 0} → false ≡ true → P
-clash e = let z : _≡_ {A = ℕ} 0 1 = cc in absurd (omega arith)
-
 shaped-form : (w : ℕ) → eqb w 0 ≡ false → (fm : Form) (t f : ℕ) → Shaped fm (shape w fm t f)
 unfolding shape puts-class
-shaped-form w n Short t f = record { cached = refl; worded = λ e. clash e }
+shaped-form w n Short t f = record { cached = refl; worded = λ e. absurd (true-false (sym e)) }
 shaped-form w n Medium t f = record { cached = refl; worded = λ _. n }
 shaped-form w n Long t f = record { cached = refl; worded = λ _. n }
-shaped-form w n Class t f = record { cached = refl; worded = λ e. clash e }
-shaped-form w n ObjectArray t f = record { cached = refl; worded = λ e. clash e }
-shaped-form w n Primitive t f = record { cached = refl; worded = λ e. clash e }
-shaped-form w n LongPrimitive t f = record { cached = refl; worded = λ e. clash e }
+shaped-form w n Class t f = record { cached = refl; worded = λ e. absurd (true-false (sym e)) }
+shaped-form w n ObjectArray t f = record { cached = refl; worded = λ e. absurd (true-false (sym e)) }
+shaped-form w n Primitive t f = record { cached = refl; worded = λ e. absurd (true-false (sym e)) }
+shaped-form w n LongPrimitive t f = record { cached = refl; worded = λ e. absurd (true-false (sym e)) }
 
 -- a short object has no field for a class
 short-wordless : (w : ℕ) (fm : Form) (t f : ℕ) → Begins fm ≡ Begins Short → (shape w fm t f .word ≡ 0) × (shape w fm t f .superclass ≡ 0)
@@ -94,10 +89,6 @@ unfolding shape
 short-wordless w fm t f e =
     let z : Short ≡ fm = cc in
     subst (λ (x : Form). (shape w x t f .word ≡ 0) × (shape w x t f .superclass ≡ 0)) z (refl, refl)
-
-short-tag : {t : ℕ} → 0x80 ≤ t → tagged t ≡ Begins Short
-unfolding tagged
-short-tag {t} l = rw (le-leb 0x80 t l)
 
 -- by the shape
 abbrev CachedBy : Cache → ℕ → Shape → Item → Type 0
@@ -135,8 +126,8 @@ module _ (h : Facts) (before : ℕ) (c : Cache) (w : eqb (h .word / 8) 0 ≡ fal
           let g = shaped-form _ w fm t f in (
             x .0 ∙ ap (λ (b : Bool). pick b (put c (getD r 2 0)) c) (g .cached ∙ sym (ap puts-class e)),
             λ l.
-                let q = short-wordless _ fm t f (sym e ∙ short-tag l) in
-                rw (x .1 (q .0) (q .1)) (rw (le-leb 0x80 t l) at d),
+                let q = short-wordless _ fm t f (sym e ∙ l) in
+                rw (x .1 (q .0) (q .1)) (rw (tag-of-form t Short l) at d),
           )
 
 -- The cache after a record, and a short object's class.
@@ -145,12 +136,8 @@ pub cache-after : (h : Facts) (s : List ℕ) (before : ℕ) (c : Cache) (index a
 unfolding from-tag
 cache-after h s before c index at r rs sp k n w e =
     let f = entry-forth h before c index s at (item r rs sp k) n e in
-    gives-pick (eqb (tag-at s at) 3) _ _ (gives-yield over tt) (gives-record h before c (some w) (at-place at index) (tag-at s at))
+    gives-pick (eqb (tag-at s at) 3) _ _ (gives-yield over tt) (gives-record h before c (word-some (h .word) w) (at-place at index) (tag-at s at))
     .each (at + 1) (item r rs sp k) n (omega arith) (rw (entry-at, run-then, run-field 1 s at (omega arith)) at e)
-  where
-    some : Word (h .word) → eqb (h .word / 8) 0 ≡ false
-    some (inl e) = rw e
-    some (inr e) = rw e
 
 -- ---- record after record
 
@@ -203,7 +190,7 @@ pub record ClassOf (s rows : List ℕ) (i : ℕ) (c : Cache) : Type 0 where
   -- each slot holds, in turn, the class words that the records before it put
   pub slots : (j : ℕ) → j < 4 → slot c j ≡ in-turn (words-put s rows i) j
   -- and a short object has the class of the slot that its tag names
-  pub short : 0x80 ≤ tag-at s (offset-of rows i) → in-turn (words-put s rows i) (tag-at s (offset-of rows i) / 0x20 % 4) ≡ Just (number rows i 2)
+  pub short : tagged (tag-at s (offset-of rows i)) ≡ Begins Short → in-turn (words-put s rows i) (tag-at s (offset-of rows i) / 0x20 % 4) ≡ Just (number rows i 2)
 
 pub reading-classes : (s : List ℕ) (R F i : ℕ) (l : i < row-count (reading s R F .rows))
     → ClassOf s (reading s R F .rows) i (reading-traced s R F .each i l .before .context .cache)
@@ -226,7 +213,7 @@ reading-classes s R F i l = record {
     st = x .before
 
     w : Word (h .word)
-    w = takes-header .each s 0 h (x .start) (x .opens) .2 .1
+    w = header-word s h (x .start) (x .opens)
 
     -- as many rows before it as its number
     counted : row-count (st .rows) ≡ i
@@ -240,7 +227,7 @@ reading-classes s R F i l = record {
         let c : st .context .cache ≡ filled (words-put s rows i) = rw (counted, alike) at (in-turn-after h s R F w (x .start) (x .count) st (x .reached) .cache) in
         rw c (slot-in-turn (words-put s rows i) j b)
 
-    record-short : 0x80 ≤ tag-at s (st .at) → slot (st .context .cache) (tag-at s (st .at) / 0x20 % 4) ≡ Just (getD (row-of rows i) 2 0)
+    record-short : tagged (tag-at s (st .at)) ≡ Begins Short → slot (st .context .cache) (tag-at s (st .at) / 0x20 % 4) ≡ Just (getD (row-of rows i) 2 0)
     record-short = cache-after h s (st .context .address) (st .context .cache) (length (st .refs)) (st .at) (row-of rows i) (x .list) (x .note) (x .context) (x .end) w (x .gives) .1
 
 -- ---- an empty slot
@@ -248,16 +235,16 @@ reading-classes s R F i l = record {
 -- What holds where a reading of the dump s stops with 10, after these rows: the tag there is a short object's, and no class word that was put
 -- is in the slot that it names.
 pub record EmptySlot (s rows : List ℕ) (place : ℕ) : Type 0 where
-  pub short : 0x80 ≤ tag-at s place
+  pub short : tagged (tag-at s place) ≡ Begins Short
   pub unfilled : in-turn (words-put s rows (row-count rows)) (tag-at s place / 0x20 % 4) ≡ Nothing
 
 -- a reply to a field is not 10
 not-ten : {Q : Type 0} (r : ℕ) → OfField r → r ≡ 10 → Q
-not-ten r k e = clash (rw e at k)
+not-ten r k e = absurd (true-false (sym (rw e at k)))
 
 slot-empty : (h : Facts) (s : List ℕ) (before : ℕ) (c : Cache) (index at : ℕ) → run (entry h before c index) s at ≡ stops (Refused 10)
-    → (0x80 ≤ tag-at s at) × (slot c (tag-at s at / 0x20 % 4) ≡ Nothing)
-unfolding from-tag known-class
+    → (tagged (tag-at s at) ≡ Begins Short) × (slot c (tag-at s at / 0x20 % 4) ≡ Nothing)
+unfolding from-tag known-class tagged
 slot-empty h s before c index at e = elim (decLe (at + 1) (length s)) [
   | yes l ↦ by (leb 0x80 t) refl (refused (rw (entry-at, run-then, run-field 1 s at l) at e))
   | no l ↦
@@ -274,8 +261,8 @@ slot-empty h s before c index at e = elim (decLe (at + 1) (length s)) [
         refuses-pick {P = λ r. r ≡ 10 → known-class c t ≡ Nothing} (eqb t 3) _ _ (refuses-yield over)
         (record-by (λ r. r ≡ 10 → known-class c t ≡ Nothing) not-ten h before c (at-place at index) t (λ k _. k)) .each s (at + 1) 10 x refl
 
-    by : (b : Bool) → leb 0x80 t ≡ b → pick b (slot c (t / 0x20 % 4)) (Just 0) ≡ Nothing → (0x80 ≤ t) × (slot c (t / 0x20 % 4) ≡ Nothing)
-    by true d k = (leb-true _ _ d, k)
+    by : (b : Bool) → leb 0x80 t ≡ b → pick b (slot c (t / 0x20 % 4)) (Just 0) ≡ Nothing → (tagged t ≡ Begins Short) × (slot c (t / 0x20 % 4) ≡ Nothing)
+    by true d k = (rw d, k)
     by false d k = let z : _≡_ {A = ℕ} 0 1 = cc in absurd (omega arith)
 
 module _ (s : List ℕ) (R F : ℕ) where
@@ -303,7 +290,7 @@ module _ (s : List ℕ) (R F : ℕ) where
   unfolding nothing ended first words-put row-count
   reading-empty-slot =
       reading-holds phd s (capacity R F) Between Stops (λ z. absurd (omega arith)) in-header
-      (λ h n e. (takes-header .each s 0 h n e .2 .1, record { whole-rows = refl; cache = refl }))
+      (λ h n e. (header-word s h n e, record { whole-rows = refl; cache = refl }))
       (λ h st g. step-by phd (Either (Between h) Stops) h s (capacity R F) st (λ n e z. absurd (omega arith))
       (λ r rs m k n e _ _. (g .0, one-on h s R F (g .0) st (g .1) r rs m k n e))
       (λ z. absurd (omega arith)) (λ z. absurd (omega arith)) (stopped h st g))

@@ -3,20 +3,20 @@
 use mathlib.Core.Path.{_≡_, refl}
 use Prim.Native.Nat.{ℕ, _+_, _-_, _*_, _/_, _≤_, _<_}
 use native.Mathlib.Omega.{arith}
-use mathlib.Core.Bool.{Bool, true, false}
+use mathlib.Core.Bool.{false}
 use mathlib.Core.Logic.{_⊎_, inl, inr}
 use mathlib.Core.List.{List, [], _∷_, _++_}
 use lib.ListN.{length}
 use lib.Dec.{eqb, lit<}
-use Rattle.layout.specs.Numbers.{pick}
 use Rattle.layout.specs.Layout.{Layout, Outcome, whole, stops, run}
 use Rattle.layout.specs.Fields.{no-text}
 use Rattle.layout.specs.Values.{Refuses}
 use Rattle.layout.specs.Takes.{Takes, takes-yield, takes-refuse, takes-then, takes-last, takes-when, takes-by, takes-field, takes-raw, takes-check, takes-exactly, takes-below}
 use Rattle.table.specs.Table.{row-width, row-count, row-of, number, number-in}
 use Rattle.table.specs.Rows.{row-at, bare}
-use Rattle.phd.specs.Phd.{bit, opening, opening-bytes, preamble, header-records, header-facts, header, empty, put, Before, item, entry, State, phd, capacity, reading}
+use Rattle.phd.specs.Phd.{opening, opening-bytes, preamble, header-records, header, empty, put, Before, item, entry, State, phd, capacity, reading}
 use Rattle.phd.specs.Cases.{computing}
+use Rattle.phd_header.specs.Header.{header-word}
 use Rattle.phd.specs.Shapes.{Word, record-least, record-most}
 use Rattle.phd.specs.declared.classes.Cache.{Cache}
 use Rattle.phd.specs.declared.Facts.{Facts}
@@ -70,17 +70,12 @@ takes-records =
     (λ _. takes-last _ _ (λ vm n₁. takes-last _ _ (λ _ n₂. takes-yield vm (omega (arith, e .0)))))
     (λ _. takes-refuse 6)))
 
--- W is 32 or 64
-facts-word : (b : Bool) → Word (pick b 64 32)
-facts-word true = inr refl
-facts-word false = inl refl
-
--- A header has 31 bytes at least, and W is 32 or 64.
-pub takes-header : Takes (λ (h : Facts) n. (header-least ≤ n) × Word (h .word)) header
-unfolding header header-facts
+-- A header has 31 bytes at least.
+takes-header : Takes (λ (_ : Facts) n. header-least ≤ n) header
+unfolding header
 takes-header =
     takes-then _ _ _ takes-preamble (λ flags n e. takes-then _ _ _ takes-records (λ vm n₁ e₁.
-    takes-then _ _ _ (takes-exactly 1 2 6) (λ _ n₂ e₂. takes-yield _ (omega (arith, e, e₁, e₂), facts-word (bit 1 flags)))))
+    takes-then _ _ _ (takes-exactly 1 2 6) (λ _ n₂ e₂. takes-yield _ (omega (arith, e, e₁, e₂)))))
 
 -- ---- a record
 
@@ -121,7 +116,7 @@ module _ (h : Facts) (before : ℕ) (c : Cache) (index : ℕ) (s : List ℕ) (at
 
 least : LeastBytes phd header-least (least-bytes 0)
 least = record {
-  header = λ s h n e. let x = takes-header .each s 0 h n e in omega (arith, x .1, x .2 .0);
+  header = λ s h n e. let x = takes-header .each s 0 h n e in omega (arith, x .1, x .2);
   entry = λ h c index s at r rs m k e g. entry-least h (c .address) (c .cache) index s at r rs m k e g;
 }
 
@@ -153,8 +148,8 @@ row-bytes s R F i l =
     let rows : List ℕ = reading s R F .rows in
     let x = reading-traced s R F .each i l in
     let st : State = x .before in
-    let w = takes-header .each s 0 (reading s R F .facts) (x .start) (x .opens) in
-    let b = entry-bytes (reading s R F .facts) (st .context .address) (st .context .cache) (length (st .refs)) s (st .at) (row-of rows i) (x .list) (x .note) (x .context) (x .end) (x .gives) (w .2 .1) in
+    let w = header-word s (reading s R F .facts) (x .start) (x .opens) in
+    let b = entry-bytes (reading s R F .facts) (st .context .address) (st .context .cache) (length (st .refs)) s (st .at) (row-of rows i) (x .list) (x .note) (x .context) (x .end) (x .gives) w in
     record {
       least = rw (number-in rows i 6 (omega arith)) (b .least);
       most = rw (number-in rows i 6 (omega arith), number-in rows i 10 (omega arith)) (b .most);

@@ -7,6 +7,7 @@ use lib.Dec.{eqb, lit<, lit≤}
 use lib.IntN.{ℤ, pos}
 use native.Mathlib.Omega.{arith}
 use borrow.Author.Tests.{le-leb, lt-leb, le-ltb, lt-ltb, ltb-true, eqb-true}
+use Rattle.layout.specs.Values.{true-false}
 use Rattle.layout.specs.Numbers.{pick}
 use Rattle.layout_put.specs.Put.{gap, fits, code, most}
 use Rattle.layout_put.specs.Widths.{gap-fits, code-lt, code-more, most-left, most-right, most-lt}
@@ -22,7 +23,7 @@ use Rattle.phd_put.specs.Bounds.{Wide}
 use Rattle.phd_round_trip.specs.Fit.{given, Says, Sound}
 use Rattle.phd_round_trip.specs.Formed.{absent, present, given-all, width-some, nothing-in, len-small, Formed}
 use Rattle.phd_round_trip.specs.Objects.{sound-of, kinds, gap8, no-name}
-use Rattle.phd_put.specs.Bits.{true-false, no-bits, low-bits, hash-flags-lt, primitive-tag, array-flags}
+use Rattle.phd_put.specs.Bits.{no-bits, low-bits, hash-flags-lt, primitive-tag, array-flags}
 
 -- A good record r after one at `before`, with the cache c.
 module _ (h : Facts) (c : Cache) (before index : ℕ) (r : Rec)

@@ -7,6 +7,7 @@ use lib.Dec.{ltb, lit<}
 use lib.Pow.{pow-pos}
 use native.Mathlib.Omega.{arith}
 use borrow.Author.Tests.{le-leb, lt-leb, le-ltb, ne-eqb}
+use Rattle.layout.specs.Values.{true-false}
 use Rattle.layout.specs.Numbers.{pick}
 use Rattle.layout.specs.declared.Maybe.the-variants.{Just}
 use Rattle.layout_put.specs.Put.{gap, fits, code, widest}
@@ -25,7 +26,7 @@ use Rattle.phd_form.specs.Form.{measure, flagged, tag-of, hash-flags, class-fla
 use Rattle.phd_put.specs.Bounds.{Wide}
 use Rattle.phd_round_trip.specs.Fit.{given, Refs, Named, unnamed, Says, Sound}
 use Rattle.phd_round_trip.specs.Formed.{Opt, absent, present, given-all, there-given, width-some, nothing-in, refs-fit, good-refs, counts, Formed, fit-of}
-use Rattle.phd_put.specs.Bits.{Bits, Kinds, true-false, no-bits, low-bits, class-bits, hash-flags-lt, class-flags-lt, short-tag, medium-tag, long-flags, slot-back}
+use Rattle.phd_put.specs.Bits.{Bits, Kinds, no-bits, low-bits, class-bits, hash-flags-lt, class-flags-lt, short-tag, medium-tag, long-flags, slot-back}
 
 -- A good record r after one at `before`, with the cache c.
 module _ (h : Facts) (c : Cache) (before index : ℕ) (r : Rec)

@@ -8,6 +8,7 @@ use mathlib.Core.List.{List, []}
 use lib.ListN.{length}
 use lib.Seq.{sets}
 use native.Mathlib.Omega.{arith}
+use Rattle.layout.specs.Values.{true-false}
 use Rattle.table.specs.Buffer.{stored, stored-none, stored-whole}
 use Rattle.table.specs.declared.Search.{Search}
 use Rattle.table.specs.declared.Search.the-variants.{At, NotFound}
@@ -63,7 +64,7 @@ pub record Exact (good : Bool) (bad lost : Search) (fits : Bool) (bytes : List �
 
 -- what cannot be: a test both ways, a row both found and not, two replies
 clash {ℓ} : {P : Type ℓ} → true ≡ false → P
-clash e = let z : _≡_ {A = ℕ} 0 1 = cc in absurd (omega arith)
+clash e = absurd (true-false e)
 
 found {ℓ} : {P : Type ℓ} {i : ℕ} → At i ≡ NotFound → P
 found e = let z : _≡_ {A = ℕ} 0 1 = cc in absurd (omega arith)

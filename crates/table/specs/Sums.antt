@@ -3,7 +3,7 @@
 use mathlib.Core.Path.{_≡_}
 use Prim.Native.Nat.{ℕ, _+_, _≤_, _<_}
 use native.Mathlib.Omega.{arith}
-use mathlib.Core.List.{List, [], _∷_}
+use mathlib.Core.List.{List, [], _∷_, _++_}
 use Rattle.table.specs.Table.{row-count}
 use Rattle.table.specs.Rows.{row-at, rows-of, rows-left, left-next, left-none}
 use Rattle.table.specs.declared.Row.{Row}
@@ -11,6 +11,12 @@ use Rattle.table.specs.declared.Row.{Row}
 unfoldable pub sum : (Row → ℕ) → List Row → ℕ
 sum f [] = 0
 sum f (r ∷ rows) = f r + sum f rows
+
+-- one row more, at the end
+pub sum-last : (f : Row → ℕ) (rows : List Row) (r : Row) → sum f (rows ++ (r ∷ [])) ≡ sum f rows + f r
+unfolding sum
+sum-last f [] r = omega arith
+sum-last f (x ∷ rows) r = omega (arith, sum-last f rows r)
 
 module _ (f : Row → ℕ) (table : List ℕ) where
   -- over the rows that are left, from number i on

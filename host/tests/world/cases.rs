@@ -140,11 +140,11 @@ impl Case<'_> {
         }
         let lent = Tables::of_reading(dump, &read.facts, &read.tables[0], &read.tables[1]);
         let written = self.make_twice(&WRITE, &lent, 2 * dump.len())?;
-        let told = self.make_twice(&TEXT, &lent, lent.text_bound())?;
+        let text = self.make_twice(&TEXT, &lent, lent.text_bound())?;
         if written.reply != 0 {
             return Err(of_dump("what was read is not written", dump));
         }
-        if !matches!(told.reply, 0 | 18) {
+        if !matches!(text.reply, 0 | 18) {
             return Err(of_dump("what was read is refused as a text", dump));
         }
         Ok(Some(written.out[..written.place()].to_vec()))
@@ -157,7 +157,6 @@ impl Case<'_> {
     }
 }
 
-/// Room for so many rows: exact, too small by a row or by a number, with numbers left over, more, or none.
 /// Two makings that are both done give the same bytes.
 fn same_bytes(one: &Outcome, two: &Outcome) -> Result<(), String> {
     let bytes = |made: &Outcome| made.out[..made.place()].to_vec();
@@ -167,6 +166,7 @@ fn same_bytes(one: &Outcome, two: &Outcome) -> Result<(), String> {
     Ok(())
 }
 
+/// Room for so many rows: exact, too small by a row or by a number, with numbers left over, more, or none.
 fn row_room(dice: &mut Dice, rows: usize) -> usize {
     let exact = rows * ROW;
     match dice.below(9) {
