@@ -8,14 +8,14 @@ use mathlib.Core.Bool.{Bool, true, false}
 use mathlib.Core.List.{List}
 use lib.Dec.{eqb}
 use borrow.Author.Tests.{eqb-true, eq-eqb}
-use Rattle.layout.specs.Numbers.{either}
-use Rattle.layout.specs.Values.{both-left, both-right}
+use Rattle.decode.specs.Numbers.{either}
+use Rattle.decode.specs.Values.{both-left, both-right}
 use Rattle.table.specs.Rows.{of-kind}
 use Rattle.table.specs.Search.{None, none-is}
 use Rattle.table.specs.declared.Row.{Row}
 use Rattle.table.specs.declared.Search.{Search}
 use Rattle.table.specs.declared.Search.the-variants.{At, NotFound}
-use Rattle.classic.specs.Classic.{is-class-at, class-at, nowhere, is-lost}
+use Rattle.classic.specs.ClassicText.{is-class-at, class-at, nowhere, is-lost}
 
 -- a class row with the address a
 pub record ClassRow (a : ℕ) (r : Row) : Type 0 where

@@ -4,8 +4,8 @@ ghost use mathlib.Core.Path.{_≡_};
 ghost use Prim.Native.Nat.{_+_, _≤_, _<_};
 ghost use lib.ListN.{length, getD};
 ghost use Rattle.table.specs.Rows.{rows-of};
-ghost use Rattle.classic.specs.Classic.{letters, signature, is-class-named, class-at, class-named};
-ghost use Rattle.classic.specs.Fine.{AllShort};
+ghost use Rattle.classic.specs.ClassicText.{letters, signature, is-class-named, class-at, class-named};
+ghost use Rattle.classic.specs.RowBounds.{AllShort};
 use table::Row;
 use table::Search;
 

@@ -3,12 +3,12 @@ ghost use mathlib.Core.Path.{_≡_};
 ghost use mathlib.Core.Bool.{false};
 ghost use Prim.Native.Nat.{_+_, _≤_, _<_, _^_};
 ghost use lib.ListN.{length};
-ghost use Rattle.layout_put.specs.Puts.{Puts, Room};
+ghost use Rattle.encode.specs.Writes.{Puts, Room};
 ghost use Rattle.table.specs.Rows.{rows-of};
 ghost use Rattle.phd.specs.Shapes.{Word};
-ghost use Rattle.classic.specs.Classic.{is-lost, word-of};
-ghost use Rattle.classic.specs.Fine.{Short, KnownKind, AllShort};
-ghost use Rattle.classic_row.specs.Row.{entry-or-18, row-size-or-18, row-text};
+ghost use Rattle.classic.specs.ClassicText.{is-lost, word-of};
+ghost use Rattle.classic.specs.RowBounds.{Short, KnownKind, AllShort};
+ghost use Rattle.classic_row.specs.RowText.{entry-or-18, row-size-or-18, row-text};
 use table::Row;
 use table::Search;
 
@@ -138,7 +138,7 @@ pub fn put(
     };
     let shown = word_of(names, rows, row);
     let first = parts::put_first(out, at, word, names, row, e);
-    let next = layout_put::put_byte(out, first, 0x0A);
+    let next = encode::put_byte(out, first, 0x0A);
     let second = parts::put_second(out, next, word, shown, refs, row);
-    layout_put::put_byte(out, second, 0x0A)
+    encode::put_byte(out, second, 0x0A)
 }

@@ -4,11 +4,11 @@ ghost use Prim.Native.Nat.{_+_, _≤_, _<_};
 ghost use mathlib.Core.List.{_++_};
 ghost use lib.ListN.{length, getD};
 ghost use lib.Dec.{eqb};
-ghost use Rattle.layout_put.specs.Puts.{Puts, Room};
+ghost use Rattle.encode.specs.Writes.{Puts, Room};
 ghost use Rattle.phd.specs.Shapes.{Word};
 ghost use Rattle.table.specs.Rows.{refs-of};
-ghost use Rattle.classic.specs.Classic.{array-type, address, listed};
-ghost use Rattle.classic_row.specs.Row.{entry-name, entry-type, mark, entry-line};
+ghost use Rattle.classic.specs.ClassicText.{array-type, address, listed};
+ghost use Rattle.classic_row.specs.RowText.{entry-name, entry-type, mark, entry-line};
 use super::Entry;
 use table::Row;
 
@@ -48,12 +48,12 @@ fn put_array(out: &mut [u8], at: usize, names: &[u8], e: Entry) -> usize
     ensures { λ r. ⌜ Puts (now (out .entry)) at (array-type (entry-name (now (names .entry)) e)) (now (out .exit)) r ⌝ }
 {
     if is_array(names, e) {
-        let inner = layout_put::put_all(out, at, b"[");
-        return layout_put::put_bytes(out, inner, names, e.place, e.len);
+        let inner = encode::put_all(out, at, b"[");
+        return encode::put_bytes(out, inner, names, e.place, e.len);
     }
-    let name = layout_put::put_all(out, at, b"[L");
-    let end = layout_put::put_bytes(out, name, names, e.place, e.len);
-    layout_put::put_all(out, end, b";")
+    let name = encode::put_all(out, at, b"[L");
+    let end = encode::put_bytes(out, name, names, e.place, e.len);
+    encode::put_all(out, end, b";")
 }
 
 // Puts the type.
@@ -64,13 +64,13 @@ fn put_type(out: &mut [u8], at: usize, names: &[u8], kind: u64, prim: u64, e: En
     ensures { λ r. ⌜ Puts (now (out .entry)) at (entry-type (now (names .entry)) kind prim e) (now (out .exit)) r ⌝ }
 {
     if kind == 4 {
-        let name = layout_put::put_all(out, at, b"[");
-        return layout_put::put_byte(out, name, classic::letter(prim));
+        let name = encode::put_all(out, at, b"[");
+        return encode::put_byte(out, name, classic::letter(prim));
     }
     if kind == 3 {
         return put_array(out, at, names, e);
     }
-    layout_put::put_bytes(out, at, names, e.place, e.len)
+    encode::put_bytes(out, at, names, e.place, e.len)
 }
 
 // Puts the end of the bytes, and `CLS` or `OBJ`.
@@ -79,9 +79,9 @@ fn put_mark(out: &mut [u8], at: usize, kind: u64) -> usize
     ensures { λ r. ⌜ Puts (now (out .entry)) at (mark kind) (now (out .exit)) r ⌝ }
 {
     if kind == 1 {
-        return layout_put::put_all(out, at, b"] CLS ");
+        return encode::put_all(out, at, b"] CLS ");
     }
-    layout_put::put_all(out, at, b"] OBJ ")
+    encode::put_all(out, at, b"] OBJ ")
 }
 
 // Puts the first line.
@@ -92,7 +92,7 @@ pub fn put_first(out: &mut [u8], at: usize, word: u64, names: &[u8], row: Row, e
     requires { ⌜ Room (now out) at (entry-line word (now names) row e) ⌝ }
     ensures { λ r. ⌜ Puts (now (out .entry)) at (entry-line word (now (names .entry)) row e) (now (out .exit)) r ⌝ }
 {
-    let a = classic_put::put_address(out, at, word, row.address);
+    let a = classic_fields::put_address(out, at, word, row.address);
     let b = digits::put_figure(out, a, b" [", e.bytes);
     let c = put_mark(out, b, row.kind);
     put_type(out, c, names, row.kind, row.prim, e)
@@ -107,6 +107,6 @@ pub fn put_second(out: &mut [u8], at: usize, word: u64, class: u64, refs: &[u64]
 {
     let first = row.first as usize;
     let count = row.count as usize;
-    let next = classic_put::put_address(out, at, word, class);
-    classic_put::put_listed(out, next, word, refs, first, count)
+    let next = classic_fields::put_address(out, at, word, class);
+    classic_fields::put_listed(out, next, word, refs, first, count)
 }

@@ -8,7 +8,7 @@ use mathlib.Core.Bool.{true, false}
 use mathlib.Core.List.{List, [], _∷_, _++_, map}
 use lib.Dec.{ltb}
 use Rattle.io.specs.Digits.{digits}
-use Rattle.layout.specs.Numbers.{pick}
+use Rattle.decode.specs.Numbers.{pick}
 
 -- the bytes of a text
 abbrev pub ascii : String → List ℕ

@@ -1,3 +1,3 @@
 -- Digits (texts and numbers as bytes) and Lengths (how many bytes numbers have).
 pub mod Digits
-pub mod Lengths
+pub mod DigitLengths

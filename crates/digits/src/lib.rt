@@ -4,7 +4,7 @@ ghost use mathlib.Core.Path.{_≡_};
 ghost use Prim.Native.Nat.{_≤_, _<_};
 ghost use mathlib.Core.List.{_++_};
 ghost use Rattle.io.specs.Digits.{glyph as glyphOf};
-ghost use Rattle.layout_put.specs.Puts.{Puts, Room};
+ghost use Rattle.encode.specs.Writes.{Puts, Room};
 ghost use Rattle.digits.specs.Digits.{capital, numeral, places as placesOf, decimal};
 
 // Returns a digit below 16 as a character, in upper case.
@@ -61,6 +61,6 @@ pub fn put_figure(out: &mut [u8], at: usize, before: &[u8], n: u64) -> usize
     requires { ⌜ Room (now out) at (now before ++ decimal n) ⌝ }
     ensures { λ r. ⌜ Puts (now (out .entry)) at (now (before .entry) ++ decimal n) (now (out .exit)) r ⌝ }
 {
-    let digits = layout_put::put_all(out, at, before);
+    let digits = encode::put_all(out, at, before);
     put_decimal(out, digits, n)
 }

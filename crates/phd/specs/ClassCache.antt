@@ -9,9 +9,9 @@ use lib.ListN.{length, length-set}
 use lib.Seq.{getD-set-same, getD-set-other}
 use lib.Dec.{ltb}
 use borrow.Author.Tests.{lt-ltb, le-ltb, eq-eqb, ne-eqb}
-use Rattle.layout.specs.declared.Maybe.the-variants.{Just}
+use Rattle.decode.specs.declared.Maybe.the-variants.{Just}
 use Rattle.phd.specs.Phd.{in-turn, empty, put, slot}
-use Rattle.phd.specs.declared.classes.Cache.{Cache}
+use Rattle.phd.specs.declared.cache.Cache.{Cache}
 
 -- the cache after the class words ws were put, the last of them first
 abbrev pub filled : List ℕ → Cache

@@ -6,16 +6,16 @@ use mathlib.Core.Bool.{Bool, true, false, not}
 use mathlib.Core.List.{List, [], _∷_}
 use lib.ListN.{length, getD, set}
 use lib.Dec.{leb, ltb, eqb}
-use Rattle.layout.specs.Numbers.{pick, both, either}
-use Rattle.layout.specs.Layout.{Layout, yield, refuse, _>>=_, _>>_, position, raw, field, check, need}
-use Rattle.layout.specs.Fields.{exactly, below, address, reference, count, string, no-text}
-use Rattle.layout.specs.declared.Text.{Text}
-use Rattle.layout.specs.declared.Maybe.{Maybe}
-use Rattle.layout.specs.declared.Maybe.the-variants.{Just, Nothing}
-use Rattle.reading.specs.Reading
-unfoldable pub use Rattle.reading.specs.Reading.{limit, ended}
-pub use Rattle.reading.specs.Reading.{capacity, over, item, go, halt}
-use Rattle.phd.specs.declared.classes.Cache.{Cache}
+use Rattle.decode.specs.Numbers.{pick, both, either}
+use Rattle.decode.specs.Layout.{Layout, yield, refuse, _>>=_, _>>_, position, raw, field, check, need}
+use Rattle.decode.specs.Fields.{exactly, below, address, reference, count, string, no-text}
+use Rattle.decode.specs.declared.Text.{Text}
+use Rattle.decode.specs.declared.Maybe.{Maybe}
+use Rattle.decode.specs.declared.Maybe.the-variants.{Just, Nothing}
+use Rattle.reader.specs.Reader
+unfoldable pub use Rattle.reader.specs.Reader.{limit, ended}
+pub use Rattle.reader.specs.Reader.{capacity, over, item, go, halt}
+use Rattle.phd.specs.declared.cache.Cache.{Cache}
 use Rattle.phd.specs.declared.Facts.{Facts}
 use Rattle.phd.specs.declared.Form.{Form}
 use Rattle.phd.specs.declared.Form.the-variants.{Short, Medium, Long, Class, ObjectArray, Primitive, LongPrimitive}
@@ -99,7 +99,7 @@ no-facts = record { word = 0; hashed = false; openj9 = false; vm = no-text }
 -- ---- the cache of classes: four slots, filled in turn, 0, 1, 2, 3, 0 and on
 
 -- What slot i holds after the class words ws were put, the last of them first: the last whose number, from 0, is i modulo 4, if there is
--- one. So it is of the cache that follows (`ClassCache.slot-in-turn`), in every reading (phd_read, `Promises.slots-in-turn`).
+-- one. So it is of the cache that follows (`ClassCache.slot-in-turn`), in every reading (phd_read, `ReadTheorems.slots-in-turn`).
 unfoldable pub in-turn : List ℕ → ℕ → Maybe
 in-turn [] i = Nothing
 in-turn (w ∷ ws) i = pick (eqb (length ws % 4) i) (Just w) (in-turn ws i)
@@ -275,7 +275,7 @@ carried a c = record { address = a; cache = c }
 
 -- What comes next: the end tag, or a record with its row, its references, where they are, and its address and the cache after it.
 abbrev pub Item : Type 0
-Item = Reading.Item Span Before
+Item = Reader.Item Span Before
 
 -- the fields from the reference count on, and the record whole
 unfoldable pub linked : ℕ → Cache → Origin → ℕ → ℕ → Shape → Front → Middle → Text → Layout Item
@@ -315,11 +315,11 @@ entry h before c index = do
 
 -- ---- a reading
 
--- The format: the reading of its dumps, and what holds of any format's, are those of `reading`.
+-- The format: the reading of its dumps, and what holds of any format's, are those of `reader`.
 abbrev pub beginning : Before
 beginning = carried 0 empty
 
-abbrev pub phd : Reading.Format
+abbrev pub phd : Reader.Format
 phd = record {
   Facts = Facts;
   Context = Before;
@@ -332,27 +332,27 @@ phd = record {
 
 -- The state between records, what a reading gives, and what a record does.
 abbrev pub State : Type 0
-State = Reading.State phd
+State = Reader.State phd
 
 abbrev pub Result : Type 0
-Result = Reading.Result phd
+Result = Reader.Result phd
 
 abbrev pub Next : Type 0
-Next = Reading.Next phd
+Next = Reader.Next phd
 
 -- one record of a dump; record after record; the state before the first record; a reading that stops before the records
 abbrev pub step : Facts → List ℕ → ℕ → ℕ → State → Next
-step h s R F = Reading.step phd h s (Reading.capacity R F)
+step h s R F = Reader.step phd h s (Reader.capacity R F)
 
 abbrev pub records : ℕ → Facts → List ℕ → ℕ → ℕ → State → Result
-records f h s R F = Reading.records phd f h s (Reading.capacity R F)
+records f h s R F = Reader.records phd f h s (Reader.capacity R F)
 
 abbrev pub first : ℕ → State
-first = Reading.first phd beginning
+first = Reader.first phd beginning
 
 abbrev pub nothing : ℕ → ℕ → Result
-nothing = Reading.nothing phd
+nothing = Reader.nothing phd
 
 -- What reading the bytes s gives, with R numbers of room for rows and F for references.
 abbrev pub reading : List ℕ → ℕ → ℕ → Result
-reading s R F = Reading.reading phd s (Reading.capacity R F)
+reading s R F = Reader.reading phd s (Reader.capacity R F)

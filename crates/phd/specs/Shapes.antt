@@ -7,8 +7,8 @@ use Prim.Native.Nat.{ℕ, _+_, _*_, _/_, _%_, _≤_, _<_}
 use native.Mathlib.Nat.{pow-le-pow-right, one-le-pow, mul-le-mul-left, mul-one}
 use native.Mathlib.Omega.{arith}
 use lib.Dec.{leb, ltb, eqb}
-use Rattle.layout.specs.Numbers.{pick}
-use Rattle.layout.specs.Values.{one-most}
+use Rattle.decode.specs.Numbers.{pick}
+use Rattle.decode.specs.Values.{one-most}
 use Rattle.table.specs.declared.Row.{Row}
 use Rattle.phd.specs.Phd.{bit, tagged, width, shape, hash-bytes}
 use Rattle.phd.specs.declared.Shape.{Shape}

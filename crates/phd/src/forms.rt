@@ -2,19 +2,19 @@
 ghost use mathlib.Core.Path.{_≡_};
 ghost use Prim.Native.Nat.{_<_, _≤_};
 ghost use lib.ListN.{length};
-ghost use Rattle.layout.specs.Layout.{run};
-ghost use Rattle.layout.specs.Fields.{outcome};
+ghost use Rattle.decode.specs.Layout.{run};
+ghost use Rattle.decode.specs.Fields.{outcome};
 ghost use Rattle.phd.specs.Phd.{bit as bitOf, width, highest, tagged as taggedOf, known-class, moved-bit, hashed-bit, flag-byte, hash-kind, hash-bytes, shaped as shapedOf, shape, there as thereOf};
-ghost use Rattle.layout.specs.Numbers.{pick};
+ghost use Rattle.decode.specs.Numbers.{pick};
 ghost use Rattle.phd.specs.Shapes.{Word};
 use super::Cache;
 use super::Facts;
 use super::Form;
 use super::Shape;
 use super::Tagged;
-use layout::Maybe;
-use layout::Piece;
-use layout::Stop;
+use decode::Maybe;
+use decode::Piece;
+use decode::Stop;
 
 // Whether the bit of the value m is set.
 pub fn bit(m: u64, x: u64) -> bool
@@ -110,7 +110,7 @@ pub fn flags(s: &[u8], at: usize, facts: Facts, tag: u64) -> Piece
     if 0x20 <= tag {
         return Piece::Is(0, at);
     }
-    match layout::field(s, at, 1) {
+    match decode::field(s, at, 1) {
         Piece::Is(f, next) => {
             if facts.hashed {
                 if is_moved(tag, f) {

@@ -1,12 +1,12 @@
 // The portable heap dump: the types that its header and its records are read into, the class cache, tags, flag bytes and
 // shapes. The definition of the format is specs/Phd.antt; the functions here are proved equal to its parts.
-use layout::Text;
+use decode::Text;
 
-pub mod classes;
+pub mod cache;
 pub mod forms;
-pub mod opening;
+pub mod magic;
 
-pub use classes::Cache;
+pub use cache::Cache;
 
 // What the header says: W (32 or 64), all objects hashed, from OpenJ9, and the VM string.
 pub struct Facts {

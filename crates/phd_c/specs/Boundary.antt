@@ -6,7 +6,7 @@ use mathlib.Core.List.{List, [], _∷_}
 use Prim.Native.Nat.{ℕ}
 use lib.Dec.{ltb}
 use lib.ListN.{getD, take, drop}
-use Rattle.layout.specs.Numbers.{pick}
+use Rattle.decode.specs.Numbers.{pick}
 use Rattle.phd.specs.declared.Facts.{Facts}
 use Rattle.phd_read.specs.declared.Reading.{Reading}
 use Rattle.table.specs.declared.Answer.{Answer}

@@ -5,13 +5,13 @@ ghost use mathlib.Core.Path.{_≡_};
 ghost use lib.ListN.{length};
 ghost use Rattle.table.specs.Buffer.{stored};
 ghost use Rattle.phd.specs.Phd.{reading};
-ghost use Rattle.phd_read.specs.Answer.{answer};
+ghost use Rattle.phd_read.specs.ReadContract.{answer};
 ghost use Rattle.phd_write.specs.Write.{writing, write-sizing};
-ghost use Rattle.classic.specs.Classic.{texting, text-sizing};
+ghost use Rattle.classic.specs.ClassicText.{texting, text-sizing};
 ghost use Rattle.phd_c.specs.Boundary.{flag as flagOf, header as headerOf, read-facts, written-facts};
-use layout::Text;
+use decode::Text;
+use phd_check::Header;
 use phd_read::Reading;
-use phd_rows::Header;
 use table::Answer;
 
 // A flag as a number.
@@ -156,7 +156,7 @@ pub extern "C" fn phd_text_size(
     ensures is { λ r. ⌜ r ≡ text-sizing (headerOf (now (header .entry))) (now (names .entry)) (now (refs .entry)) (now (rows .entry)) .reply ⌝ }
     ensures facts { λ _. ⌜ now (facts .exit) ≡ written-facts (text-sizing (headerOf (now (header .entry))) (now (names .entry)) (now (refs .entry)) (now (rows .entry))) ⌝ }
 {
-    let w = classic_text::text_size(header_of(header), rows, refs, names);
+    let w = classic_write::text_size(header_of(header), rows, refs, names);
     *facts = of_written(w);
     w.reply
 }
@@ -175,7 +175,7 @@ pub extern "C" fn phd_text(
     ensures out { λ _. ⌜ now (out .exit) ≡ stored (now (out .entry)) (texting (headerOf (now (header .entry))) (now (names .entry)) (now (refs .entry)) (now (rows .entry)) (length (now (out .entry))) .bytes) ⌝ }
     ensures facts { λ _. ⌜ now (facts .exit) ≡ written-facts (texting (headerOf (now (header .entry))) (now (names .entry)) (now (refs .entry)) (now (rows .entry)) (length (now (out .entry))) .answer) ⌝ }
 {
-    let w = classic_text::text(header_of(header), rows, refs, names, out);
+    let w = classic_write::text(header_of(header), rows, refs, names, out);
     *facts = of_written(w);
     w.reply
 }

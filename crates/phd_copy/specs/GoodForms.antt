@@ -11,21 +11,21 @@ use lib.Dec.{leb, eqb}
 use lib.ListN.{length, take, drop, length-append}
 use lib.Seq.{take-all, drop-at}
 use borrow.Author.Tests.{le-leb, lt-ltb, eq-eqb, ne-eqb}
-use Rattle.layout.specs.Numbers.{pick, within}
-use Rattle.layout.specs.Values.{pick-either}
-use Rattle.layout.specs.declared.Maybe.the-variants.{Just}
+use Rattle.decode.specs.Numbers.{pick, within}
+use Rattle.decode.specs.Values.{pick-either}
+use Rattle.decode.specs.declared.Maybe.the-variants.{Just}
 use Rattle.table.specs.Rows.{refs-of, name-of}
 use Rattle.table.specs.declared.Row.{Row}
 use Rattle.phd.specs.Phd.{bit, highest, tagged, known-class, moved-bit, hashed-bit, hash-kind, hash-bytes, shape}
 use Rattle.phd.specs.Shapes.{Word, word-some, tag-of-form}
-use Rattle.phd.specs.declared.classes.Cache.{Cache}
+use Rattle.phd.specs.declared.cache.Cache.{Cache}
 use Rattle.phd.specs.declared.Facts.{Facts}
 use Rattle.phd.specs.declared.Form.{Form}
 use Rattle.phd.specs.declared.Form.the-variants.{Short, Medium, Long, Class, ObjectArray, Primitive, LongPrimitive}
 use Rattle.phd.specs.declared.Tagged.the-variants.{Begins}
-use Rattle.phd_rows.specs.Good.{every, good-hash, good-class, no-name, good-object, good-array, good-primitive, good-kind, good-place, good-span, good-numbers, good-ref, good-refs, good-row}
-use Rattle.phd_rows.specs.Kept.{GoodRefs}
-use Rattle.phd_copy.specs.GoodRead.{RowOk}
+use Rattle.phd_check.specs.GoodRows.{every, good-hash, good-class, no-name, good-object, good-array, good-primitive, good-kind, good-place, good-span, good-numbers, good-ref, good-refs, good-row}
+use Rattle.phd_check.specs.WellFormed.{GoodRefs}
+use Rattle.phd_copy.specs.ReadRows.{RowOk}
 
 -- ---- the tests of a row
 

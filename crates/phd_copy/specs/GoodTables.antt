@@ -9,33 +9,33 @@ use mathlib.Core.List.{List, [], _∷_, _++_}
 use lib.Dec.{eqb}
 use lib.ListN.{length, getD, drop, length-append, length-drop}
 use lib.Seq.{take-append-le, drop-append-le}
-use Rattle.layout.specs.Numbers.{within}
-use Rattle.layout.specs.Layout.{whole, run}
-use Rattle.layout.specs.Values.{Gives, gives-yield, gives-then, gives-last, gives-when, gives-pick, gives-need}
-use Rattle.layout.specs.ByteValues.{Bytes}
-use Rattle.layout.specs.declared.Maybe.the-variants.{Just}
+use Rattle.decode.specs.Numbers.{within}
+use Rattle.decode.specs.Layout.{whole, run}
+use Rattle.decode.specs.Values.{Gives, gives-yield, gives-then, gives-last, gives-when, gives-pick, gives-need}
+use Rattle.decode.specs.ByteValues.{Bytes}
+use Rattle.decode.specs.declared.Maybe.the-variants.{Just}
 use Rattle.table.specs.Table.{row-width, whole-more}
 use Rattle.table.specs.Rows.{row-at, rows-of, rows-last, refs-of, name-of}
 use Rattle.table.specs.Sums.{sum, sum-last}
 use Rattle.table.specs.declared.Row.{Row}
 use Rattle.table.specs.declared.Search.the-variants.{NotFound}
 use Rattle.phd.specs.Phd.{highest, tagged, known-class, shape, hash-kind, Before, Item, over, item, record-of, from-tag, entry, State, phd, carried}
-use Rattle.phd.specs.Origins.{at-place, entry-at}
+use Rattle.phd.specs.EntryLaws.{at-place, entry-at}
 use Rattle.phd.specs.Shapes.{Word}
-use Rattle.phd.specs.declared.classes.Cache.{Cache}
+use Rattle.phd.specs.declared.cache.Cache.{Cache}
 use Rattle.phd.specs.declared.Facts.{Facts}
 use Rattle.phd.specs.declared.Form.{Form}
 use Rattle.phd.specs.declared.Origin.{Origin}
 use Rattle.phd.specs.declared.Span.{Span}
 use Rattle.phd.specs.declared.Tagged.the-variants.{Begins}
 use Rattle.phd_counts.specs.Counts.{count-of}
-use Rattle.phd_rows.specs.Good.{every, good-hash, good-kind, good-place, good-numbers, good-refs, good-row, first-bad, bad-of}
-use Rattle.phd_rows.specs.Kept.{every-at, first-by, lent-of, none-bad}
-use Rattle.phd_read.specs.Links.{entry-forth, links-stand}
-use Rattle.phd_read.specs.Lawful.{always}
-use Rattle.phd_read.specs.ClassesRead.{tag-at, puts-class, gives-formed, cache-after}
-use Rattle.reading.specs.Reading.{found, onto}
-use Rattle.phd_copy.specs.GoodRead.{GoodBefore, put-most, known-most, Rowed, gives-fields}
+use Rattle.phd_check.specs.GoodRows.{every, good-hash, good-kind, good-place, good-numbers, good-refs, good-row, first-bad, bad-of}
+use Rattle.phd_check.specs.WellFormed.{every-at, first-by, lent-of, none-bad}
+use Rattle.phd_read.specs.RecordProperties.{entry-forth, links-stand}
+use Rattle.phd_read.specs.PhdLaws.{always}
+use Rattle.phd_read.specs.CacheTheorems.{tag-at, puts-class, gives-formed, cache-after}
+use Rattle.reader.specs.Reader.{found, onto}
+use Rattle.phd_copy.specs.ReadRows.{GoodBefore, put-most, known-most, Rowed, gives-fields}
 use Rattle.phd_copy.specs.GoodForms.{span-good, row-good}
 
 -- ---- rows one after another

@@ -5,7 +5,7 @@ ghost use Prim.Native.Nat.{_*_};
 ghost use lib.ListN.{take};
 ghost use Rattle.table.specs.Table.{row-width};
 ghost use Rattle.table.specs.Rows.{rows-of};
-ghost use Rattle.phd_rows.specs.Good.{AllRight};
+ghost use Rattle.phd_check.specs.GoodRows.{AllRight};
 use phd_read::Reading;
 
 // Calls `phd_read::read`. If the header was read, the header and the rows stored pass every check, with the dump as name bytes.

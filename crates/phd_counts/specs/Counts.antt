@@ -3,7 +3,7 @@
 use Prim.Native.Nat.{ℕ, _+_, _-_}
 use mathlib.Core.List.{List}
 use lib.ListN.{length}
-use Rattle.layout.specs.Numbers.{pick}
+use Rattle.decode.specs.Numbers.{pick}
 use Rattle.table.specs.Rows.{of-kind}
 use Rattle.table.specs.Sums.{sum}
 use Rattle.table.specs.declared.Row.{Row}

@@ -2,9 +2,9 @@
 // Each function's contract is an equation with a definition of specs/Counts.antt.
 ghost use mathlib.Core.Path.{_≡_};
 ghost use Rattle.phd_counts.specs.Counts.{nulls-of, tally-of, counted as countedOf};
-ghost use Rattle.phd_counts.specs.Counting.{Few, Small};
+ghost use Rattle.phd_counts.specs.CountLoop.{Few, Small};
 ghost use Rattle.table.specs.Rows.{rows-of};
-use layout::choice;
+use decode::choice;
 use table::Row;
 
 // How many rows are of each kind, and how many rows, references and nulls there are in all.

@@ -3,18 +3,18 @@
 ghost use mathlib.Core.Path.{_≡_};
 ghost use Prim.Native.Nat.{_+_, _≤_};
 ghost use lib.ListN.{length, take, drop};
-ghost use Rattle.layout.specs.Numbers.{pick};
-ghost use Rattle.layout.specs.Layout.{run};
-ghost use Rattle.layout.specs.Fields.{outcome, text-outcome};
+ghost use Rattle.decode.specs.Numbers.{pick};
+ghost use Rattle.decode.specs.Layout.{run};
+ghost use Rattle.decode.specs.Fields.{outcome, text-outcome};
 ghost use Rattle.phd.specs.Phd.{bit as bitOf, same, opening, opening-bytes, preamble as preambleOf, after-vm, header-records, header-facts, header};
-ghost use Rattle.phd_header.specs.Header.{header-outcome, passed-outcome};
-use layout::Piece;
-use layout::Stop;
-use layout::Text;
-use layout::TextRead;
+ghost use Rattle.phd_header.specs.HeaderOutcomes.{header-outcome, passed-outcome};
+use decode::Piece;
+use decode::Stop;
+use decode::Text;
+use decode::TextRead;
 use phd::Facts;
 use phd::forms::bit;
-use phd::opening::opening_byte;
+use phd::magic::opening_byte;
 
 // What the header says, with the place after it; or why reading stops in it.
 pub enum HeaderRead {
@@ -62,7 +62,7 @@ pub fn opening_bytes(s: &[u8], at: usize) -> Passed
 fn preamble(s: &[u8]) -> Piece
     ensures { λ r. ⌜ outcome r ≡ run preambleOf (now (s .entry)) 0 ⌝ }
 {
-    let len = layout::exactly(s, 0, 2, 18, 3);
+    let len = decode::exactly(s, 0, 2, 18, 3);
     let Piece::Is(_, at) = len else {
         return len;
     };
@@ -75,15 +75,15 @@ fn preamble(s: &[u8]) -> Piece
             return Piece::Stops(w);
         }
     }
-    let version = layout::exactly(s, here, 4, 6, 4);
+    let version = decode::exactly(s, here, 4, 6, 4);
     let Piece::Is(_, at) = version else {
         return version;
     };
-    let flags = layout::below(s, at, 4, 8, 5);
+    let flags = decode::below(s, at, 4, 8, 5);
     let Piece::Is(bits, at) = flags else {
         return flags;
     };
-    match layout::exactly(s, at, 1, 1, 6) {
+    match decode::exactly(s, at, 1, 1, 6) {
         Piece::Is(_, end) => Piece::Is(bits, end),
         Piece::Stops(w) => Piece::Stops(w),
     }
@@ -94,7 +94,7 @@ fn after_vm(s: &[u8], at: usize) -> Passed
     requires { ⌜ at ≤ length (now s) ⌝ }
     ensures { λ r. ⌜ passed-outcome r ≡ run after-vm (now (s .entry)) at ⌝ }
 {
-    match layout::field(s, at, 1) {
+    match decode::field(s, at, 1) {
         Piece::Is(tag, next) => {
             if tag == 4 {
                 return Passed::Stops(Stop::Refused(7));
@@ -115,7 +115,7 @@ fn header_records(s: &[u8], at: usize) -> TextRead
 {
     let tag: u64;
     let here: usize;
-    match layout::field(s, at, 1) {
+    match decode::field(s, at, 1) {
         Piece::Is(x, next) => {
             tag = x;
             here = next;
@@ -137,7 +137,7 @@ fn header_records(s: &[u8], at: usize) -> TextRead
     if tag != 4 {
         return TextRead::Stops(Stop::Refused(6));
     }
-    let vm = layout::string(s, here, 0x20, 0);
+    let vm = decode::string(s, here, 0x20, 0);
     let TextRead::Is(text, next) = vm else {
         return vm;
     };
@@ -185,7 +185,7 @@ pub fn read_header(s: &[u8]) -> HeaderRead
         }
     }
     match header_records(s, here) {
-        TextRead::Is(vm, at) => match layout::exactly(s, at, 1, 2, 6) {
+        TextRead::Is(vm, at) => match decode::exactly(s, at, 1, 2, 6) {
             Piece::Is(_, end) => HeaderRead::Is(header_facts(flags, vm), end),
             Piece::Stops(w) => HeaderRead::Stops(w),
         },

@@ -5,10 +5,10 @@ use Prim.Native.Nat.{ℕ, suc}
 use lib.ListN.{length}
 use Rattle.phd.specs.Phd.{limit, phd, ended, records, first}
 use Rattle.phd.specs.declared.Facts.{Facts}
-use Rattle.reading.specs.Stepping.{ends-as, rows-are, refs-are}
-use Rattle.phd_read.specs.Answer.{answer}
-use Rattle.phd_read.specs.Lawful.{lawful}
-use Rattle.phd_read.specs.Stepping.{Stayed, Halfway}
+use Rattle.reader.specs.TableSteps.{ends-as, rows-are, refs-are}
+use Rattle.phd_read.specs.ReadContract.{answer}
+use Rattle.phd_read.specs.PhdLaws.{lawful}
+use Rattle.phd_read.specs.PhdSteps.{Stayed, Halfway}
 use Rattle.phd_read.specs.declared.records.Cursor.{Cursor}
 
 -- the answer, where a step ended the reading

@@ -5,20 +5,20 @@ use Prim.Native.Nat.{ℕ, _+_, _*_, _≤_, _<_}
 use native.Mathlib.Omega.{arith}
 use lib.ListN.{length}
 use lib.Seq.{sets}
-use Rattle.layout.specs.Layout.{Outcome, whole, stops, run, reply-of, missing-of}
-use Rattle.layout.specs.declared.Stop.{Stop}
+use Rattle.decode.specs.Layout.{Outcome, whole, stops, run, reply-of, missing-of}
+use Rattle.decode.specs.declared.Stop.{Stop}
 use Rattle.table.specs.Table.{row-width}
 use Rattle.phd.specs.Phd.{highest, references, carried, Item, over, item, entry, phd}
-use Rattle.phd.specs.Origins.{at-place}
+use Rattle.phd.specs.EntryLaws.{at-place}
 use Rattle.phd.specs.declared.Facts.{Facts}
-use Rattle.phd_record.specs.Found.{found-of, found-item}
+use Rattle.phd_record.specs.RecordOutcomes.{found-of, found-item}
 use Rattle.phd_record.specs.declared.Found.{Found}
 use Rattle.phd_record.specs.declared.What.the-variants.{Record}
-use Rattle.reading.specs.Stepping as Any
-use Rattle.phd_read.specs.Lawful.{lawful}
-use Rattle.phd_read.specs.Links.{Stands, links-stand}
-use Rattle.phd_read.specs.Stored.{Whole, values-of}
-use Rattle.phd_read.specs.Stepping.{advanced, Fits, Went, Stayed}
+use Rattle.reader.specs.TableSteps as Any
+use Rattle.phd_read.specs.PhdLaws.{lawful}
+use Rattle.phd_read.specs.RecordProperties.{Stands, links-stand}
+use Rattle.phd_read.specs.StoredRefs.{Whole, values-of}
+use Rattle.phd_read.specs.PhdSteps.{advanced, Fits, Went, Stayed}
 use Rattle.phd_read.specs.declared.records.Cursor.{Cursor}
 
 module _ (h : Facts) {s rows refs : List ℕ} {k : Cursor} (fits : Fits s rows refs k) where

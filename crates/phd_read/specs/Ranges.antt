@@ -8,12 +8,12 @@ use mathlib.Core.List.{List, [], _∷_, _++_}
 use lib.ListN.{length}
 use lib.Dec.{leb}
 use native.Mathlib.Omega.{arith}
-use Rattle.layout.specs.Numbers.{both, within}
+use Rattle.decode.specs.Numbers.{both, within}
 use Rattle.phd.specs.Phd.{highest, State, phd, capacity, reading}
 use Rattle.table.specs.Table.{row-count, number, number-in}
-use Rattle.phd_read.specs.Links.{links-stand}
-use Rattle.phd_read.specs.Offsets.{reading-traced}
-use Rattle.reading.specs.Steps.{tables-hold}
+use Rattle.phd_read.specs.RecordProperties.{links-stand}
+use Rattle.phd_read.specs.RowTags.{reading-traced}
+use Rattle.reader.specs.Steps.{tables-hold}
 
 -- ---- references
 

@@ -8,25 +8,25 @@ use mathlib.Core.Logic.{_⊎_, inl, inr}
 use mathlib.Core.List.{List, [], _∷_, _++_}
 use lib.ListN.{length}
 use lib.Dec.{eqb, lit<}
-use Rattle.layout.specs.Layout.{Layout, Outcome, whole, stops, run}
-use Rattle.layout.specs.Fields.{no-text}
-use Rattle.layout.specs.Values.{Refuses}
-use Rattle.layout.specs.Takes.{Takes, takes-yield, takes-refuse, takes-then, takes-last, takes-when, takes-by, takes-field, takes-raw, takes-check, takes-exactly, takes-below}
+use Rattle.decode.specs.Layout.{Layout, Outcome, whole, stops, run}
+use Rattle.decode.specs.Fields.{no-text}
+use Rattle.decode.specs.Values.{Refuses}
+use Rattle.decode.specs.Takes.{Takes, takes-yield, takes-refuse, takes-then, takes-last, takes-when, takes-by, takes-field, takes-raw, takes-check, takes-exactly, takes-below}
 use Rattle.table.specs.Table.{row-width, row-count, row-of, number, number-in}
 use Rattle.table.specs.Rows.{row-at, bare}
 use Rattle.phd.specs.Phd.{opening, opening-bytes, preamble, header-records, header, empty, put, Before, item, entry, State, phd, capacity, reading}
-use Rattle.phd.specs.Cases.{computing}
-use Rattle.phd_header.specs.Header.{header-word}
+use Rattle.phd.specs.ReadCases.{computing}
+use Rattle.phd_header.specs.HeaderOutcomes.{header-word}
 use Rattle.phd.specs.Shapes.{Word, record-least, record-most}
-use Rattle.phd.specs.declared.classes.Cache.{Cache}
+use Rattle.phd.specs.declared.cache.Cache.{Cache}
 use Rattle.phd.specs.declared.Facts.{Facts}
 use Rattle.phd.specs.declared.Span.{Span}
-use Rattle.reading.specs.DumpBounds.{LeastBytes}
-use Rattle.reading.specs.DumpBounds as Any
-use Rattle.phd_read.specs.LaidOut.{LaidOut, read-row, laid-out}
-use Rattle.phd_read.specs.Lawful.{lawful, always}
-use Rattle.phd_read.specs.Offsets.{reading-traced}
-use Rattle.phd_read.specs.Replies.{Fine, known, header-fine, entry-fine}
+use Rattle.reader.specs.DumpBounds.{LeastBytes}
+use Rattle.reader.specs.DumpBounds as Any
+use Rattle.phd_read.specs.RecordLayout.{LaidOut, read-row, laid-out}
+use Rattle.phd_read.specs.PhdLaws.{lawful, always}
+use Rattle.phd_read.specs.RowTags.{reading-traced}
+use Rattle.phd_read.specs.ReadReplies.{Fine, known, header-fine, entry-fine}
 
 -- ---- the bounds
 

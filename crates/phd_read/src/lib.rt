@@ -4,8 +4,8 @@ ghost use mathlib.Core.Path.{_≡_};
 ghost use lib.ListN.{length};
 ghost use Rattle.phd.specs.Phd.{reading, nothing as nothingOf};
 ghost use Rattle.table.specs.Buffer.{stored};
-ghost use Rattle.phd_read.specs.Answer.{answer};
-use layout::Text;
+ghost use Rattle.phd_read.specs.ReadContract.{answer};
+use decode::Text;
 use phd::Facts;
 use phd_header::HeaderRead;
 
@@ -53,11 +53,11 @@ pub fn read(dump: &[u8], rows: &mut [u64], refs: &mut [u64]) -> Reading
     ensures rows { λ _. ⌜ now (rows .exit) ≡ stored (now (rows .entry)) (reading (now (dump .entry)) (length (now (rows .entry))) (length (now (refs .entry))) .rows) ⌝ }
     ensures refs { λ _. ⌜ now (refs .exit) ≡ stored (now (refs .entry)) (reading (now (dump .entry)) (length (now (rows .entry))) (length (now (refs .entry))) .refs) ⌝ }
 {
-    if reading::LIMIT < dump.len() {
+    if reader::LIMIT < dump.len() {
         return nothing(2, 0);
     }
     match phd_header::read_header(dump) {
         HeaderRead::Is(facts, at) => records::read_records(dump, facts, at, rows, refs),
-        HeaderRead::Stops(w) => nothing(layout::reply_of(w), layout::missing_of(w)),
+        HeaderRead::Stops(w) => nothing(decode::reply_of(w), decode::missing_of(w)),
     }
 }

@@ -2,22 +2,22 @@
 ghost use mathlib.Core.Path.{_≡_};
 ghost use Prim.Native.Nat.{suc, _+_, _*_, _^_, _<_, _≤_};
 ghost use lib.ListN.{length};
-ghost use Rattle.layout.specs.Layout.{run};
+ghost use Rattle.decode.specs.Layout.{run};
 ghost use Rattle.table.specs.Table.{row-width};
 ghost use Rattle.phd.specs.Phd.{limit, entry, records, first};
 ghost use Rattle.phd.specs.Shapes.{Word};
-ghost use Rattle.phd_record.specs.Found.{found-of};
+ghost use Rattle.phd_record.specs.RecordOutcomes.{found-of};
 ghost use Rattle.phd_record.specs.declared.What.the-variants.{Record};
 ghost use Rattle.table.specs.Buffer.{stored};
-ghost use Rattle.phd_read.specs.Answer.{answer};
-ghost use Rattle.phd_read.specs.Stepping.{Fits, Went, Does, advanced};
+ghost use Rattle.phd_read.specs.ReadContract.{answer};
+ghost use Rattle.phd_read.specs.PhdSteps.{Fits, Went, Does, advanced};
 use super::Reading;
 use super::tables;
 use phd::Cache;
 use phd::Facts;
 use phd_record::Found;
 use phd_record::What;
-use reading::StepResult;
+use reader::StepResult;
 
 // Where a reading stands between records: the place of the next tag, the address of the record before, the cache, and how
 // many rows and references are stored.
@@ -132,7 +132,7 @@ pub fn step(s: &[u8], facts: Facts, rows: &mut [u64], refs: &mut [u64], k: Curso
         },
         What::Record(next) => admit(s, facts, rows, refs, k, next, found),
         What::Stops(w) => Stepped {
-            how: StepResult::End(layout::reply_of(w), k.at, layout::missing_of(w)),
+            how: StepResult::End(decode::reply_of(w), k.at, decode::missing_of(w)),
             cursor: k,
         },
     }

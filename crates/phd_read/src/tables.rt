@@ -4,11 +4,11 @@ ghost use mathlib.Core.Bool.{true};
 ghost use Prim.Native.Nat.{_+_, _*_, _^_, _≤_, _<_};
 ghost use lib.ListN.{length};
 ghost use lib.Seq.{sets};
-ghost use Rattle.layout.specs.Layout.{run};
-ghost use Rattle.layout_quick.specs.Quick.{clear};
+ghost use Rattle.decode.specs.Layout.{run};
+ghost use Rattle.decode_fast.specs.RefsInRange.{clear};
 ghost use Rattle.phd.specs.Phd.{references};
-ghost use Rattle.phd_read.specs.Stored.{Whole, values-of};
-use layout::Piece;
+ghost use Rattle.phd_read.specs.StoredRefs.{Whole, values-of};
+use decode::Piece;
 
 // Stores count references of a record whose address is clear of both ends, where four bytes more follow.
 fn put_clear(
@@ -28,7 +28,7 @@ fn put_clear(
     let mut left = count;
     let mut place = to;
     while 0 < left {
-        table[place] = layout_quick::placed(s, here, w, base);
+        table[place] = decode_fast::placed(s, here, w, base);
         here += w;
         place += 1;
         left -= 1;
@@ -50,7 +50,7 @@ pub fn put_refs(
     requires { ⌜ Whole (run (references w base top count) (now s) at) ⌝ }
     ensures { λ _. ⌜ now (table .exit) ≡ sets (now (table .entry)) to (values-of (run (references w base top count) (now (s .entry)) at)) ⌝ }
 {
-    if (1 <= w) & (count < 0x1000_0000) & layout_quick::clear(w, base, top) {
+    if (1 <= w) & (count < 0x1000_0000) & decode_fast::clear(w, base, top) {
         if count as usize * w + 4 <= s.len() - at {
             put_clear(s, at, w, base, top, count, table, to);
             return;
@@ -60,7 +60,7 @@ pub fn put_refs(
     let mut left = count;
     let mut place = to;
     while 0 < left {
-        match layout::reference(s, here, w, base, top) {
+        match decode::reference(s, here, w, base, top) {
             Piece::Is(a, next) => {
                 table[place] = a;
                 here = next;

@@ -6,15 +6,15 @@ use Prim.Native.Nat.{ℕ, _+_, _*_, _/_, _≤_, _<_}
 use native.Mathlib.Omega.{arith}
 use lib.ListN.{length, take, drop}
 use borrow.Author.Tests.{le-leb, lt-leb}
-use Rattle.layout.specs.Numbers.{both, either, value, signed, moved, counted}
-use Rattle.layout.specs.Layout.{whole, stops, run, field, run-then, run-yield, run-position, run-field, run-check, run-need}
-use Rattle.layout.specs.Fields.{no-text}
-use Rattle.layout.specs.declared.Maybe.the-variants.{Just}
-use Rattle.layout.specs.declared.Stop.the-variants.{Refused}
-use Rattle.layout.specs.declared.Text.{Text}
-use Rattle.layout_quick.specs.Quick.{clear}
+use Rattle.decode.specs.Numbers.{both, either, value, signed, moved, counted}
+use Rattle.decode.specs.Layout.{whole, stops, run, field, run-then, run-yield, run-position, run-field, run-check, run-need}
+use Rattle.decode.specs.Fields.{no-text}
+use Rattle.decode.specs.declared.Maybe.the-variants.{Just}
+use Rattle.decode.specs.declared.Stop.the-variants.{Refused}
+use Rattle.decode.specs.declared.Text.{Text}
+use Rattle.decode_fast.specs.RefsInRange.{clear}
 use Rattle.phd.specs.Phd.{highest, tagged, formed, known-class, moved-bit, hashed-bit, flag-byte, hash-kind, hash-bytes, shape, front, middle, class-name, link-count, references, links, true-length, tail, linked, fields, record-of}
-use Rattle.phd.specs.References.{references-none}
+use Rattle.phd.specs.RefList.{references-none}
 use Rattle.phd.specs.declared.Facts.{Facts}
 use Rattle.phd.specs.declared.Form.the-variants.{ObjectArray, Primitive}
 use Rattle.phd.specs.declared.Tagged.the-variants.{Begins}
@@ -23,10 +23,10 @@ use Rattle.phd.specs.declared.Shape.{Shape}
 use Rattle.phd.specs.declared.Front.{Front}
 use Rattle.phd.specs.declared.Middle.{Middle}
 use Rattle.phd.specs.declared.Tail.{Tail}
-use Rattle.phd.specs.declared.classes.Cache.{Cache}
-use Rattle.phd_record.specs.Found.{found-of, recorded}
+use Rattle.phd.specs.declared.cache.Cache.{Cache}
+use Rattle.phd_record.specs.RecordOutcomes.{found-of, recorded}
 use Rattle.phd_record.specs.Arrays.{ArrayShape, behind}
-use Rattle.phd_record.proofs.QuickLaws.{reads-field, run-address, run-count, lacks-field, lacks-count, lacks-name, lacks-links, lacks-length, clear-references, front-whole, middle-whole, tail-whole, fields-whole, unflagged, none-known}
+use Rattle.phd_record.proofs.FastRecordLaws.{reads-field, run-address, run-count, lacks-field, lacks-count, lacks-name, lacks-links, lacks-length, clear-references, front-whole, middle-whole, tail-whole, fields-whole, unflagged, none-known}
 
 -- ---- parts of 4 bytes, and a hash
 

@@ -1,4 +1,4 @@
 -- Laws that the proofs of this crate's functions cite.
-pub mod Laws
-pub mod QuickLaws
+pub mod RefsLaws
+pub mod FastRecordLaws
 pub mod ArrayLaws

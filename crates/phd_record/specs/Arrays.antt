@@ -1,12 +1,12 @@
 -- What is left of a record behind its front part, and the shape of an object array. Assumes nothing.
 use mathlib.Core.Path.{_≡_}
 use Prim.Native.Nat.{ℕ}
-use Rattle.layout.specs.Layout.{Layout, _>>=_}
+use Rattle.decode.specs.Layout.{Layout, _>>=_}
 use Rattle.phd.specs.Phd.{Item, hash-bytes, middle, class-name, linked}
 use Rattle.phd.specs.declared.Origin.{Origin}
 use Rattle.phd.specs.declared.Shape.{Shape}
 use Rattle.phd.specs.declared.Front.{Front}
-use Rattle.phd.specs.declared.classes.Cache.{Cache}
+use Rattle.phd.specs.declared.cache.Cache.{Cache}
 
 -- the fields that an object array lacks, and the bytes of its count, size and true length
 pub record ArrayShape (sh : Shape) : Type 0 where

@@ -1,4 +1,4 @@
 -- Found: what the answers of this crate's functions say.
-pub mod Found
-pub mod Taken
+pub mod RecordOutcomes
+pub mod FastPath
 pub mod Arrays

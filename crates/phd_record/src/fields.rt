@@ -2,20 +2,20 @@
 ghost use mathlib.Core.Path.{_≡_};
 ghost use Prim.Native.Nat.{_≤_};
 ghost use lib.ListN.{length};
-ghost use Rattle.layout.specs.Layout.{run};
+ghost use Rattle.decode.specs.Layout.{run};
 ghost use Rattle.phd.specs.Phd.{fields, linked};
 ghost use Rattle.phd.specs.Shapes.{Narrow};
-ghost use Rattle.phd_record.specs.Found.{found-of, recorded as recordedBy};
+ghost use Rattle.phd_record.specs.RecordOutcomes.{found-of, recorded as recordedBy};
 use super::Found;
 use super::What;
 use super::halted;
-use super::links::Checked;
 use super::parts::FrontRead;
 use super::parts::MiddleRead;
 use super::parts::TailRead;
-use layout::Piece;
-use layout::Text;
-use layout::TextRead;
+use super::refs::Checked;
+use decode::Piece;
+use decode::Text;
+use decode::TextRead;
 use phd::Cache;
 use phd::Front;
 use phd::Middle;
@@ -81,7 +81,7 @@ fn read_linked(
         }
         Piece::Stops(w) => return halted(What::Stops(w), cache),
     };
-    let end = match super::links::check_links(s, place, sh.link, v.address, top, n) {
+    let end = match super::refs::check_links(s, place, sh.link, v.address, top, n) {
         Checked::Is(e) => e,
         Checked::Stops(w) => return halted(What::Stops(w), cache),
     };

@@ -3,23 +3,23 @@
 ghost use mathlib.Core.Path.{_≡_};
 ghost use Prim.Native.Nat.{_≤_};
 ghost use lib.ListN.{length};
-ghost use Rattle.layout.specs.Layout.{run};
+ghost use Rattle.decode.specs.Layout.{run};
 ghost use Rattle.phd.specs.Phd.{entry, record-of};
 ghost use Rattle.phd.specs.Shapes.{Word};
-ghost use Rattle.phd_record.specs.Found.{found-of, halted as haltedBy};
-use layout::Maybe;
-use layout::Piece;
-use layout::Stop;
+ghost use Rattle.phd_record.specs.RecordOutcomes.{found-of, halted as haltedBy};
+use decode::Maybe;
+use decode::Piece;
+use decode::Stop;
 use phd::Cache;
 use phd::Facts;
 use phd::Origin;
 use phd::Span;
 use phd::Tagged;
 
+mod fast;
 mod fields;
-mod links;
 mod parts;
-mod quick;
+mod refs;
 
 // What stands at a tag: the end, a record with the place after it, or why reading stops there.
 pub enum What {
@@ -98,12 +98,12 @@ pub fn read_record(
     ensures { λ r. ⌜ r ≡ found-of cache (run (entry facts before cache index) (now (s .entry)) at) ⌝ }
 {
     if 100 <= s.len() - at {
-        let quick = quick::record(s, at, facts, before, cache, index);
+        let quick = fast::record(s, at, facts, before, cache, index);
         if quick.took {
             return quick.found;
         }
     }
-    match layout::field(s, at, 1) {
+    match decode::field(s, at, 1) {
         Piece::Is(tag, next) => {
             if tag == 3 {
                 return halted(What::Over(next), cache);

@@ -2,15 +2,15 @@
 ghost use mathlib.Core.Path.{_≡_};
 ghost use Prim.Native.Nat.{_≤_};
 ghost use lib.ListN.{length};
-ghost use Rattle.layout.specs.Layout.{run};
-ghost use Rattle.layout.specs.Fields.{outcome, text-outcome};
+ghost use Rattle.decode.specs.Layout.{run};
+ghost use Rattle.decode.specs.Fields.{outcome, text-outcome};
 ghost use Rattle.phd.specs.Phd.{front, class-name as classNameOf, link-count as linkCountOf, true-length as trueLengthOf, tail, row, middle};
 ghost use Rattle.phd.specs.Shapes.{Narrow};
-ghost use Rattle.phd_record.specs.Found.{front-outcome, middle-outcome, tail-outcome};
-use layout::Piece;
-use layout::Stop;
-use layout::Text;
-use layout::TextRead;
+ghost use Rattle.phd_record.specs.RecordOutcomes.{front-outcome, middle-outcome, tail-outcome};
+use decode::Piece;
+use decode::Stop;
+use decode::Text;
+use decode::TextRead;
 use phd::Front;
 use phd::Middle;
 use phd::Origin;
@@ -39,21 +39,21 @@ pub fn read_front(s: &[u8], at: usize, top: u64, before: u64, sh: Shape) -> Fron
     ensures { λ r. ⌜ front-outcome r ≡ run (front top before sh) (now (s .entry)) at ⌝ }
 {
     let mut here = at;
-    let address = match layout::address(s, here, sh.gap, before, top) {
+    let address = match decode::address(s, here, sh.gap, before, top) {
         Piece::Is(a, n) => {
             here = n;
             a
         }
         Piece::Stops(w) => return FrontRead::Stops(w),
     };
-    let word = match layout::field(s, here, sh.word) {
+    let word = match decode::field(s, here, sh.word) {
         Piece::Is(c, n) => {
             here = n;
             c
         }
         Piece::Stops(w) => return FrontRead::Stops(w),
     };
-    match layout::count(s, here, sh.len) {
+    match decode::count(s, here, sh.len) {
         Piece::Is(len, n) => FrontRead::Is(Front { address, word, len }, n),
         Piece::Stops(w) => FrontRead::Stops(w),
     }
@@ -65,21 +65,21 @@ pub fn read_middle(s: &[u8], at: usize, sh: Shape, hb: usize) -> MiddleRead
     ensures { λ r. ⌜ middle-outcome r ≡ run (middle sh hb) (now (s .entry)) at ⌝ }
 {
     let mut here = at;
-    let inst = match layout::count(s, here, sh.inst) {
+    let inst = match decode::count(s, here, sh.inst) {
         Piece::Is(i, n) => {
             here = n;
             i
         }
         Piece::Stops(w) => return MiddleRead::Stops(w),
     };
-    let hash = match layout::field(s, here, hb) {
+    let hash = match decode::field(s, here, hb) {
         Piece::Is(h, n) => {
             here = n;
             h
         }
         Piece::Stops(w) => return MiddleRead::Stops(w),
     };
-    match layout::field(s, here, sh.superclass) {
+    match decode::field(s, here, sh.superclass) {
         Piece::Is(superclass, n) => MiddleRead::Is(
             Middle {
                 inst,
@@ -107,7 +107,7 @@ pub fn class_name(s: &[u8], at: usize, n: usize) -> TextRead
             at,
         );
     }
-    layout::string(s, at, 0x21, 1)
+    decode::string(s, at, 0x21, 1)
 }
 
 // How many references: known from the tag, or counted in a field of n bytes.
@@ -118,7 +118,7 @@ pub fn link_count(s: &[u8], at: usize, n: usize, known: u64) -> Piece
     if n == 0 {
         return Piece::Is(known, at);
     }
-    layout::count(s, at, n)
+    decode::count(s, at, n)
 }
 
 // A true length of w bytes, at least the count of references.
@@ -129,7 +129,7 @@ fn true_length(s: &[u8], at: usize, w: usize, count: u64) -> Piece
     if w == 0 {
         return Piece::Is(0, at);
     }
-    match layout::count(s, at, w) {
+    match decode::count(s, at, w) {
         Piece::Is(t, next) => {
             if t < count {
                 return Piece::Stops(Stop::Refused(12));
@@ -146,7 +146,7 @@ pub fn read_tail(s: &[u8], at: usize, size: usize, truelen: usize, count: u64) -
     ensures { λ r. ⌜ tail-outcome r ≡ run (tail size truelen count) (now (s .entry)) at ⌝ }
 {
     let mut here = at;
-    let z = match layout::field(s, here, size) {
+    let z = match decode::field(s, here, size) {
         Piece::Is(v, n) => {
             here = n;
             v

@@ -9,20 +9,20 @@ use lib.ListN.{length, take, length-append}
 use lib.Seq.{take-append-le}
 use lib.Dec.{leb}
 use borrow.Author.Tests.{le-leb}
-use Rattle.layout.specs.Numbers.{pick}
+use Rattle.decode.specs.Numbers.{pick}
 use Rattle.table.specs.Table.{row-width}
 use Rattle.table.specs.Rows.{Rec, recs, rows-of, first-recs}
 use Rattle.table.specs.Buffer.{stored}
 use Rattle.table.specs.declared.Answer.{Answer}
 use Rattle.phd.specs.Phd.{no-facts, empty}
 use Rattle.phd.specs.declared.Facts.{Facts}
-use Rattle.phd_read.specs.Answer.{AfterRead}
+use Rattle.phd_read.specs.ReadContract.{AfterRead}
 use Rattle.phd_read.specs.declared.Reading.{Reading}
 use Rattle.phd_write.specs.Write.{put-header, put-records, put-dump, writing}
-use Rattle.phd_write.specs.Terms.{AfterWrite}
-use Rattle.phd_write.specs.Promises.{made}
-use Rattle.phd_round_trip.specs.Terms.{all-refs, kept, stop-at}
-use Rattle.phd_round_trip.specs.Promises.{SameHeader, handed-seen, all-within, all-read}
+use Rattle.phd_write.specs.WriteTerms.{AfterWrite}
+use Rattle.phd_write.specs.WriteTheorems.{made}
+use Rattle.phd_round_trip.specs.CutRecords.{all-refs, kept, stop-at}
+use Rattle.phd_round_trip.specs.RoundTripTheorems.{SameHeader, handed-seen, all-within, all-read}
 
 -- What a reading of the first m bytes of an output gives, of which n were written: its answer b, and its tables afterwards. The records
 -- rs are those of the rows passed to `write`.

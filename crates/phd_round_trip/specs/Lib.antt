@@ -5,20 +5,20 @@
 -- back). Of a dump: Within (the bytes of records, and which lie within a cut), HeaderBack (the header read back), Handed (record
 -- after record, of any cut), Same (the rows read are the records written), Whole (a whole dump and its cuts) and Good (what was
 -- written is a good dump).
-pub mod Terms
-pub mod Promises
+pub mod CutRecords
+pub mod RoundTripTheorems
 pub mod InMemory
-pub mod Fit
-pub mod Fields
-pub mod Entry
-pub mod Formed
-pub mod Objects
-pub mod Arrays
-pub mod Forms
-pub mod Back
-pub mod Within
-pub mod HeaderBack
-pub mod Handed
-pub mod Same
-pub mod Whole
-pub mod Good
+pub mod Decodable
+pub mod FieldsRoundTrip
+pub mod EntryRoundTrip
+pub mod FormFits
+pub mod FormsWithRefs
+pub mod PrimitiveForms
+pub mod ChosenForm
+pub mod RecordRoundTrip
+pub mod CutRecordLaws
+pub mod HeaderRoundTrip
+pub mod PrefixReading
+pub mod DecodedRows
+pub mod DumpRoundTrip
+pub mod WrittenIsGood

@@ -2,10 +2,10 @@
 // that lie whole within the cut (specs/).
 // The two functions below only call the public operations. They are here for their contracts, which are the premises of the theorems
 // in specs/InMemory.antt: so a call of `write` or `read` gives these, and the theorems hold of calls.
-ghost use Rattle.phd_read.specs.Answer.{AfterRead};
-ghost use Rattle.phd_write.specs.Terms.{AfterWrite};
+ghost use Rattle.phd_read.specs.ReadContract.{AfterRead};
+ghost use Rattle.phd_write.specs.WriteTerms.{AfterWrite};
+use phd_check::Header;
 use phd_read::Reading;
-use phd_rows::Header;
 use table::Answer;
 
 // Calls `phd_write::write`.

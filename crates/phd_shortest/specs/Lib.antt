@@ -3,6 +3,6 @@
 -- of one record) and Reached (what a reading of a written dump finds at each record).
 pub mod ReadAs
 pub mod Shortest
-pub mod LeastPlan
-pub mod OneRecord
-pub mod Reached
+pub mod MinimalPlan
+pub mod RecordShortest
+pub mod RemainingRecords

@@ -3,13 +3,13 @@
 use mathlib.Core.Path.{_≡_}
 use Prim.Native.Nat.{ℕ, _+_, _-_, _≤_}
 use mathlib.Core.List.{List}
-use Rattle.layout.specs.Layout.{whole, run}
+use Rattle.decode.specs.Layout.{whole, run}
 use Rattle.table.specs.Rows.{Rec, row-at, name-of, bare}
 use Rattle.phd.specs.Phd.{Before, item, entry, Result, phd}
 use Rattle.phd.specs.declared.Facts.{Facts}
 use Rattle.phd.specs.declared.Span.{Span}
-use Rattle.reading.specs.Reading.{Capacity}
-use Rattle.reading.specs.Offsets.{CameFrom}
+use Rattle.reader.specs.Reader.{Capacity}
+use Rattle.reader.specs.RowOrigins.{CameFrom}
 
 -- The record of one row and its references, read from the bytes s. Two of them are the same, in 01's sense, exactly when they are equal.
 unfoldable pub read-rec : (s row refs : List ℕ) → Rec

@@ -6,7 +6,7 @@ use Prim.Native.Nat.{ℕ, _+_, _-_, _*_, _≤_, _<_}
 use native.Mathlib.Omega.{arith}
 use mathlib.Core.List.{List, _∷_}
 use lib.ListN.{length, drop}
-use Rattle.layout.specs.Layout.{whole}
+use Rattle.decode.specs.Layout.{whole}
 use Rattle.table.specs.Table.{row-width, row-count}
 use Rattle.table.specs.Rows.{Rec, rec-of, recs, nth}
 use Rattle.table.specs.CheckOrder.{done}
@@ -14,21 +14,21 @@ use Rattle.table.specs.declared.Row.{Row}
 use Rattle.phd.specs.Phd.{Before, item, State, Result, phd, capacity, first, reading}
 use Rattle.phd.specs.declared.Facts.{Facts}
 use Rattle.phd.specs.declared.Span.{Span}
-use Rattle.reading.specs.Reading.{found, first as first-of}
-use Rattle.reading.specs.Offsets.{CameFrom}
-use Rattle.phd_read.specs.Promises.{came-from, one-each}
+use Rattle.reader.specs.Reader.{found, first as first-of}
+use Rattle.reader.specs.RowOrigins.{CameFrom}
+use Rattle.phd_read.specs.ReadTheorems.{came-from, one-each}
 use Rattle.phd_write.specs.Write.{put-header, write-rows}
-use Rattle.phd_write.specs.Terms.{dump-of}
-use Rattle.phd_write.specs.Ways.{said-0}
-use Rattle.phd_round_trip.specs.Terms.{all-refs}
-use Rattle.phd_round_trip.specs.Promises.{round-trip}
-use Rattle.phd_round_trip.specs.HeaderBack.{written-facts}
-use Rattle.phd_round_trip.specs.Whole.{GoodDump, dump-is, full, good}
-use Rattle.phd_round_trip.specs.Good.{good-dump, rows-enough}
-use Rattle.phd_round_trip.specs.Back.{row-back, refs-place}
+use Rattle.phd_write.specs.WriteTerms.{dump-of}
+use Rattle.phd_write.specs.WriteOutcomes.{said-0}
+use Rattle.phd_round_trip.specs.CutRecords.{all-refs}
+use Rattle.phd_round_trip.specs.RoundTripTheorems.{round-trip}
+use Rattle.phd_round_trip.specs.HeaderRoundTrip.{written-facts}
+use Rattle.phd_round_trip.specs.DumpRoundTrip.{GoodDump, dump-is, full, good}
+use Rattle.phd_round_trip.specs.WrittenIsGood.{good-dump, rows-enough}
+use Rattle.phd_round_trip.specs.RecordRoundTrip.{row-back, refs-place}
 use Rattle.phd_shortest.specs.ReadAs.{ReadAs, ShortestAt}
-use Rattle.phd_shortest.specs.OneRecord.{same-back, bytes-least}
-use Rattle.phd_shortest.specs.Reached.{Ahead, bytes, after, following, split, finds, reached, some-left, nth-rec}
+use Rattle.phd_shortest.specs.RecordShortest.{same-back, bytes-least}
+use Rattle.phd_shortest.specs.RemainingRecords.{Ahead, bytes, after, following, split, finds, reached, some-left, nth-rec}
 
 -- ---- a record that a reading found where the written record r comes next
 

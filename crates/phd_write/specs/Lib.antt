@@ -3,10 +3,10 @@
 -- The rest is for proofs: Sizes, Turns and Loops (for the functions: the header in parts, and row after row) and Ways (the checks of a
 -- write, and what a size query says of it).
 pub mod Write
-pub mod Cases
-pub mod Terms
-pub mod Promises
-pub mod Sizes
-pub mod Turns
-pub mod Loops
-pub mod Ways
+pub mod WriteExample
+pub mod WriteTerms
+pub mod WriteTheorems
+pub mod HeaderBytes
+pub mod RowSteps
+pub mod WriteInvariants
+pub mod WriteOutcomes

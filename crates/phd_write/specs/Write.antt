@@ -6,19 +6,19 @@ use mathlib.Core.Bool.{Bool}
 use mathlib.Core.List.{List, [], _∷_, _++_}
 use lib.ListN.{length}
 use lib.Dec.{leb, eqb}
-use Rattle.layout.specs.Numbers.{pick, both}
-use Rattle.layout.specs.declared.Text.{Text}
-use Rattle.layout_put.specs.Put.{join, be}
+use Rattle.decode.specs.Numbers.{pick, both}
+use Rattle.decode.specs.declared.Text.{Text}
+use Rattle.encode.specs.Encode.{join, be}
 use Rattle.phd.specs.Phd.{limit, opening, empty}
-use Rattle.phd.specs.declared.classes.Cache.{Cache}
+use Rattle.phd.specs.declared.cache.Cache.{Cache}
 use Rattle.phd.specs.declared.Facts.{Facts}
 use Rattle.table.specs.Rows.{Rec, recs, rows-of}
 use Rattle.table.specs.declared.Row.{Row}
-use Rattle.phd_rows.specs.Good.{good-header, bad-of, vm-text}
+use Rattle.phd_check.specs.GoodRows.{good-header, bad-of, vm-text}
 use Rattle.table.specs.CheckOrder.{Outcome, judged}
 use Rattle.table.specs.declared.Answer.{Answer}
 use Rattle.table.specs.declared.Search.the-variants.{NotFound}
-use Rattle.phd_put.specs.Record.{put-record, cache-after}
+use Rattle.phd_encode.specs.EncodeRecord.{put-record, cache-after}
 
 -- ---- the bytes of a dump
 

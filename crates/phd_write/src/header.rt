@@ -2,10 +2,10 @@
 ghost use mathlib.Core.Path.{_≡_};
 ghost use Prim.Native.Nat.{_≤_};
 ghost use lib.ListN.{length};
-ghost use Rattle.layout_put.specs.Puts.{Puts, Room};
+ghost use Rattle.encode.specs.Writes.{Puts, Room};
 ghost use Rattle.phd_write.specs.Write.{flag as flagOf, header-flags, put-preamble, put-vm, put-header};
-ghost use Rattle.phd_rows.specs.Kept.{Vm};
-use layout::Text;
+ghost use Rattle.phd_check.specs.WellFormed.{Vm};
+use decode::Text;
 use phd::Facts;
 
 // How many bytes it has.
@@ -43,11 +43,11 @@ fn put_preamble(out: &mut [u8], flags: u64) -> usize
     requires { ⌜ Room (now out) 0 (put-preamble flags) ⌝ }
     ensures { λ r. ⌜ Puts (now (out .entry)) 0 (put-preamble flags) (now (out .exit)) r ⌝ }
 {
-    let opening = layout_put::put(out, 0, 2, 18);
-    let version = layout_put::put_all(out, opening, &phd::opening::OPENING);
-    let bits = layout_put::put(out, version, 4, 6);
-    let one = layout_put::put(out, bits, 4, flags);
-    layout_put::put(out, one, 1, 1)
+    let opening = encode::put(out, 0, 2, 18);
+    let version = encode::put_all(out, opening, &phd::magic::OPENING);
+    let bits = encode::put(out, version, 4, 6);
+    let one = encode::put(out, bits, 4, flags);
+    encode::put(out, one, 1, 1)
 }
 
 // Writes the VM string's record, if there is one.
@@ -59,9 +59,9 @@ fn put_vm(out: &mut [u8], at: usize, vm: Text, names: &[u8]) -> usize
     if vm.there {
         let place = vm.place;
         let n = vm.len;
-        let len = layout_put::put(out, at, 1, 4);
-        let text = layout_put::put(out, len, 2, n as u64);
-        return layout_put::put_bytes(out, text, names, place, n);
+        let len = encode::put(out, at, 1, 4);
+        let text = encode::put(out, len, 2, n as u64);
+        return encode::put_bytes(out, text, names, place, n);
     }
     at
 }
@@ -74,6 +74,6 @@ pub fn put(out: &mut [u8], h: Facts, names: &[u8]) -> usize
 {
     let vm = put_preamble(out, flags(h));
     let end = put_vm(out, vm, h.vm, names);
-    let body = layout_put::put(out, end, 1, 2);
-    layout_put::put(out, body, 1, 2)
+    let body = encode::put(out, end, 1, 2);
+    encode::put(out, body, 1, 2)
 }

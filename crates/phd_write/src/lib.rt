@@ -2,13 +2,13 @@
 // The contract of the first is one equation with the definition; that of the second one for the answer, and one for the output.
 ghost use mathlib.Core.Path.{_≡_};
 ghost use lib.ListN.{length};
-ghost use Rattle.phd_rows.specs.Good.{AllRight};
-ghost use Rattle.layout_put.specs.Puts.{Puts, Room};
+ghost use Rattle.phd_check.specs.GoodRows.{AllRight};
+ghost use Rattle.encode.specs.Writes.{Puts, Room};
 ghost use Rattle.table.specs.Rows.{rows-of};
 ghost use Rattle.table.specs.Buffer.{stored};
 ghost use Rattle.phd_write.specs.Write.{writing, write-sizing};
-ghost use Rattle.phd_write.specs.Terms.{dump-of};
-use phd_rows::Header;
+ghost use Rattle.phd_write.specs.WriteTerms.{dump-of};
+use phd_check::Header;
 use table::Answer;
 
 mod header;
@@ -21,7 +21,7 @@ fn count(header: Header, rows: &[u64], refs: &[u64], names: &[u8]) -> Answer
 {
     let first = header::size(header, names);
     let size = rows::size(header, rows, refs, names, first);
-    if reading::LIMIT < size {
+    if reader::LIMIT < size {
         return Answer {
             reply: 17,
             place: 0,
@@ -38,7 +38,7 @@ fn count(header: Header, rows: &[u64], refs: &[u64], names: &[u8]) -> Answer
 pub fn write_size(header: Header, rows: &[u64], refs: &[u64], names: &[u8]) -> Answer
     ensures { λ r. ⌜ r ≡ write-sizing header (now (names .entry)) (now (refs .entry)) (now (rows .entry)) ⌝ }
 {
-    let checked = phd_rows::check(header, names, refs, rows);
+    let checked = phd_check::check(header, names, refs, rows);
     if checked.reply != 0 {
         return checked;
     }

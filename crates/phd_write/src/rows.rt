@@ -3,17 +3,17 @@ ghost use mathlib.Core.Path.{_≡_};
 ghost use mathlib.Core.Bool.{true};
 ghost use Prim.Native.Nat.{_+_, _≤_, _<_};
 ghost use lib.ListN.{length};
-ghost use Rattle.layout_put.specs.Puts.{Puts, Room};
+ghost use Rattle.encode.specs.Writes.{Puts, Room};
 ghost use Rattle.phd.specs.Phd.{empty};
 ghost use Rattle.table.specs.Rows.{refs-of, recs, rows-of};
-ghost use Rattle.phd_rows.specs.Good.{good-header, bad-of};
+ghost use Rattle.phd_check.specs.GoodRows.{good-header, bad-of};
 ghost use Rattle.table.specs.declared.Search.the-variants.{NotFound};
-ghost use Rattle.phd_form.specs.Form.{Bounded, measure};
+ghost use Rattle.phd_plan.specs.FormChoice.{Bounded, measure};
 ghost use Rattle.phd_write.specs.Write.{put-records};
-ghost use Rattle.phd_write.specs.Turns.{plan-at};
+ghost use Rattle.phd_write.specs.RowSteps.{plan-at};
 use phd::Cache;
 use phd::Facts;
-use phd_form::Plan;
+use phd_plan::Plan;
 use table::Row;
 
 // How a row is written, after a record at the address `before`, with the cache.
@@ -21,8 +21,8 @@ fn plan_row(h: Facts, cache: Cache, before: u64, row: Row, refs: &[u64]) -> Plan
     requires { ⌜ (row .first + row .count ≤ length (now refs)) × Bounded (measure cache before row (refs-of (now refs) row)) ⌝ }
     ensures { λ r. ⌜ r ≡ plan-at h (now (refs .entry)) before cache row ⌝ }
 {
-    let m = phd_form::measure_of(cache, before, row, refs);
-    phd_form::plan_of((h.word / 8) as usize, m)
+    let m = phd_plan::measure_of(cache, before, row, refs);
+    phd_plan::plan_of((h.word / 8) as usize, m)
 }
 
 // How many bytes a dump has, with its header of so many.
@@ -39,7 +39,7 @@ pub fn size(h: Facts, rows: &[u64], refs: &[u64], names: &[u8], header: usize) -
     let mut i: usize = 0;
     while i < n {
         let row = table::row_at(rows, i);
-        let sized = phd_put::sizes::record((h.word / 8) as usize, cache, before, row, refs);
+        let sized = phd_encode::sizes::record((h.word / 8) as usize, cache, before, row, refs);
         total += sized.size;
         cache = cache.after(sized.cached, row.word);
         before = row.address;
@@ -63,10 +63,10 @@ pub fn put(out: &mut [u8], at: usize, h: Facts, rows: &[u64], refs: &[u64], name
     while i < n {
         let row = table::row_at(rows, i);
         let p = plan_row(h, cache, before, row, refs);
-        to = phd_put::put_record(out, to, before, p, row, refs, names);
+        to = phd_encode::put_record(out, to, before, p, row, refs, names);
         cache = cache.after(p.shape.cached, row.word);
         before = row.address;
         i += 1;
     }
-    layout_put::put(out, to, 1, 3)
+    encode::put(out, to, 1, 3)
 }

@@ -13,11 +13,11 @@
 //
 // A file that fills the buffer of 4,096 bytes has `too large` in the place of all that.
 use phd_read::Reading;
-use samples_say::say;
-use samples_say::tell;
-use samples_say::tell_reading;
-use samples_say::tell_whole;
-use samples_say::used;
+use samples_print::say;
+use samples_print::tell;
+use samples_print::tell_reading;
+use samples_print::tell_whole;
+use samples_print::used;
 ghost use Prim.Native.Nat.{_≤_};
 ghost use lib.ListN.{length};
 

@@ -1,2 +1,2 @@
 -- Laws of a row within its table.
-pub mod Laws
+pub mod TableLaws

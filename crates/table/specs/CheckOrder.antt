@@ -8,7 +8,7 @@ use mathlib.Core.List.{List, []}
 use lib.ListN.{length}
 use lib.Seq.{sets}
 use native.Mathlib.Omega.{arith}
-use Rattle.layout.specs.Values.{true-false}
+use Rattle.decode.specs.Values.{true-false}
 use Rattle.table.specs.Buffer.{stored, stored-none, stored-whole}
 use Rattle.table.specs.declared.Search.{Search}
 use Rattle.table.specs.declared.Search.the-variants.{At, NotFound}

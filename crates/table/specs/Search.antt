@@ -9,7 +9,7 @@ use native.Mathlib.Omega.{arith}
 use mathlib.Core.Bool.{Bool, true, false}
 use mathlib.Core.List.{List, [], _∷_}
 use lib.ListN.{length}
-use Rattle.layout.specs.Numbers.{pick}
+use Rattle.decode.specs.Numbers.{pick}
 use Rattle.table.specs.Table.{row-count}
 use Rattle.table.specs.Rows.{row-at, no-row, rows-of, nth, rows-left, left-next, left-none, length-rows, nth-row}
 use Rattle.table.specs.declared.Row.{Row}

@@ -7,11 +7,11 @@
 //     2    the references
 //
 // What is there or not is a number other than 0, or 0. Of two changes of one number the last counts.
-use layout::Piece;
-use layout::Text;
+use decode::Piece;
+use decode::Text;
 use phd::Facts;
 use phd_read::Reading;
-use samples_say::within;
+use samples_print::within;
 ghost use Prim.Native.Nat.{_≤_, _+_};
 ghost use lib.ListN.{length};
 ghost use Rattle.io.specs.Counts.{Counts};
@@ -33,7 +33,7 @@ pub fn place(s: &[u8], r: Reading) -> usize
 fn number(s: &[u8], at: usize) -> u64
     requires { ⌜ at ≤ length (now s) ⌝ }
 {
-    match layout::field(s, at, 8) {
+    match decode::field(s, at, 8) {
         Piece::Is(n, _) => n,
         Piece::Stops(_) => 0,
     }

@@ -13,16 +13,16 @@
 // What a file holds behind its dump may change the tables before the text is written: changes.rt.
 mod changes;
 
-use phd_rows::Header;
-use samples_say::kept;
-use samples_say::say;
-use samples_say::tell;
-use samples_say::tell_kept;
-use samples_say::tell_reading;
-use samples_say::tell_written;
-use samples_say::used;
-use samples_say::within;
-use samples_say::written;
+use phd_check::Header;
+use samples_print::kept;
+use samples_print::say;
+use samples_print::tell;
+use samples_print::tell_kept;
+use samples_print::tell_reading;
+use samples_print::tell_written;
+use samples_print::used;
+use samples_print::within;
+use samples_print::written;
 ghost use mathlib.Core.Path.{_≡_};
 ghost use lib.ListN.{length};
 
@@ -70,7 +70,7 @@ fn tell_again(
     out: &mut [u8],
 ) {
     tell(b"room ", out.len() as u64);
-    let w = classic_text::text(header, rows, refs, names, out);
+    let w = classic_write::text(header, rows, refs, names, out);
     say(b" ");
     tell_written(w);
     let n = written(w, out);
@@ -94,9 +94,9 @@ fn tell_room(header: Header, rows: &[u64], refs: &[u64], names: &[u8], text: &[u
 // less.
 fn tell_text(header: Header, rows: &[u64], refs: &[u64], names: &[u8], out: &mut [u8]) {
     say(b"size ");
-    tell_written(classic_text::text_size(header, rows, refs, names));
+    tell_written(classic_write::text_size(header, rows, refs, names));
     say(b"\n");
-    let w = classic_text::text(header, rows, refs, names, out);
+    let w = classic_write::text(header, rows, refs, names, out);
     say(b"text ");
     tell_written(w);
     say(b"\n");

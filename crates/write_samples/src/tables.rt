@@ -7,8 +7,8 @@
 //     the name bytes; those that the file lacks are `x`
 //
 // What is there or not is a number other than 0, or 0.
-use layout::Piece;
-use layout::Text;
+use decode::Piece;
+use decode::Text;
 use phd::Facts;
 ghost use Prim.Native.Nat.{_≤_};
 ghost use lib.ListN.{length};
@@ -27,7 +27,7 @@ fn number(s: &[u8], i: usize) -> u64 {
     if s.len() / 8 <= i {
         return 0;
     }
-    match layout::field(s, 8 * i, 8) {
+    match decode::field(s, 8 * i, 8) {
         Piece::Is(n, _) => n,
         Piece::Stops(_) => 0,
     }

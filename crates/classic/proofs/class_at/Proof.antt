@@ -4,9 +4,9 @@ use mathlib.Core.Path.{sym, _∙_}
 use Prim.Native.Nat.{_-_}
 use native.Mathlib.Omega.{arith}
 use Rattle.table.specs.Table.{row-count}
-use Rattle.classic.specs.Classic.{is-class-at}
+use Rattle.classic.specs.ClassicText.{is-class-at}
 use Rattle.table.specs.Search.{Searched, search-begins, search-found, search-next, search-ends}
-use Rattle.classic.proofs.Laws.{class-test}
+use Rattle.classic.proofs.ClassRowTests.{class-test}
 use Rattle.classic.proofs.class_at.Statement.{statement}
 use Rattle.classic.proofs.class_at.Tie as tie
 

@@ -5,7 +5,7 @@ use Prim.Native.Nat.{_-_}
 use native.Mathlib.Omega.{arith}
 use Rattle.table.specs.Table.{row-count}
 use Rattle.table.specs.Rows.{all-at}
-use Rattle.classic.specs.Classic.{signature, is-class-named}
+use Rattle.classic.specs.ClassicText.{signature, is-class-named}
 use Rattle.table.specs.Search.{Searched, search-begins, search-found, search-next, search-ends}
 use Rattle.classic.proofs.class_named.Statement.{statement}
 use Rattle.classic.proofs.class_named.Tie as tie

@@ -1,7 +1,7 @@
 -- `letter` meets its contract: its table is the letters.
 use mathlib.Core.Path.{refl}
 use borrow.Author.Needs.{needs}
-use Rattle.classic.specs.Classic.{letters}
+use Rattle.classic.specs.ClassicText.{letters}
 use Rattle.classic.proofs.letter.Statement.{statement}
 use Rattle.classic.proofs.letter.Tie as tie
 

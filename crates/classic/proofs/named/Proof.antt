@@ -1,7 +1,7 @@
 -- `named` meets its contract: the name has two bytes, which are the signature's.
 use native.Mathlib.Omega.{arith}
 use borrow.Author.Needs.{needs}
-use Rattle.classic.proofs.Laws.{unlike, two-bytes, alike}
+use Rattle.classic.proofs.ClassRowTests.{unlike, two-bytes, alike}
 use Rattle.classic.proofs.named.Statement.{statement}
 use Rattle.classic.proofs.named.Tie as tie
 

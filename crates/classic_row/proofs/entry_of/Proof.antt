@@ -4,12 +4,12 @@ use mathlib.Core.Bool.{false}
 use Prim.Native.Nat.{_*_}
 use borrow.Author.Needs.{needs}
 use borrow.Author.Tests.{eq-eqb, ne-eqb}
-use Rattle.layout.specs.Numbers.{pick}
+use Rattle.decode.specs.Numbers.{pick}
 use Rattle.table.specs.Rows.{of-kind, rows-of}
 use Rattle.table.specs.Search.{found-in, found-is}
-use Rattle.classic.specs.Classic.{nowhere, is-lost, naming, bytes-of}
-use Rattle.classic_row.specs.Row.{entry, entry-or-18}
-use Rattle.classic_row.proofs.RowLaws.{lost-is}
+use Rattle.classic.specs.ClassicText.{nowhere, is-lost, naming, bytes-of}
+use Rattle.classic_row.specs.RowText.{entry, entry-or-18}
+use Rattle.classic_row.proofs.RowTextLaws.{lost-is}
 use Rattle.classic_row.proofs.entry_of.Statement.{statement}
 use Rattle.classic_row.proofs.entry_of.Tie as tie
 

@@ -4,12 +4,12 @@ use mathlib.Core.List.{List, [], _∷_, _++_}
 use Prim.Native.Nat.{ℕ}
 use native.Mathlib.Omega.{arith}
 use borrow.Author.Needs.{needs}
-use Rattle.layout_put.specs.Puts.{Room, puts-then, room-behind, room-first}
+use Rattle.encode.specs.Writes.{Room, puts-then, room-behind, room-first}
 use Rattle.table.specs.Rows.{refs-of, rows-of}
-use Rattle.classic.specs.Classic.{address, listed}
-use Rattle.classic_row.specs.Row.{entry, entry-says, row-text, entry-line}
+use Rattle.classic.specs.ClassicText.{address, listed}
+use Rattle.classic_row.specs.RowText.{entry, entry-says, row-text, entry-line}
 use Rattle.classic_row.specs.declared.Entry.{Entry}
-use Rattle.classic_row.proofs.RowLaws.{entry-small, text-is}
+use Rattle.classic_row.proofs.RowTextLaws.{entry-small, text-is}
 use Rattle.classic_row.proofs.put.Statement.{statement}
 use Rattle.classic_row.proofs.put.Tie as tie
 

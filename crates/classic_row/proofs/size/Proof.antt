@@ -4,9 +4,9 @@ use Prim.Native.Nat.{ℕ, _+_, _*_, _/_, _^_, _<_}
 use native.Mathlib.Omega.{arith}
 use borrow.Author.Needs.{needs}
 use Rattle.table.specs.Rows.{rows-of}
-use Rattle.classic_row.specs.Row.{EntrySays, entry-says, row-size, row-size-most, row-size-or-18}
+use Rattle.classic_row.specs.RowText.{EntrySays, entry-says, row-size, row-size-most, row-size-or-18}
 use Rattle.classic_row.specs.declared.EntryFound.the-variants.{Is}
-use Rattle.classic_row.proofs.RowLaws.{Small, entry-small, size-is}
+use Rattle.classic_row.proofs.RowTextLaws.{Small, entry-small, size-is}
 use Rattle.classic_row.proofs.size.Statement.{statement}
 use Rattle.classic_row.proofs.size.Tie as tie
 

@@ -3,7 +3,7 @@ use mathlib.Core.Path.{sym, ap, _∙_}
 use borrow.Author.Needs.{needs}
 use borrow.Author.Tests.{ne-eqb}
 use Rattle.table.specs.Search.{found-row, found-in, found-is}
-use Rattle.classic.specs.Classic.{word-of}
+use Rattle.classic.specs.ClassicText.{word-of}
 use Rattle.classic_row.proofs.word_of.Statement.{statement}
 use Rattle.classic_row.proofs.word_of.Tie as tie
 

@@ -2,7 +2,7 @@
 use borrow.Author.Needs.{needs}
 use mathlib.Core.Path.{sym}
 use native.Mathlib.Omega.{arith}
-use Rattle.digits.proofs.Laws.{low, high}
+use Rattle.digits.proofs.DigitLaws.{low, high}
 use Rattle.digits.proofs.glyph.Statement.{statement}
 use Rattle.digits.proofs.glyph.Tie as tie
 

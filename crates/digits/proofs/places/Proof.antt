@@ -4,7 +4,7 @@ use mathlib.Core.Path.{_≡_}
 use Prim.Native.Nat.{_+_}
 use native.Mathlib.Omega.{arith}
 use Rattle.digits.specs.Digits.{places}
-use Rattle.digits.specs.Lengths.{places-few, places-more, places-most}
+use Rattle.digits.specs.DigitLengths.{places-few, places-more, places-most}
 use Rattle.digits.proofs.places.Statement.{statement}
 use Rattle.digits.proofs.places.Tie as tie
 

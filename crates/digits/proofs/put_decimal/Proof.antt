@@ -1,7 +1,7 @@
 -- `put_decimal` meets its contract: as many digits are put as the number has.
 use borrow.Author.Needs.{needs}
 use native.Mathlib.Omega.{arith}
-use Rattle.digits.proofs.Laws.{in-ten}
+use Rattle.digits.proofs.DigitLaws.{in-ten}
 use Rattle.digits.proofs.put_decimal.Statement.{statement}
 use Rattle.digits.proofs.put_decimal.Tie as tie
 

@@ -7,8 +7,8 @@ use native.Mathlib.Omega.{arith}
 use lib.ListN.{length, length-set}
 use lib.Seq.{sets}
 use Rattle.digits.specs.Digits.{numeral}
-use Rattle.digits.specs.Lengths.{length-numeral}
-use Rattle.digits.proofs.Laws.{digit-put}
+use Rattle.digits.specs.DigitLengths.{length-numeral}
+use Rattle.digits.proofs.DigitLaws.{digit-put}
 use Rattle.digits.proofs.put_digits.Statement.{statement}
 use Rattle.digits.proofs.put_digits.Tie as tie
 

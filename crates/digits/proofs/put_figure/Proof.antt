@@ -1,6 +1,6 @@
 -- `put_figure` meets its contract: the number is put after the text.
 use borrow.Author.Needs.{needs}
-use Rattle.layout_put.specs.Puts.{puts-then, room-behind, room-first}
+use Rattle.encode.specs.Writes.{puts-then, room-behind, room-first}
 use Rattle.digits.specs.Digits.{decimal}
 use Rattle.digits.proofs.put_figure.Statement.{statement}
 use Rattle.digits.proofs.put_figure.Tie as tie

@@ -1,7 +1,7 @@
 -- `phd_read` meets its contract: the answer, the tables and the facts are those of `read`.
 use borrow.Author.Needs.{needs}
 use mathlib.Core.Path.{refl}
-use Rattle.phd_read.specs.Answer.{answer}
+use Rattle.phd_read.specs.ReadContract.{answer}
 use Rattle.phd_c.proofs.phd_read.Statement.{statement}
 use Rattle.phd_c.proofs.phd_read.Tie as tie
 

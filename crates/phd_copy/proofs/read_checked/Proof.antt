@@ -1,8 +1,8 @@
 -- `read_checked` meets its contract: what a call of `read` filled passes every check, since a dump is bytes.
 use borrow.Author.Needs.{needs}
 use native.Mathlib.Omega.{arith}
-use Rattle.layout.specs.ByteValues.{Bytes}
-use Rattle.phd_copy.specs.Rewritten.{right}
+use Rattle.decode.specs.ByteValues.{Bytes}
+use Rattle.phd_copy.specs.ReadThenWrite.{right}
 use Rattle.phd_copy.proofs.read_checked.Statement.{statement}
 use Rattle.phd_copy.proofs.read_checked.Tie as tie
 

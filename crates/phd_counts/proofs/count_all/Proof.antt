@@ -2,7 +2,7 @@
 use borrow.Author.Needs.{needs}
 use Prim.Native.Nat.{_-_}
 use Rattle.table.specs.Table.{row-count}
-use Rattle.phd_counts.specs.Counting.{Counting, counting-begins, counting-next, counting-small, counting-ends}
+use Rattle.phd_counts.specs.CountLoop.{Counting, counting-begins, counting-next, counting-small, counting-ends}
 use Rattle.phd_counts.proofs.count_all.Statement.{statement}
 use Rattle.phd_counts.proofs.count_all.Tie as tie
 

@@ -1,9 +1,9 @@
 -- `counted` meets its contract: what is added to a count is 0 or 1, and references and nulls are few.
 use borrow.Author.Needs.{needs}
 use native.Mathlib.Omega.{arith}
-use Rattle.layout.specs.Values.{one-most}
+use Rattle.decode.specs.Values.{one-most}
 use Rattle.table.specs.Rows.{of-kind}
-use Rattle.phd_counts.specs.Counting.{counted-is}
+use Rattle.phd_counts.specs.CountLoop.{counted-is}
 use Rattle.phd_counts.proofs.counted.Statement.{statement}
 use Rattle.phd_counts.proofs.counted.Tie as tie
 

@@ -2,8 +2,8 @@
 use borrow.Author.Needs.{needs}
 use borrow.Author.Tests.{eq-eqb, ne-eqb}
 use mathlib.Core.Path.{_≡_, sym, ap, _∙_}
-use Rattle.layout.specs.Layout.{whole, run, field, run-then, run-check}
-use Rattle.layout.specs.Fields.{outcome}
+use Rattle.decode.specs.Layout.{whole, run, field, run-then, run-check}
+use Rattle.decode.specs.Fields.{outcome}
 use Rattle.phd.specs.Phd.{after-vm}
 use Rattle.phd_header.proofs.after_vm.Statement.{statement}
 use Rattle.phd_header.proofs.after_vm.Tie as tie

@@ -4,8 +4,8 @@ use borrow.Author.Tests.{eq-eqb, ne-eqb}
 use mathlib.Core.Path.{_≡_, sym, ap, _∙_}
 use Prim.Native.Nat.{_≤_}
 use lib.ListN.{length}
-use Rattle.layout.specs.Layout.{whole, run, field, run-then, run-yield, run-refuse, inside}
-use Rattle.layout.specs.Fields.{outcome, text-outcome, string}
+use Rattle.decode.specs.Layout.{whole, run, field, run-then, run-yield, run-refuse, inside}
+use Rattle.decode.specs.Fields.{outcome, text-outcome, string}
 use Rattle.phd.specs.Phd.{after-vm, header-records}
 use Rattle.phd_header.proofs.header_records.Statement.{statement}
 use Rattle.phd_header.proofs.header_records.Tie as tie

@@ -4,7 +4,7 @@ use mathlib.Core.Path.{_≡_}
 use Prim.Native.Nat.{_+_, _-_, _≤_, _<_}
 use native.Mathlib.Omega.{arith}
 use lib.ListN.{length}
-use Rattle.layout.specs.Layout.{run-then, run-check, run-raw, run-raw-short}
+use Rattle.decode.specs.Layout.{run-then, run-check, run-raw, run-raw-short}
 use Rattle.phd.specs.Phd.{opening-bytes}
 use Rattle.phd_header.proofs.opening_bytes.Statement.{statement}
 use Rattle.phd_header.proofs.opening_bytes.Tie as tie

@@ -5,10 +5,10 @@ use mathlib.Core.List.{List}
 use Prim.Native.Nat.{ℕ, _≤_}
 use native.Mathlib.Omega.{arith}
 use lib.ListN.{length}
-use Rattle.layout.specs.Layout.{whole, run, run-then, run-yield, inside}
-use Rattle.layout.specs.Fields.{outcome, exactly, below}
+use Rattle.decode.specs.Layout.{whole, run, run-then, run-yield, inside}
+use Rattle.decode.specs.Fields.{outcome, exactly, below}
 use Rattle.phd.specs.Phd.{opening-bytes, preamble}
-use Rattle.phd_header.specs.Header.{passed-outcome}
+use Rattle.phd_header.specs.HeaderOutcomes.{passed-outcome}
 use Rattle.phd_header.proofs.preamble.Statement.{statement}
 use Rattle.phd_header.proofs.preamble.Tie as tie
 

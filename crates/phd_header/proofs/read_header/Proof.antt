@@ -4,8 +4,8 @@ use mathlib.Core.Path.{_≡_, sym, ap, _∙_}
 use Prim.Native.Nat.{_≤_}
 use native.Mathlib.Omega.{arith}
 use lib.ListN.{length}
-use Rattle.layout.specs.Layout.{whole, run, run-then, run-yield, inside}
-use Rattle.layout.specs.Fields.{outcome, text-outcome, exactly}
+use Rattle.decode.specs.Layout.{whole, run, run-then, run-yield, inside}
+use Rattle.decode.specs.Fields.{outcome, text-outcome, exactly}
 use Rattle.phd.specs.Phd.{preamble, header-records, header}
 use Rattle.phd_header.proofs.read_header.Statement.{statement}
 use Rattle.phd_header.proofs.read_header.Tie as tie

@@ -6,7 +6,7 @@ use native.Mathlib.Nat.{add-zero}
 use native.Mathlib.Omega.{arith}
 use lib.ListN.{length, take, drop}
 use Rattle.phd.specs.Phd.{same, opening}
-use Rattle.phd_header.proofs.Laws.{same-on, same-off}
+use Rattle.phd_header.proofs.BytesEqual.{same-on, same-off}
 use Rattle.phd_header.proofs.same_opening.Statement.{statement}
 use Rattle.phd_header.proofs.same_opening.Tie as tie
 

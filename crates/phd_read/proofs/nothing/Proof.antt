@@ -1,9 +1,9 @@
 -- `nothing` meets its contract.
 use mathlib.Core.Path.{refl}
 use Rattle.phd.specs.Phd.{no-facts}
-use Rattle.reading.specs.Reading.{nothing as nothing-of}
+use Rattle.reader.specs.Reader.{nothing as nothing-of}
 use Rattle.table.specs.Table.{row-count}
-use Rattle.phd_read.specs.Answer.{answer}
+use Rattle.phd_read.specs.ReadContract.{answer}
 use Rattle.phd_read.proofs.nothing.Statement.{statement}
 use Rattle.phd_read.proofs.nothing.Tie as tie
 

@@ -4,14 +4,14 @@ use mathlib.Core.Path.{_≡_, refl, sym, ap, _∙_}
 use Prim.Native.Nat.{_≤_}
 use native.Mathlib.Omega.{arith}
 use lib.ListN.{length}
-use Rattle.layout.specs.Layout.{whole, stops, run, inside}
+use Rattle.decode.specs.Layout.{whole, stops, run, inside}
 use Rattle.phd.specs.Phd.{limit, header, phd, capacity}
 use Rattle.table.specs.Table.{row-count}
-use Rattle.phd_header.specs.Header.{header-outcome, header-word}
+use Rattle.phd_header.specs.HeaderOutcomes.{header-outcome, header-word}
 use Rattle.table.specs.Buffer.{stored}
-use Rattle.phd_read.specs.Answer.{answer}
-use Rattle.reading.specs.Reading.{nothing as nothing-of}
-use Rattle.reading.specs.Steps.{reading-over, reading-opens, reading-stops}
+use Rattle.phd_read.specs.ReadContract.{answer}
+use Rattle.reader.specs.Reader.{nothing as nothing-of}
+use Rattle.reader.specs.Steps.{reading-over, reading-opens, reading-stops}
 use Rattle.phd_read.proofs.read.Statement.{statement}
 use Rattle.phd_read.proofs.read.Tie as tie
 

@@ -5,11 +5,11 @@ use mathlib.Core.Logic.{⊎-elim}
 use Prim.Native.Nat.{ℕ, _/_, _≤_}
 use native.Mathlib.Omega.{arith}
 use lib.ListN.{length}
-use Rattle.layout.specs.Layout.{whole, run, need, inside, run-then, run-yield, run-refuse, run-need}
-use Rattle.layout.specs.Fields.{outcome}
+use Rattle.decode.specs.Layout.{whole, run, need, inside, run-then, run-yield, run-refuse, run-need}
+use Rattle.decode.specs.Fields.{outcome}
 use Rattle.phd.specs.Phd.{tagged, formed, known-class, flag-byte, record-of}
 use Rattle.phd.specs.Shapes.{Word, shape-narrow}
-use Rattle.phd_record.specs.Found.{found-of}
+use Rattle.phd_record.specs.RecordOutcomes.{found-of}
 use Rattle.phd_record.proofs.behind_tag.Statement.{statement}
 use Rattle.phd_record.proofs.behind_tag.Tie as tie
 

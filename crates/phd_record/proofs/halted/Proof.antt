@@ -1,6 +1,6 @@
 -- `halted` meets its contract.
 use mathlib.Core.Path.{refl}
-use Rattle.phd_record.specs.Found.{halted}
+use Rattle.phd_record.specs.RecordOutcomes.{halted}
 use Rattle.phd_record.proofs.halted.Statement.{statement}
 use Rattle.phd_record.proofs.halted.Tie as tie
 

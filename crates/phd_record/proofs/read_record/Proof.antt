@@ -5,11 +5,11 @@ use Prim.Native.Nat.{_≤_}
 use native.Mathlib.Omega.{arith}
 use lib.ListN.{length}
 use borrow.Author.Tests.{eq-eqb, ne-eqb}
-use Rattle.layout.specs.Layout.{whole, run, inside, field, run-then, run-yield}
-use Rattle.layout.specs.Fields.{outcome}
+use Rattle.decode.specs.Layout.{whole, run, inside, field, run-then, run-yield}
+use Rattle.decode.specs.Fields.{outcome}
 use Rattle.phd.specs.Phd.{from-tag}
-use Rattle.phd.specs.Origins.{entry-at}
-use Rattle.phd_record.specs.Found.{found-of}
+use Rattle.phd.specs.EntryLaws.{entry-at}
+use Rattle.phd_record.specs.RecordOutcomes.{found-of}
 use Rattle.phd_record.proofs.read_record.Statement.{statement}
 use Rattle.phd_record.proofs.read_record.Tie as tie
 

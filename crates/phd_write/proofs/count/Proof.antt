@@ -4,11 +4,11 @@ use native.Mathlib.Omega.{arith}
 use lib.ListN.{length}
 use Rattle.table.specs.Rows.{rows-of}
 use Rattle.phd.specs.Phd.{limit}
-use Rattle.phd_rows.specs.Kept.{vm-of, Vm, vm-lent}
-use Rattle.phd_write.specs.Terms.{dump-of}
-use Rattle.phd_write.specs.Sizes.{length-header, header-small}
-use Rattle.phd_write.specs.Ways.{over, counts}
-use Rattle.phd_write.proofs.Laws.{sized}
+use Rattle.phd_check.specs.WellFormed.{vm-of, Vm, vm-lent}
+use Rattle.phd_write.specs.WriteTerms.{dump-of}
+use Rattle.phd_write.specs.HeaderBytes.{length-header, header-small}
+use Rattle.phd_write.specs.WriteOutcomes.{over, counts}
+use Rattle.phd_write.proofs.DumpSize.{sized}
 use Rattle.phd_write.proofs.count.Statement.{statement}
 use Rattle.phd_write.proofs.count.Tie as tie
 

@@ -2,16 +2,16 @@
 use borrow.Author.Needs.{needs}
 use mathlib.Core.Path.{_≡_, refl}
 use mathlib.Core.List.{List, [], _∷_, append-nil}
-use Rattle.layout_put.specs.Put.{join}
-use Rattle.layout_put.specs.Partly.{Partly, begin, next, fits, ends}
+use Rattle.encode.specs.Encode.{join}
+use Rattle.encode.specs.WriteProgress.{Partly, begin, next, fits, ends}
 use Rattle.table.specs.Rows.{recs, rows-of}
 use Rattle.table.specs.declared.Row.{Row}
 use Rattle.phd.specs.Phd.{empty}
 use Rattle.phd.specs.declared.Facts.{Facts}
 use Prim.Native.Nat.{ℕ}
-use Rattle.phd_rows.specs.Kept.{vm-of, vm-lent}
+use Rattle.phd_check.specs.WellFormed.{vm-of, vm-lent}
 use Rattle.phd_write.specs.Write.{put-header, put-records, put-dump}
-use Rattle.phd_write.specs.Terms.{dump-of}
+use Rattle.phd_write.specs.WriteTerms.{dump-of}
 use Rattle.phd_write.proofs.put.Statement.{statement}
 use Rattle.phd_write.proofs.put.Tie as tie
 

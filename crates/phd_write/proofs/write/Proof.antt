@@ -5,7 +5,7 @@ use native.Mathlib.Omega.{arith}
 use lib.ListN.{length}
 use Rattle.table.specs.CheckOrder.{refused-keeps, done-stores}
 use Rattle.phd_write.specs.Write.{writing}
-use Rattle.phd_write.specs.Ways.{said-0, asked-split}
+use Rattle.phd_write.specs.WriteOutcomes.{said-0, asked-split}
 use Rattle.phd_write.proofs.write.Statement.{statement}
 use Rattle.phd_write.proofs.write.Tie as tie
 

@@ -1,7 +1,7 @@
 -- `write_size` meets its contract: the header and the rows, then the size limit.
 use borrow.Author.Needs.{needs}
 use Rattle.table.specs.CheckOrder.{checked-right}
-use Rattle.phd_write.specs.Ways.{check-stops}
+use Rattle.phd_write.specs.WriteOutcomes.{check-stops}
 use Rattle.phd_write.proofs.write_size.Statement.{statement}
 use Rattle.phd_write.proofs.write_size.Tie as tie
 

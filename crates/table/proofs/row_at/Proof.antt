@@ -4,7 +4,7 @@ use native.Mathlib.Omega.{arith}
 use borrow.Author.Needs.{needs}
 use Rattle.table.specs.Table.{row-width}
 use Rattle.table.specs.Rows.{row-at}
-use Rattle.table.proofs.Laws.{row-room, number-at}
+use Rattle.table.proofs.TableLaws.{row-room, number-at}
 use Rattle.table.proofs.row_at.Statement.{statement}
 use Rattle.table.proofs.row_at.Tie as tie
 

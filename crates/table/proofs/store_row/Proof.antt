@@ -7,7 +7,7 @@ use native.Mathlib.Omega.{arith}
 use lib.ListN.{length, drop, length-set, drop-of-length-le}
 use lib.Seq.{sets}
 use Rattle.table.specs.Table.{row-width}
-use Rattle.table.proofs.Laws.{store-next}
+use Rattle.table.proofs.TableLaws.{store-next}
 use Rattle.table.proofs.store_row.Statement.{statement}
 use Rattle.table.proofs.store_row.Tie as tie
 

@@ -6,11 +6,11 @@ use mathlib.Core.List.{List, [], _∷_, append-nil}
 use lib.ListN.{getD}
 use lib.Dec.{eqb}
 use Prim.Native.Nat.{ℕ}
-use Rattle.layout_put.specs.Put.{join}
-use Rattle.layout_put.specs.Partly.{Partly, begin, next, fits, ends}
+use Rattle.encode.specs.Encode.{join}
+use Rattle.encode.specs.WriteProgress.{Partly, begin, next, fits, ends}
 use Rattle.digits.specs.Digits.{ascii}
-use Rattle.classic.specs.Classic.{array-type}
-use Rattle.classic_row.specs.Row.{entry-name}
+use Rattle.classic.specs.ClassicText.{array-type}
+use Rattle.classic_row.specs.RowText.{entry-name}
 use Rattle.classic_row.proofs.parts.put_array.Statement.{statement}
 use Rattle.classic_row.proofs.parts.put_array.Tie as tie
 

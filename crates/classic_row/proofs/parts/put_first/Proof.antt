@@ -3,12 +3,12 @@ use borrow.Author.Needs.{needs}
 use mathlib.Core.Path.{_≡_, refl}
 use mathlib.Core.List.{List, [], _∷_}
 use Prim.Native.Nat.{ℕ}
-use Rattle.layout_put.specs.Put.{join}
-use Rattle.layout_put.specs.Partly.{Partly, begin, next, fits, ends}
+use Rattle.encode.specs.Encode.{join}
+use Rattle.encode.specs.WriteProgress.{Partly, begin, next, fits, ends}
 use Rattle.table.specs.declared.Row.{Row}
 use Rattle.digits.specs.Digits.{figure}
-use Rattle.classic.specs.Classic.{address}
-use Rattle.classic_row.specs.Row.{mark, entry-type, entry-line}
+use Rattle.classic.specs.ClassicText.{address}
+use Rattle.classic_row.specs.RowText.{mark, entry-type, entry-line}
 use Rattle.classic_row.specs.declared.Entry.{Entry}
 use Rattle.classic_row.proofs.parts.put_first.Statement.{statement}
 use Rattle.classic_row.proofs.parts.put_first.Tie as tie

@@ -1,7 +1,7 @@
 -- `put_mark` meets its contract: the branch that is taken puts the mark's bytes.
 use borrow.Author.Needs.{needs}
 use borrow.Author.Tests.{ne-eqb}
-use Rattle.classic_row.specs.Row.{mark}
+use Rattle.classic_row.specs.RowText.{mark}
 use Rattle.classic_row.proofs.parts.put_mark.Statement.{statement}
 use Rattle.classic_row.proofs.parts.put_mark.Tie as tie
 

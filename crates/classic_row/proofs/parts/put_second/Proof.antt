@@ -2,9 +2,9 @@
 use borrow.Author.Needs.{needs}
 use mathlib.Core.List.{List}
 use Prim.Native.Nat.{ℕ}
-use Rattle.layout_put.specs.Puts.{puts-then, room-behind, room-first}
+use Rattle.encode.specs.Writes.{puts-then, room-behind, room-first}
 use Rattle.table.specs.Rows.{refs-of}
-use Rattle.classic.specs.Classic.{address, listed}
+use Rattle.classic.specs.ClassicText.{address, listed}
 use Rattle.classic_row.proofs.parts.put_second.Statement.{statement}
 use Rattle.classic_row.proofs.parts.put_second.Tie as tie
 

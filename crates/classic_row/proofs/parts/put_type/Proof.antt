@@ -3,9 +3,9 @@ use borrow.Author.Needs.{needs}
 use borrow.Author.Tests.{ne-eqb}
 use mathlib.Core.List.{[], _∷_, _++_}
 use lib.ListN.{getD}
-use Rattle.layout_put.specs.Puts.{Room, puts-then, room-behind, room-first}
-use Rattle.classic.specs.Classic.{letters, signature}
-use Rattle.classic_row.specs.Row.{entry-type}
+use Rattle.encode.specs.Writes.{Room, puts-then, room-behind, room-first}
+use Rattle.classic.specs.ClassicText.{letters, signature}
+use Rattle.classic_row.specs.RowText.{entry-type}
 use Rattle.classic_row.proofs.parts.put_type.Statement.{statement}
 use Rattle.classic_row.proofs.parts.put_type.Tie as tie
 

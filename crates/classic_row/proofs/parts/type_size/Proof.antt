@@ -4,8 +4,8 @@ use borrow.Author.Tests.{ne-eqb}
 use native.Mathlib.Omega.{arith}
 use mathlib.Core.Path.{_∙_, sym}
 use lib.ListN.{length-append, length-take, length-drop}
-use Rattle.classic.specs.Classic.{signature, array-type}
-use Rattle.classic_row.specs.Row.{entry-type}
+use Rattle.classic.specs.ClassicText.{signature, array-type}
+use Rattle.classic_row.specs.RowText.{entry-type}
 use Rattle.classic_row.proofs.parts.type_size.Statement.{statement}
 use Rattle.classic_row.proofs.parts.type_size.Tie as tie
 

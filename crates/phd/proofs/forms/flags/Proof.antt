@@ -6,10 +6,10 @@ use Prim.Native.Nat.{ℕ, _≤_}
 use native.Mathlib.Omega.{arith}
 use lib.ListN.{length}
 use borrow.Author.Tests.{le-ltb, lt-ltb, ne-eqb}
-use Rattle.layout.specs.Numbers.{pick, both, either}
-use Rattle.layout.specs.Layout.{whole, stops, run, field, run-then, run-check, run-yield, run-none}
-use Rattle.layout.specs.Fields.{outcome}
-use Rattle.layout.specs.declared.Stop.the-variants.{Refused}
+use Rattle.decode.specs.Numbers.{pick, both, either}
+use Rattle.decode.specs.Layout.{whole, stops, run, field, run-then, run-check, run-yield, run-none}
+use Rattle.decode.specs.Fields.{outcome}
+use Rattle.decode.specs.declared.Stop.the-variants.{Refused}
 use Rattle.phd.specs.Phd.{flag-byte, moved-bit, hashed-bit, bit}
 use Rattle.phd.proofs.forms.flags.Statement.{statement}
 use Rattle.phd.proofs.forms.flags.Tie as tie

@@ -4,12 +4,12 @@ use mathlib.Core.Path.{_≡_, subst}
 use Prim.Native.Nat.{ℕ, _-_}
 use native.Mathlib.Omega.{arith}
 use lib.ListN.{length}
-use Rattle.phd_read.specs.Stepping.{Halfway, Does, Went, Stayed}
+use Rattle.phd_read.specs.PhdSteps.{Halfway, Does, Went, Stayed}
 use Rattle.phd.specs.Phd.{phd}
-use Rattle.reading.specs.Stepping.{begins, further, goes-on, rows-end, refs-end}
-use Rattle.phd_read.specs.Lawful.{lawful}
+use Rattle.reader.specs.TableSteps.{begins, further, goes-on, rows-end, refs-end}
+use Rattle.phd_read.specs.PhdLaws.{lawful}
 use Rattle.phd_read.proofs.LoopLaws.{answers}
-use Rattle.reading.specs.declared.StepResult.the-variants.{Continue, End}
+use Rattle.reader.specs.declared.StepResult.the-variants.{Continue, End}
 use Rattle.phd_read.proofs.records.read_records.Statement.{statement}
 use Rattle.phd_read.proofs.records.read_records.Tie as tie
 

@@ -1,6 +1,6 @@
 -- `step` meets its contract: the end, a record, or a stop.
 use borrow.Author.Needs.{needs}
-use Rattle.phd_record.specs.Found.{found-over, found-halts}
+use Rattle.phd_record.specs.RecordOutcomes.{found-over, found-halts}
 use Rattle.phd_read.proofs.StepLaws.{stays-end, stays-stop}
 use Rattle.phd_read.proofs.records.step.Statement.{statement}
 use Rattle.phd_read.proofs.records.step.Tie as tie

@@ -6,13 +6,13 @@ use native.Mathlib.Omega.{arith}
 use native.Mathlib.Numerals.{add-one}
 use lib.ListN.{length, length-set}
 use lib.Seq.{sets}
-use Rattle.layout.specs.Layout.{run}
-use Rattle.layout_quick.specs.Quick.{far}
+use Rattle.decode.specs.Layout.{run}
+use Rattle.decode_fast.specs.RefsInRange.{far}
 use Rattle.phd.specs.Phd.{references}
-use Rattle.phd.specs.References.{references-none}
-use Rattle.phd_read.specs.Stored.{values-of}
-use Rattle.layout_quick.specs.Quick.{clear-narrow, clear-low, clear-high}
-use Rattle.phd_read.proofs.ClearLaws.{one-field, clear-more}
+use Rattle.phd.specs.RefList.{references-none}
+use Rattle.phd_read.specs.StoredRefs.{values-of}
+use Rattle.decode_fast.specs.RefsInRange.{clear-narrow, clear-low, clear-high}
+use Rattle.phd_read.proofs.InRangeLaws.{one-field, clear-more}
 use Rattle.phd_read.proofs.tables.put_clear.Statement.{statement}
 use Rattle.phd_read.proofs.tables.put_clear.Tie as tie
 

@@ -7,12 +7,12 @@ use native.Mathlib.Omega.{arith}
 use native.Mathlib.Numerals.{add-one}
 use lib.ListN.{length, length-set}
 use lib.Seq.{sets}
-use Rattle.layout.specs.Layout.{whole, run, inside}
-use Rattle.layout.specs.Fields.{outcome, reference}
+use Rattle.decode.specs.Layout.{whole, run, inside}
+use Rattle.decode.specs.Fields.{outcome, reference}
 use Rattle.phd.specs.Phd.{references}
-use Rattle.phd.specs.References.{references-none}
-use Rattle.phd_read.specs.Stored.{Whole, values-of, one-more, none-stops}
-use Rattle.phd_read.proofs.ClearLaws.{tested, few}
+use Rattle.phd.specs.RefList.{references-none}
+use Rattle.phd_read.specs.StoredRefs.{Whole, values-of, one-more, none-stops}
+use Rattle.phd_read.proofs.InRangeLaws.{tested, few}
 use Rattle.phd_read.proofs.tables.put_refs.Statement.{statement}
 use Rattle.phd_read.proofs.tables.put_refs.Tie as tie
 

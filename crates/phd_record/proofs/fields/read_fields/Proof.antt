@@ -4,11 +4,11 @@ use mathlib.Core.Path.{_≡_, sym, ap, _∙_}
 use Prim.Native.Nat.{_≤_}
 use native.Mathlib.Omega.{arith}
 use lib.ListN.{length}
-use Rattle.layout.specs.Layout.{whole, run, inside, run-then}
-use Rattle.layout.specs.Fields.{text-outcome}
+use Rattle.decode.specs.Layout.{whole, run, inside, run-then}
+use Rattle.decode.specs.Fields.{text-outcome}
 use Rattle.phd.specs.Phd.{front, middle, class-name, hash-bytes, fields}
 use Rattle.phd.specs.Shapes.{hash-narrow}
-use Rattle.phd_record.specs.Found.{found-of, front-outcome, middle-outcome}
+use Rattle.phd_record.specs.RecordOutcomes.{found-of, front-outcome, middle-outcome}
 use Rattle.phd_record.proofs.fields.read_fields.Statement.{statement}
 use Rattle.phd_record.proofs.fields.read_fields.Tie as tie
 

@@ -5,13 +5,13 @@ use Prim.Native.Nat.{ℕ, _≤_}
 use native.Mathlib.Omega.{arith}
 use lib.ListN.{length}
 use mathlib.Core.List.{List}
-use Rattle.layout.specs.Layout.{whole, stops, run, inside, run-then, run-position, run-yield}
-use Rattle.layout.specs.Fields.{outcome}
-use Rattle.layout.specs.declared.Stop.{Stop}
+use Rattle.decode.specs.Layout.{whole, stops, run, inside, run-then, run-position, run-yield}
+use Rattle.decode.specs.Fields.{outcome}
+use Rattle.decode.specs.declared.Stop.{Stop}
 use Rattle.phd.specs.Phd.{link-count, references, links, tail, linked}
-use Rattle.phd_record.specs.Found.{found-of, recorded, tail-outcome}
-use Rattle.phd_record.specs.declared.links.Checked.the-variants.{Stops}
-use Rattle.phd_record.proofs.Laws.{checked-fine, checked-broken}
+use Rattle.phd_record.specs.RecordOutcomes.{found-of, recorded, tail-outcome}
+use Rattle.phd_record.specs.declared.refs.Checked.the-variants.{Stops}
+use Rattle.phd_record.proofs.RefsLaws.{checked-fine, checked-broken}
 use Rattle.phd_record.proofs.fields.read_linked.Statement.{statement}
 use Rattle.phd_record.proofs.fields.read_linked.Tie as tie
 

@@ -1,6 +1,6 @@
 -- `recorded` meets its contract.
 use borrow.Author.Needs.{needs}
-use Rattle.phd_record.specs.Found.{recorded}
+use Rattle.phd_record.specs.RecordOutcomes.{recorded}
 use Rattle.phd_record.proofs.fields.recorded.Statement.{statement}
 use Rattle.phd_record.proofs.fields.recorded.Tie as tie
 

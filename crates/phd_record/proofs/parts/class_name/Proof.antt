@@ -1,7 +1,7 @@
 -- `class_name` meets its contract.
 use borrow.Author.Needs.{needs}
 use borrow.Author.Tests.{eq-eqb, ne-eqb}
-use Rattle.layout.specs.Layout.{run-yield}
+use Rattle.decode.specs.Layout.{run-yield}
 use Rattle.phd.specs.Phd.{class-name}
 use Rattle.phd_record.proofs.parts.class_name.Statement.{statement}
 use Rattle.phd_record.proofs.parts.class_name.Tie as tie

@@ -1,7 +1,7 @@
 -- `link_count` meets its contract.
 use borrow.Author.Needs.{needs}
 use borrow.Author.Tests.{eq-eqb, ne-eqb}
-use Rattle.layout.specs.Layout.{run-yield}
+use Rattle.decode.specs.Layout.{run-yield}
 use Rattle.phd.specs.Phd.{link-count}
 use Rattle.phd_record.proofs.parts.link_count.Statement.{statement}
 use Rattle.phd_record.proofs.parts.link_count.Tie as tie

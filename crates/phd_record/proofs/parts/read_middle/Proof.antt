@@ -4,8 +4,8 @@ use mathlib.Core.Path.{_≡_, sym, ap, _∙_}
 use Prim.Native.Nat.{_≤_}
 use native.Mathlib.Omega.{arith}
 use lib.ListN.{length}
-use Rattle.layout.specs.Layout.{whole, run, inside, field, run-then, run-yield}
-use Rattle.layout.specs.Fields.{outcome, count}
+use Rattle.decode.specs.Layout.{whole, run, inside, field, run-then, run-yield}
+use Rattle.decode.specs.Fields.{outcome, count}
 use Rattle.phd.specs.Phd.{middle}
 use Rattle.phd_record.proofs.parts.read_middle.Statement.{statement}
 use Rattle.phd_record.proofs.parts.read_middle.Tie as tie

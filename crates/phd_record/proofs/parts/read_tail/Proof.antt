@@ -4,8 +4,8 @@ use mathlib.Core.Path.{_≡_, sym, ap, _∙_}
 use Prim.Native.Nat.{_≤_}
 use native.Mathlib.Omega.{arith}
 use lib.ListN.{length}
-use Rattle.layout.specs.Layout.{whole, run, inside, field, run-then, run-yield}
-use Rattle.layout.specs.Fields.{outcome}
+use Rattle.decode.specs.Layout.{whole, run, inside, field, run-then, run-yield}
+use Rattle.decode.specs.Fields.{outcome}
 use Rattle.phd.specs.Phd.{true-length, tail}
 use Rattle.phd_record.proofs.parts.read_tail.Statement.{statement}
 use Rattle.phd_record.proofs.parts.read_tail.Tie as tie

@@ -2,8 +2,8 @@
 use borrow.Author.Needs.{needs}
 use mathlib.Core.Path.{_≡_, sym, ap, _∙_}
 use borrow.Author.Tests.{eq-eqb, ne-eqb, le-leb, lt-leb}
-use Rattle.layout.specs.Layout.{whole, run, run-then, run-check, run-yield}
-use Rattle.layout.specs.Fields.{outcome, count}
+use Rattle.decode.specs.Layout.{whole, run, run-then, run-check, run-yield}
+use Rattle.decode.specs.Fields.{outcome, count}
 use Rattle.phd.specs.Phd.{true-length}
 use Rattle.phd_record.proofs.parts.true_length.Statement.{statement}
 use Rattle.phd_record.proofs.parts.true_length.Tie as tie

@@ -3,8 +3,8 @@ use borrow.Author.Needs.{needs}
 use mathlib.Core.Path.{_≡_, refl}
 use mathlib.Core.List.{List, [], _∷_}
 use Prim.Native.Nat.{ℕ}
-use Rattle.layout_put.specs.Put.{join, be}
-use Rattle.layout_put.specs.Partly.{Partly, begin, fits, next, ends}
+use Rattle.encode.specs.Encode.{join, be}
+use Rattle.encode.specs.WriteProgress.{Partly, begin, fits, next, ends}
 use Rattle.phd.specs.declared.Facts.{Facts}
 use Rattle.phd_write.specs.Write.{header-flags, put-preamble, put-vm, put-header}
 use Rattle.phd_write.proofs.header.put.Statement.{statement}

@@ -4,11 +4,11 @@ use mathlib.Core.Path.{_≡_, refl}
 use mathlib.Core.Bool.{true}
 use mathlib.Core.List.{List, [], _∷_}
 use Prim.Native.Nat.{ℕ}
-use Rattle.layout.specs.declared.Text.{Text}
-use Rattle.layout_put.specs.Put.{join, be}
-use Rattle.layout_put.specs.Puts.{puts-none}
-use Rattle.layout_put.specs.Partly.{Partly, begin, fits, next, ends}
-use Rattle.phd_rows.specs.Good.{vm-text}
+use Rattle.decode.specs.declared.Text.{Text}
+use Rattle.encode.specs.Encode.{join, be}
+use Rattle.encode.specs.Writes.{puts-none}
+use Rattle.encode.specs.WriteProgress.{Partly, begin, fits, next, ends}
+use Rattle.phd_check.specs.GoodRows.{vm-text}
 use Rattle.phd_write.specs.Write.{put-vm}
 use Rattle.phd_write.proofs.header.put_vm.Statement.{statement}
 use Rattle.phd_write.proofs.header.put_vm.Tie as tie

@@ -1,6 +1,6 @@
 -- `size` meets its contract: the VM string's record, if there is one, and 31 bytes.
 use native.Mathlib.Omega.{arith}
-use Rattle.phd_write.specs.Sizes.{vm-size, header-size, length-header}
+use Rattle.phd_write.specs.HeaderBytes.{vm-size, header-size, length-header}
 use Rattle.phd_write.proofs.header.size.Statement.{statement}
 use Rattle.phd_write.proofs.header.size.Tie as tie
 

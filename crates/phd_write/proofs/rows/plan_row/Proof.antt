@@ -1,7 +1,7 @@
 -- `plan_row` meets its contract: the measure, and the plan by it.
 use borrow.Author.Needs.{needs}
 use mathlib.Core.Path.{sym, ap, subst, _∙_}
-use Rattle.phd_form.specs.Form.{Bounded, planned}
+use Rattle.phd_plan.specs.FormChoice.{Bounded, planned}
 use Rattle.phd_write.proofs.rows.plan_row.Statement.{statement}
 use Rattle.phd_write.proofs.rows.plan_row.Tie as tie
 

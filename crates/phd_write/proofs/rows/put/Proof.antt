@@ -4,9 +4,9 @@ use Prim.Native.Nat.{_-_, _≤_, _<_}
 use native.Mathlib.Omega.{arith}
 use Rattle.phd.specs.Shapes.{Word}
 use Rattle.table.specs.Table.{row-count}
-use Rattle.phd_rows.specs.Kept.{word-of, few-whole}
-use Rattle.phd_write.specs.Turns.{Next, next}
-use Rattle.phd_write.specs.Loops.{Putting, putting-begins, putting-end-room, putting-ends, row-lent, row-named, row-bound, putting-on, putting-fits}
+use Rattle.phd_check.specs.WellFormed.{word-of, few-whole}
+use Rattle.phd_write.specs.RowSteps.{Next, next}
+use Rattle.phd_write.specs.WriteInvariants.{Putting, putting-begins, putting-end-room, putting-ends, row-lent, row-named, row-bound, putting-on, putting-fits}
 use Rattle.phd_write.proofs.rows.put.Statement.{statement}
 use Rattle.phd_write.proofs.rows.put.Tie as tie
 

@@ -5,10 +5,10 @@ use native.Mathlib.Omega.{arith}
 use Rattle.phd.specs.Shapes.{Word}
 use Rattle.table.specs.Rows.{row-at}
 use Rattle.table.specs.Table.{row-count}
-use Rattle.phd_put.specs.Bounds.{wide}
-use Rattle.phd_rows.specs.Kept.{word-of, few-whole, few-refs}
-use Rattle.phd_write.specs.Turns.{Next, next}
-use Rattle.phd_write.specs.Loops.{Sizing, sizing-begins, sizing-ends, row-lent, row-bound, row-short, sizing-small, sizing-on}
+use Rattle.phd_encode.specs.PlanBounds.{wide}
+use Rattle.phd_check.specs.WellFormed.{word-of, few-whole, few-refs}
+use Rattle.phd_write.specs.RowSteps.{Next, next}
+use Rattle.phd_write.specs.WriteInvariants.{Sizing, sizing-begins, sizing-ends, row-lent, row-bound, row-short, sizing-small, sizing-on}
 use Rattle.phd_write.proofs.rows.size.Statement.{statement}
 use Rattle.phd_write.proofs.rows.size.Tie as tie
 

@@ -1,2 +1,0 @@
--- Lengths: how many bytes addresses and lists of references have.
-pub mod Lengths

@@ -1,3 +1,0 @@
--- Laws that the proofs of this crate's functions cite: VersionLaws (the version line in parts) and Whole (the whole text).
-pub mod VersionLaws
-pub mod Whole

@@ -1,0 +1,19 @@
+-- The version line in parts.
+use mathlib.Core.Path.{_≡_, refl}
+use mathlib.Core.List.{List, [], _∷_}
+use Prim.Native.Nat.{ℕ}
+use Rattle.decode.specs.Numbers.{pick}
+use Rattle.decode.specs.declared.Text.{Text}
+use Rattle.encode.specs.Encode.{join}
+use Rattle.phd_check.specs.GoodRows.{vm-text}
+use Rattle.digits.specs.Digits.{ascii}
+use Rattle.classic.specs.ClassicText.{version, ended}
+use Rattle.classic_write.specs.TextParts.{version-text}
+
+module _ (names : List ℕ) (t : Text) where
+  abbrev pub parts : List (List ℕ)
+  parts = ascii "// Version: " ∷ pick (t .there) (vm-text names t) [] ∷ (0x0A ∷ []) ∷ []
+
+  pub in-parts : version-text names t ≡ join parts
+  unfolding version-text version ended
+  in-parts = refl

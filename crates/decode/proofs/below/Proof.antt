@@ -1,0 +1,36 @@
+-- `below` meets its contract: the field's answer, and then the test.
+use borrow.Author.Needs.{needs}
+use borrow.Author.Tests.{lt-ltb, le-ltb}
+use mathlib.Core.Path.{_≡_, sym, ap, _∙_}
+use Rattle.decode.specs.Layout.{whole, run, field, run-then, run-check, run-yield}
+use Rattle.decode.specs.Fields.{outcome, below}
+use Rattle.decode.proofs.below.Statement.{statement}
+use Rattle.decode.proofs.below.Tie as tie
+
+got : (c : tie.After-x) → let a = c .before .before .before .before .args in
+    run (field (a .n)) (a .s .now) (a .at) ≡ whole (c .x .given .0 .0) (c .x .given .0 .1 .0)
+got c = sym (c .before .before .field .ensures .0) ∙ ap outcome (c .x .given .1)
+
+field-requires : tie.Need-field-requires
+field-requires c κs = search needs
+
+enum-known-x : tie.Need-enum-known-x
+enum-known-x c = search needs
+
+returns : tie.Need-returns
+unfolding below
+returns c = rw (run-then, got (c .before .before), run-then, run-check, lt-ltb _ _ (c .if1 .taken), run-yield)
+
+enum-known-w : tie.Need-enum-known-w
+enum-known-w c = search needs
+
+returns-2 : tie.Need-returns-2
+unfolding below
+returns-2 c = rw (run-then, got (c .before .before), run-then, run-check, le-ltb _ _ (c .if1 .left))
+
+returns-3 : tie.Need-returns-3
+unfolding below
+returns-3 c = rw (run-then, ← c .before .before .before .field .ensures .0, c .before .w .given .1)
+
+pub below-spec : {M : Type 1} → statement M
+below-spec = tie.close (tie.spec field-requires enum-known-x returns enum-known-w returns-2 returns-3)

@@ -1,0 +1,74 @@
+-- The kinds of field that dumps are made of, each a layout, with the replies of 01's table that they refuse with.
+-- A reader must believe these few lines; the functions of this crate are proved equal to them.
+use Prim.Native.Nat.{ℕ, _^_, _<_}
+use mathlib.Core.Bool.{true, false, not}
+use lib.Dec.{leb, ltb, eqb}
+use Rattle.decode.specs.Numbers.{signed, moved, counted, within}
+use Rattle.decode.specs.Layout.{Layout, yield, Outcome, whole, stops, _>>=_, _>>_, position, raw, field, check, need}
+use Rattle.decode.specs.declared.Piece.{Piece}
+use Rattle.decode.specs.declared.Piece.the-variants.{Is, Stops}
+use Rattle.decode.specs.declared.Text.{Text}
+use Rattle.decode.specs.declared.TextRead.{TextRead}
+use Rattle.decode.specs.declared.TextRead.the-variants.{Is as IsText, Stops as StopsText}
+
+-- a field of n bytes that must be v, else the reply
+unfoldable pub exactly : ℕ → ℕ → ℕ → Layout ℕ
+exactly n v reply = do
+  x ← field n
+  check reply (eqb x v)
+  yield x
+
+-- a field of n bytes that must be below top, else the reply
+unfoldable pub below : ℕ → ℕ → ℕ → Layout ℕ
+below n top reply = do
+  x ← field n
+  check reply (ltb x top)
+  yield x
+
+-- An address as a signed gap of n bytes, in fours, from the address base: base + 4 × gap, in 0 to highest, else 8.
+unfoldable pub address : ℕ → ℕ → ℕ → Layout ℕ
+address n base highest = do
+  gap ← field n
+  need 8 (moved highest base (signed n gap))
+
+-- A reference is such an address, from that of its own record, and not 0, else 9.
+unfoldable pub reference : ℕ → ℕ → ℕ → Layout ℕ
+reference n base highest = do
+  r ← address n base highest
+  check 9 (not (eqb r 0))
+  yield r
+
+-- a count, a length or a class's instance size, signed in n bytes: in 0 to 2^31 - 1, else 12
+unfoldable pub count : ℕ → Layout ℕ
+count n = do
+  c ← field n
+  need 12 (counted (signed n c))
+
+-- A UTF string: a two-byte length, at least `least`, and as many bytes, each from low to 0x7E; else 7.
+unfoldable pub string : ℕ → ℕ → Layout Text
+string low least = do
+  n ← field 2
+  check 7 (leb least n)
+  p ← position
+  text ← raw n
+  check 7 (within low 0x7E text)
+  yield (record { there = true; place = p; len = n })
+
+-- no string
+abbrev pub no-text : Text
+no-text = record { there = false; place = 0; len = 0 }
+
+-- ---- what the functions' answers say
+
+abbrev pub outcome : Piece → Outcome ℕ
+outcome (Is a next) = whole a next
+outcome (Stops w) = stops w
+
+abbrev pub text-outcome : TextRead → Outcome Text
+text-outcome (IsText t next) = whole t next
+text-outcome (StopsText w) = stops w
+
+-- a number of n bytes is below 256 ^ n
+abbrev pub Small : ℕ → Piece → Type 0
+Small n (Is a next) = a < 256 ^ n
+Small n (Stops w) = Unit {0}

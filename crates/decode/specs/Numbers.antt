@@ -1,0 +1,59 @@
+-- Numbers as a dump holds them: big-endian bytes, two's complement, and the exact sums that give an address.
+-- A reader must believe that `value`, `signed` and `moved` say what 01 says of numbers, gaps and references.
+use Prim.Native.Nat.{ℕ, suc, _+_, _-_, _*_, _^_}
+use mathlib.Core.Bool.{Bool, true, false}
+use mathlib.Core.List.{List, [], _∷_}
+use lib.Dec.{leb, ltb}
+use lib.IntN.{ℤ, pos, negsuc}
+use Rattle.decode.specs.declared.Maybe.{Maybe}
+use Rattle.decode.specs.declared.Maybe.the-variants.{Just, Nothing}
+use Rattle.decode.specs.declared.Step.{Step}
+use Rattle.decode.specs.declared.Step.the-variants.{Up, Down}
+
+-- the one or the other, by a test
+abbrev pub pick {ℓ} : {X : Type ℓ} → Bool → X → X → X
+pick true x y = x
+pick false x y = y
+
+abbrev pub both : Bool → Bool → Bool
+both a b = pick a b false
+
+abbrev pub either : Bool → Bool → Bool
+either a b = pick a true b
+
+-- the value of bytes, the first the highest, after those whose value is v
+unfoldable pub value-after : ℕ → List ℕ → ℕ
+value-after v [] = v
+value-after v (b ∷ bs) = value-after (v * 256 + b) bs
+
+-- The value of bytes. No bytes are 0: so a field that a record lacks reads as 0.
+abbrev pub value : List ℕ → ℕ
+value bs = value-after 0 bs
+
+-- Two's complement: what n bytes of the unsigned value v say as a signed number. The highest bit says negative.
+unfoldable pub signed : ℕ → ℕ → ℤ
+signed n v = pick (ltb (v + v) (256 ^ n)) (pos v) (negsuc (256 ^ n - suc v))
+
+-- a signed number by its sign
+unfoldable pub step : ℤ → Step
+step (pos n) = Up n
+step (negsuc n) = Down n
+
+-- a sum, if it lies in 0 to highest
+abbrev pub in-range : ℕ → ℕ → Maybe
+in-range highest sum = pick (leb sum highest) (Just sum) Nothing
+
+-- base + 4 × gap, an exact sum, if it lies in 0 to highest. (`negsuc n` is -1 - n.)
+unfoldable pub moved : ℕ → ℕ → ℤ → Maybe
+moved highest base (pos n) = in-range highest (base + 4 * n)
+moved highest base (negsuc n) = pick (leb (4 * suc n) base) (in-range highest (base - 4 * suc n)) Nothing
+
+-- Counts, lengths and the instance sizes of classes lie in 0 to 2^31 - 1, whatever the field's width.
+unfoldable pub counted : ℤ → Maybe
+counted (pos n) = pick (ltb n (2 ^ 31)) (Just n) Nothing
+counted (negsuc n) = Nothing
+
+-- whether every byte lies from low to high
+unfoldable pub within : ℕ → ℕ → List ℕ → Bool
+within low high [] = true
+within low high (b ∷ bs) = both (both (leb low b) (leb b high)) (within low high bs)

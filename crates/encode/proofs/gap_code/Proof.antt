@@ -1,0 +1,18 @@
+-- `gap_code` meets its contract: the code of a gap is that of its distance.
+use borrow.Author.Needs.{needs}
+use mathlib.Core.Path.{sym, _∙_}
+use Rattle.encode.proofs.EncodeLaws.{code-gap}
+use Rattle.encode.proofs.gap_code.Statement.{statement}
+use Rattle.encode.proofs.gap_code.Tie as tie
+
+distance-requires : tie.Need-distance-requires
+distance-requires c κs = search needs
+
+code-of-requires : tie.Need-code-of-requires
+code-of-requires c κs = search needs
+
+returns : tie.Need-returns
+returns c = c .code-of .ensures ∙ sym (code-gap _ _ _ (c .before .distance .ensures))
+
+pub gap-code-spec : {M : Type 1} → statement M
+gap-code-spec = tie.close (tie.spec distance-requires code-of-requires returns)

@@ -1,0 +1,16 @@
+-- `raw_gap` meets its contract: the distance, up or down.
+use borrow.Author.Needs.{needs}
+use Rattle.encode.proofs.raw_gap.Statement.{statement}
+use Rattle.encode.proofs.raw_gap.Tie as tie
+
+distance-requires : tie.Need-distance-requires
+distance-requires c κs = search needs
+
+directed-requires : tie.Need-directed-requires
+directed-requires c κs = search needs
+
+returns : tie.Need-returns
+returns c = rw (c .before .distance .ensures) (c .directed .ensures)
+
+pub raw-gap-spec : {M : Type 1} → statement M
+raw-gap-spec = tie.close (tie.spec distance-requires directed-requires returns)

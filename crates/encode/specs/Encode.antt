@@ -1,0 +1,50 @@
+-- Numbers as they are put into a dump: big-endian bytes, gaps in two's complement, and the least widths that hold them.
+-- A reader must believe these few lines; that what they put is read as it was is proved in Back.
+use Prim.Native.Nat.{ℕ, zero, suc, _+_, _-_, _/_, _%_, _^_}
+use mathlib.Core.Bool.{Bool}
+use mathlib.Core.List.{List, [], _∷_, _++_}
+use lib.Dec.{leb, ltb}
+use lib.IntN.{ℤ, pos, negsuc}
+use Rattle.decode.specs.Numbers.{pick}
+
+-- lists one after another
+abbrev pub join : List (List ℕ) → List ℕ
+join [] = []
+join (x ∷ xs) = x ++ join xs
+
+-- the lowest n bytes of v, the highest first
+unfoldable pub be : ℕ → ℕ → List ℕ
+be zero v = []
+be (suc n) v = be n (v / 256) ++ (v % 256 ∷ [])
+
+-- How far it is from one address to another, in fours, rounded down. (`negsuc n` is -1 - n.)
+unfoldable pub gap : ℕ → ℕ → ℤ
+gap from to = pick (leb from to) (pos ((to - from) / 4)) (negsuc ((from - to - 1) / 4))
+
+-- a signed number in two's complement, of 64 bits: its lowest n bytes are the number in any n bytes that hold it
+unfoldable pub complement : ℤ → ℕ
+complement (pos n) = n
+complement (negsuc n) = 2 ^ 64 - suc n
+
+-- whether n bytes hold a signed number: it lies in - 256 ^ n / 2 to 256 ^ n / 2 - 1
+unfoldable pub fits : ℕ → ℤ → Bool
+fits n (pos m) = ltb (m + m) (256 ^ n)
+fits n (negsuc m) = ltb (m + m) (256 ^ n)
+
+-- the least width code that holds it: 0 byte, 1 short, 2 int, 3 long
+unfoldable pub code : ℤ → ℕ
+code g = pick (fits 1 g) 0 (pick (fits 2 g) 1 (pick (fits 4 g) 2 3))
+
+-- the greater of two
+abbrev pub most : ℕ → ℕ → ℕ
+most a b = pick (leb a b) b a
+
+-- the greatest of the width code m and those of references, of a record at the address a
+unfoldable pub widest : ℕ → ℕ → List ℕ → ℕ
+widest m a [] = m
+widest m a (r ∷ rs) = widest (most m (code (gap a r))) a rs
+
+-- references of w bytes each, of a record at the address a
+unfoldable pub links : ℕ → ℕ → List ℕ → List ℕ
+links w a [] = []
+links w a (r ∷ rs) = be w (complement (gap a r)) ++ links w a rs

@@ -1,0 +1,23 @@
+-- How many bytes references are, and storing one list after another.
+-- Assumes nothing.
+use mathlib.Core.Path.{_≡_}
+use mathlib.Core.List.{List, [], _∷_, _++_}
+use Prim.Native.Nat.{ℕ, suc, _+_, _*_}
+use native.Mathlib.Nat.{add-zero}
+use native.Mathlib.Omega.{arith}
+use lib.ListN.{length, set, length-append}
+use lib.Seq.{sets}
+use Rattle.encode.specs.Encode.{gap, complement, links}
+use Rattle.encode.specs.NumberRoundTrip.{length-be}
+
+pub length-links : (w a : ℕ) (rs : List ℕ) → length (links w a rs) ≡ length rs * w
+unfolding links
+length-links w a [] = omega arith
+length-links w a (r ∷ rs) = simp (length-append, length-be w (complement (gap a r)), length-links w a rs) (omega arith)
+
+-- two lists stored as one: the second after the first
+pub sets-append : (l : List ℕ) (at : ℕ) (xs ys : List ℕ) → sets l at (xs ++ ys) ≡ sets (sets l at xs) (at + length xs) ys
+sets-append l at [] ys = rw add-zero
+sets-append l at (x ∷ xs) ys =
+    let e : at + suc (length xs) ≡ suc at + length xs = omega arith in
+    rw e (sets-append (set l at x) (suc at) xs ys)

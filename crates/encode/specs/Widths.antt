@@ -1,0 +1,163 @@
+-- Laws of widths: what the least width codes are, and that the widths they name hold what was measured.
+-- Assumes nothing.
+use mathlib.Core.Path.{_≡_, refl}
+use Prim.Native.Nat.{ℕ, zero, suc, _+_, _-_, _/_, _^_, _≤_, _<_}
+use mathlib.Core.Bool.{true, false}
+use mathlib.Core.List.{List, [], _∷_}
+use native.Mathlib.Nat.{add-zero, pow-le-pow-right}
+use native.Mathlib.Omega.{arith}
+use native.Mathlib.Decide.{decLe}
+use lib.Dec.{leb, ltb, lit<}
+use lib.IntN.{ℤ, pos, negsuc}
+use borrow.Author.Tests.{le-leb, lt-leb, lt-ltb, ltb-true, leb-true, leb-false}
+use Rattle.decode.specs.Numbers.{pick}
+use Rattle.decode.specs.Values.{pick-either, by-cases}
+use Rattle.encode.specs.Encode.{gap, fits, code, most, widest}
+
+-- ---- what a width holds
+
+more-held : (n m v : ℕ) → n ≤ m → ltb (v + v) (256 ^ n) ≡ true → ltb (v + v) (256 ^ m) ≡ true
+more-held n m v l h =
+    let p : 256 ^ n ≤ 256 ^ m = pow-le-pow-right {n = 256} (lit< tt) {i = n} {j = m} l in
+    let q : v + v < 256 ^ n = ltb-true _ _ h in
+    lt-ltb (v + v) (256 ^ m) (omega arith)
+
+-- a wider field holds it too
+pub fits-more : (n m : ℕ) (g : ℤ) → n ≤ m → fits n g ≡ true → fits m g ≡ true
+unfolding fits
+fits-more n m (pos v) l h = more-held n m v l h
+fits-more n m (negsuc v) l h = more-held n m v l h
+
+-- any two addresses of n bytes are a gap of n bytes
+pub gap-fits : (n a b : ℕ) → a < 256 ^ n → b < 256 ^ n → fits n (gap a b) ≡ true
+unfolding fits gap
+gap-fits n a b p q = elim (decLe a b) [
+  | yes l ↦ let d : ℕ = (b - a) / 4 in rw (le-leb a b l) (lt-ltb (d + d) (256 ^ n) (omega arith))
+  | no l ↦
+      let k : b < a = omega arith in
+      let d : ℕ = (a - b - 1) / 4 in
+      rw (lt-leb a b k) (lt-ltb (d + d) (256 ^ n) (omega arith))
+]
+
+-- ---- the least width code
+
+-- of n codes from c on, the least whose width holds a number, or the next code where none does
+abbrev least-code : ℤ → ℕ → ℕ → ℕ
+least-code g c zero = c
+least-code g c (suc n) = pick (fits (2 ^ c) g) c (least-code g (suc c) n)
+
+-- how many of these codes have widths that are too narrow for it
+abbrev too-narrow : ℤ → ℕ → ℕ → ℕ
+too-narrow g c zero = 0
+too-narrow g c (suc n) = pick (fits (2 ^ c) g) 0 1 + too-narrow g (suc c) n
+
+module _ (g : ℤ) where
+  -- it is at most the next code
+  least-most : (c n : ℕ) → least-code g c n ≤ c + n
+  least-most c zero = omega arith
+  least-most c (suc n) =
+      pick-either (λ k. k ≤ c + suc n) (fits (2 ^ c) g) c (least-code g (suc c) n) (omega arith) (omega (arith, least-most (suc c) n))
+
+  -- a code whose width holds the number is none whose width does not
+  differ : (c k : ℕ) → fits (2 ^ c) g ≡ false → fits (2 ^ k) g ≡ true → c ≡ k → ⊥
+  differ c k e h d = let z : _≡_ {A = ℕ} 0 1 = cc in omega arith
+
+  -- no code below it has a width that holds the number
+  least-first : (k c n : ℕ) → fits (2 ^ k) g ≡ true → c ≤ k → least-code g c n ≤ k
+  least-first k c zero h l = l
+  least-first k c (suc n) h l =
+      by-cases (λ t. pick t c (least-code g (suc c) n) ≤ k) (fits (2 ^ c) g) (λ _. l)
+      (λ e. least-first k (suc c) n h (omega (arith, differ c k e h)))
+
+  -- its own width holds the number, if that of the next code does where none of these does
+  least-holds : (c n : ℕ) → fits (2 ^ (c + n)) g ≡ true → fits (2 ^ least-code g c n) g ≡ true
+  least-holds c zero h = rw add-zero at h
+  least-holds c (suc n) h =
+      let e : c + suc n ≡ suc c + n = omega arith in
+      by-cases (λ t. fits (2 ^ pick t c (least-code g (suc c) n)) g ≡ true) (fits (2 ^ c) g) (λ d. d) (λ _. least-holds (suc c) n (rw e at h))
+
+  -- from a code whose width holds the number on, none is too narrow
+  none-narrow : (c n : ℕ) → fits (2 ^ c) g ≡ true → too-narrow g c n ≡ 0
+  none-narrow c zero h = refl
+  none-narrow c (suc n) h = rw h (omega (arith, none-narrow (suc c) n (fits-more (2 ^ c) (2 ^ suc c) g (omega arith) h)))
+
+  -- so the least code is how many are too narrow
+  least-counts : (c n : ℕ) → c + too-narrow g c n ≡ least-code g c n
+  least-counts c zero = omega arith
+  least-counts c (suc n) =
+      by-cases (λ t. c + (pick t 0 1 + too-narrow g (suc c) n) ≡ pick t c (least-code g (suc c) n)) (fits (2 ^ c) g)
+      (λ e. omega (arith, none-narrow c (suc n) e)) (λ _. omega (arith, least-counts (suc c) n))
+
+  -- a number's code is the least of 0, 1 and 2 whose width holds it, or 3
+  code-is : code g ≡ least-code g 0 3
+  unfolding code
+  code-is = refl
+
+  pub code-lt : code g < 4
+  code-lt = omega (arith, code-is, least-most 0 3)
+
+  -- Where the width of a code holds a number, the number's own code is no greater.
+  pub code-least : (k : ℕ) → fits (2 ^ k) g ≡ true → code g ≤ k
+  code-least k h = rw code-is (least-first k 0 3 h (omega arith))
+
+  -- what 8 bytes hold is held by the width of its code
+  pub code-fits : fits 8 g ≡ true → fits (2 ^ code g) g ≡ true
+  code-fits h = rw code-is (least-holds 0 3 h)
+
+  -- the code of a number is how many codes have widths that do not hold it
+  pub code-counts : pick (fits 1 g) 0 1 + pick (fits 2 g) 0 1 + pick (fits 4 g) 0 1 ≡ code g
+  code-counts = omega (arith, code-is, least-counts 0 3)
+
+-- and by that of any greater code
+pub code-more : (g : ℤ) (c : ℕ) → code g ≤ c → fits 8 g ≡ true → fits (2 ^ c) g ≡ true
+code-more g c l h = fits-more (2 ^ code g) (2 ^ c) g (pow-le-pow-right {n = 2} (lit< tt) {i = code g} {j = c} l) (code-fits g h)
+
+-- ---- the greater of two, and the greatest of all references
+
+pub most-left : (a b : ℕ) → a ≤ most a b
+most-left a b = by-cases (λ t. a ≤ pick t b a) (leb a b) (leb-true a b) (λ _. omega arith)
+
+pub most-right : (a b : ℕ) → b ≤ most a b
+most-right a b = by-cases (λ t. b ≤ pick t b a) (leb a b) (λ _. omega arith) (λ e. omega (arith, leb-false a b e))
+
+pub most-le : (a b k : ℕ) → a ≤ k → b ≤ k → most a b ≤ k
+most-le a b k p q = pick-either (λ x. x ≤ k) (leb a b) b a q p
+
+pub most-lt : (a b k : ℕ) → a < k → b < k → most a b < k
+most-lt a b k p q = pick-either (λ x. x < k) (leb a b) b a q p
+
+pub widest-lt : (m a : ℕ) (rs : List ℕ) → m < 4 → widest m a rs < 4
+unfolding widest
+widest-lt m a [] l = l
+widest-lt m a (r ∷ rs) l = widest-lt (most m (code (gap a r))) a rs (most-lt m (code (gap a r)) 4 l (code-lt (gap a r)))
+
+pub widest-first : (m a : ℕ) (rs : List ℕ) → m ≤ widest m a rs
+unfolding widest
+widest-first m a [] = omega arith
+widest-first m a (r ∷ rs) =
+    let n : ℕ = most m (code (gap a r)) in
+    let p : m ≤ n = most-left m (code (gap a r)) in
+    let q : n ≤ widest n a rs = widest-first n a rs in
+    omega arith
+
+-- all references of a record at the address a fit w bytes
+abbrev pub AllFit : ℕ → ℕ → List ℕ → Type 0
+AllFit w a [] = Unit {0}
+AllFit w a (r ∷ rs) = (fits w (gap a r) ≡ true) × AllFit w a rs
+
+-- references that 8 bytes hold are held by the width of the greatest code
+pub widest-fits : (m a : ℕ) (rs : List ℕ) → AllFit 8 a rs → AllFit (2 ^ widest m a rs) a rs
+unfolding widest
+widest-fits m a [] h = tt
+widest-fits m a (r ∷ rs) h =
+    let c : ℕ = code (gap a r) in
+    let n : ℕ = most m c in
+    let p : c ≤ n = most-right m c in
+    let q : n ≤ widest n a rs = widest-first n a rs in
+    (code-more (gap a r) (widest n a rs) (omega arith) (h .0), widest-fits n a rs (h .1))
+
+-- and no lesser one holds them
+pub widest-least : (k m a : ℕ) (rs : List ℕ) → m ≤ k → AllFit (2 ^ k) a rs → widest m a rs ≤ k
+unfolding widest
+widest-least k m a [] l h = l
+widest-least k m a (r ∷ rs) l h = widest-least k _ a rs (most-le m _ k l (code-least (gap a r) k (h .0))) (h .1)

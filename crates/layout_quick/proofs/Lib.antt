@@ -1,2 +1,0 @@
--- Laws of bytes, shifts and references that the proofs of this crate's functions cite.
-pub mod Laws

@@ -1,2 +1,0 @@
--- Quick says when the references of a record need no judging, and what they are then.
-pub mod Quick

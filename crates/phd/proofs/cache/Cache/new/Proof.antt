@@ -1,0 +1,12 @@
+-- `new` meets its contract.
+use mathlib.Core.Path.{refl}
+use Rattle.phd.specs.Phd.{empty}
+use Rattle.phd.proofs.cache.Cache.new.Statement.{statement}
+use Rattle.phd.proofs.cache.Cache.new.Tie as tie
+
+returns : tie.Need-returns
+unfolding empty
+returns c = refl
+
+pub new-spec : {M : Type 1} → statement M
+new-spec = tie.close (tie.spec returns)

@@ -1,0 +1,21 @@
+-- `header_good` meets its contract: its tests, joined.
+use lib.Dec.{eqb}
+use borrow.Author.Needs.{needs}
+use Rattle.table.specs.Table.{row-count}
+use Rattle.table.specs.Rows.{length-rows}
+use Rattle.phd_check.specs.GoodRows.{good-header}
+use Rattle.phd_check.proofs.CheckLaws.{joined, either-joined}
+use Rattle.phd_check.proofs.header_good.Statement.{statement}
+use Rattle.phd_check.proofs.header_good.Tie as tie
+
+vm-good-requires : tie.Need-vm-good-requires
+vm-good-requires c κs = search needs
+
+returns : tie.Need-returns
+unfolding good-header row-count
+returns c =
+    let f = c .before .before .before .before .before .before .args .facts in
+    rw (length-rows, either-joined (eqb (f .word) 32) (eqb (f .word) 64), c .vm-good .ensures) (joined _ _)
+
+pub header-good-spec : {M : Type 1} → statement M
+header-good-spec = tie.close (tie.spec vm-good-requires returns)

@@ -1,0 +1,2 @@
+-- Laws (the bytes of a lean record).
+mod CompactRecord

@@ -1,4 +1,0 @@
--- Form (which form a record is written in, with its tag and its flag byte) and LeastChoice (its widths are the least, and an object's
--- form the shortest that can hold it).
-pub mod Form
-pub mod LeastChoice

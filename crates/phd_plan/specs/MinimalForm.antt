@@ -1,0 +1,110 @@
+-- The writer's choice is the least: each width code is the least that holds what it is for, and an object goes in the shortest of the
+-- forms that can hold it.
+-- A reader must believe `CanHold` and `overhead`.
+use mathlib.Core.Path.{_≡_, refl}
+use Prim.Native.Nat.{ℕ, _+_, _^_, _≤_, _<_}
+use native.Mathlib.Omega.{arith}
+use mathlib.Core.Bool.{Bool, true, false}
+use mathlib.Core.List.{List}
+use lib.Dec.{leb, ltb}
+use lib.IntN.{pos}
+use borrow.Author.Tests.{le-leb, lt-ltb, leb-true, ltb-true}
+use Rattle.decode.specs.Numbers.{pick, both}
+use Rattle.decode.specs.Values.{both-left, both-right}
+use Rattle.encode.specs.Encode.{gap, fits, code}
+use Rattle.encode.specs.Widths.{AllFit, code-least, most-le, widest-least}
+use Rattle.table.specs.declared.Row.{Row}
+use Rattle.phd.specs.declared.cache.Cache.{Cache}
+use Rattle.phd.specs.declared.Form.{Form}
+use Rattle.phd.specs.declared.Form.the-variants.{Short, Medium, Long, Class, ObjectArray, Primitive, LongPrimitive}
+use Rattle.phd_plan.specs.FormChoice.{measure, flagged, object-form}
+use Rattle.phd_plan.specs.declared.Measure.{Measure}
+
+-- ---- widths
+
+-- Of the measures of a row, after a record at the address `before`, with the cache c.
+module _ (c : Cache) (before : ℕ) (r : Row) (refs : List ℕ) where
+  pub gap-least : (k : ℕ) → fits (2 ^ k) (gap before (r .address)) ≡ true → measure c before r refs .gap ≤ k
+  unfolding measure
+  gap-least k p = omega (arith, code-least (gap before (r .address)) k p)
+
+  pub link-least : (k : ℕ) → AllFit (2 ^ k) (r .address) refs → measure c before r refs .link ≤ k
+  unfolding measure
+  link-least k p = omega (arith, widest-least k 0 (r .address) refs (omega arith) p)
+
+  pub pair-least : (k : ℕ) → fits (2 ^ k) (gap before (r .address)) ≡ true → fits (2 ^ k) (pos (r .len)) ≡ true → measure c before r refs .pair ≤ k
+  unfolding measure
+  pair-least k p q =
+      omega (arith, most-le (code (gap before (r .address))) (code (pos (r .len))) k (code-least _ k p) (code-least _ k q))
+
+-- ---- the form of an object
+
+-- Whether a form can hold an object of these measures. A short or medium record has no hash bits, a byte or a short for its gap, and
+-- two or three bits for its count; a short one has two for a slot.
+abbrev pub CanHold : Form → Measure → Type 0
+CanHold Short m = (flagged (m .hashkind) ≡ false) × (m .gap < 2) × (m .count ≤ 3) × (m .slot < 4)
+CanHold Medium m = (flagged (m .hashkind) ≡ false) × (m .gap < 2) × (m .count ≤ 7)
+CanHold Long m = Unit {0}
+CanHold Class m = ⊥
+CanHold ObjectArray m = ⊥
+CanHold Primitive m = ⊥
+CanHold LongPrimitive m = ⊥
+
+-- the bytes of an object's form beside its gap, its hash and its references: the tag; a class word of w bytes; a flag byte and a count
+abbrev pub overhead : ℕ → Form → ℕ
+overhead w Short = 1
+overhead w Medium = 1 + w
+overhead w Long = 6 + w
+overhead w Class = 0
+overhead w ObjectArray = 0
+overhead w Primitive = 0
+overhead w LongPrimitive = 0
+
+short-or-medium : (w : ℕ) (b : Bool) → overhead w (pick b Short Medium) ≤ 1 + w
+short-or-medium w true = omega arith
+short-or-medium w false = omega arith
+
+at-most-long : (w : ℕ) (fm : Form) → overhead w fm ≤ 6 + w
+at-most-long w Short = omega arith
+at-most-long w Medium = omega arith
+at-most-long w Long = omega arith
+at-most-long w Class = omega arith
+at-most-long w ObjectArray = omega arith
+at-most-long w Primitive = omega arith
+at-most-long w LongPrimitive = omega arith
+
+-- No form that can hold an object is shorter than the one chosen.
+pub object-least : (w : ℕ) (fm : Form) (m : Measure) → CanHold fm m → overhead w (object-form m) ≤ overhead w fm
+unfolding object-form
+object-least w Short m x = rw (x .0, lt-ltb _ _ (x .1), le-leb _ _ (x .2), lt-ltb _ _ (x .3)) (omega arith)
+object-least w Medium m x = rw (x .0, lt-ltb _ _ (x .1), le-leb _ _ (x .2)) (short-or-medium w (both (leb (m .count) 3) (both (ltb (m .slot) 4) true)))
+object-least w Long m x = at-most-long w (object-form m)
+object-least w Class m x = absurd x
+object-least w ObjectArray m x = absurd x
+object-least w Primitive m x = absurd x
+object-least w LongPrimitive m x = absurd x
+
+-- And the one chosen can hold it.
+pub object-held : (m : Measure) → CanHold (object-form m) m
+unfolding object-form
+object-held m = by (flagged (m .hashkind)) (both n3 (both s4 g2)) (both n7 g2) refl refl refl
+  where
+    n3 : Bool
+    n3 = leb (m .count) 3
+
+    n7 : Bool
+    n7 = leb (m .count) 7
+
+    s4 : Bool
+    s4 = ltb (m .slot) 4
+
+    g2 : Bool
+    g2 = ltb (m .gap) 2
+
+    by : (f a b : Bool) → flagged (m .hashkind) ≡ f → both n3 (both s4 g2) ≡ a → both n7 g2 ≡ b → CanHold (pick f Long (pick a Short (pick b Medium Long))) m
+    by true a b ef ea eb = tt
+    by false true b ef ea eb =
+        let t = both-right n3 (both s4 g2) ea in
+        (ef, ltb-true _ _ (both-right s4 g2 t), leb-true _ _ (both-left n3 (both s4 g2) ea), ltb-true _ _ (both-left s4 g2 t))
+    by false false true ef ea eb = (ef, ltb-true _ _ (both-right n7 g2 eb), leb-true _ _ (both-left n7 g2 eb))
+    by false false false ef ea eb = tt

@@ -1,2 +1,0 @@
--- Laws (the bytes of a lean record).
-mod Laws

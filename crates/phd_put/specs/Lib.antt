@@ -1,7 +1,0 @@
--- Record (the bytes of a record, and the cache after it), Sizes (how many they are), Sized (how many, by the row alone), Bits (the
--- bits of tags and flag bytes) and Bounds (the measures of a good record are bounded).
-pub mod Record
-pub mod Sizes
-pub mod Bits
-pub mod Sized
-pub mod Bounds

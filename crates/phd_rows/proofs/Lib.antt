@@ -1,2 +1,0 @@
--- Laws of the tests of a row and of the first bad row.
-pub mod Laws

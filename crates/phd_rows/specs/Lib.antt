@@ -1,3 +1,0 @@
--- Good (which rows and which header may be written) and Kept (what good rows and headers are, as facts).
-pub mod Good
-pub mod Kept

@@ -1,0 +1,16 @@
+-- Bytes are stored one after another: the first that is left, and then the others.
+-- Assumes nothing.
+use mathlib.Core.Path.{_≡_}
+use mathlib.Core.List.{List}
+use Prim.Native.Nat.{ℕ, suc, _+_, _-_, _≤_, _<_}
+use native.Mathlib.Omega.{arith}
+use lib.ListN.{length, getD, take, drop, set}
+use lib.Seq.{sets}
+use Rattle.decode.specs.Slices.{part-next}
+
+pub next-stored : (refs s : List ℕ) (from n to i : ℕ) → i < n → from + n ≤ length s
+    → sets refs (to + i) (take (n - i) (drop (from + i) s))
+    ≡ sets (set refs (to + i) (getD s (from + i) 0)) (to + (i + 1)) (take (n - (i + 1)) (drop (from + (i + 1)) s))
+next-stored refs s from n to i h l =
+    let g : suc (to + i) ≡ to + (i + 1) = omega arith in
+    rw (part-next s from n i h l, ← g)
