@@ -11,19 +11,19 @@ use lib.ListN.{length, getD}
 use borrow.Author.Tests.{eqb-true, eqb-false}
 use Rattle.decode.specs.Numbers.{both}
 use Rattle.decode.specs.Values.{both-left, both-right}
-use Rattle.decode.specs.Slices.{part-cons}
-use Rattle.phd.specs.Phd.{same}
+use Rattle.decode.specs.Slices.{slice-cons}
+use Rattle.phd.specs.Phd.{bytes-equal}
 use Rattle.table.specs.Rows.{name-of}
-use Rattle.phd_check.specs.GoodRows.{every}
+use Rattle.phd_check.specs.GoodRows.{all-true}
 use Rattle.phd_check.specs.WellFormed.{length-name-of}
 use Rattle.table.specs.declared.Row.{Row}
-use Rattle.phd_check.proofs.CheckLaws.{joined, both-joined}
-use Rattle.classic.specs.ClassicText.{letters, signature, is-class-at, is-class-named}
+use Rattle.phd_check.proofs.CheckLaws.{all-of-all-true, both-joined}
+use Rattle.classic.specs.ClassicText.{letters, primitive-array-type, is-class-at, is-class-named}
 
 -- a class row by its address
-pub class-test : (a : ℕ) (r : Row) → eqb (r .kind) 1 && eqb (r .address) a ≡ is-class-at a r
+pub is-class-at-test : (a : ℕ) (r : Row) → eqb (r .kind) 1 && eqb (r .address) a ≡ is-class-at a r
 unfolding is-class-at
-class-test a r = both-joined (eqb (r .kind) 1) (eqb (r .address) a)
+is-class-at-test a r = both-joined (eqb (r .kind) 1) (eqb (r .address) a)
 
 -- ---- a class row by its name
 
@@ -32,43 +32,43 @@ both-false true = refl
 both-false false = refl
 
 -- lists of different lengths are not the same
-differ : (xs ys : List ℕ) → (length xs ≡ length ys → ⊥) → same xs ys ≡ false
-unfolding same
-differ [] [] n = absurd (n refl)
-differ [] (y ∷ ys) n = refl
-differ (x ∷ xs) [] n = refl
-differ (x ∷ xs) (y ∷ ys) n = rw (differ xs ys (λ e. n (ap suc e))) (both-false (eqb x y))
+different-lengths-differ : (xs ys : List ℕ) → (length xs ≡ length ys → ⊥) → bytes-equal xs ys ≡ false
+unfolding bytes-equal
+different-lengths-differ [] [] n = absurd (n refl)
+different-lengths-differ [] (y ∷ ys) n = refl
+different-lengths-differ (x ∷ xs) [] n = refl
+different-lengths-differ (x ∷ xs) (y ∷ ys) n = rw (different-lengths-differ xs ys (λ e. n (ap suc e))) (both-false (eqb x y))
 
-length-signature : (prim : ℕ) → length (signature prim) ≡ 2
-unfolding signature
-length-signature prim = refl
+length-primitive-array-type : (prim : ℕ) → length (primitive-array-type prim) ≡ 2
+unfolding primitive-array-type
+length-primitive-array-type prim = refl
 
 -- a class row with a name of two bytes
-pub two-bytes : (r : Row) → eqb (r .kind) 1 && eqb (r .namelen) 2 ≡ true → (eqb (r .kind) 1 ≡ true) × (r .namelen ≡ 2)
-two-bytes r e =
+pub class-name-two-bytes : (r : Row) → eqb (r .kind) 1 && eqb (r .namelen) 2 ≡ true → (eqb (r .kind) 1 ≡ true) × (r .namelen ≡ 2)
+class-name-two-bytes r e =
     let k : Bool = eqb (r .kind) 1 in
     let n : Bool = eqb (r .namelen) 2 in
     let b = sym (both-joined k n) ∙ e in
     (both-left k n b, eqb-true _ _ (both-right k n b))
 
 -- the tests of the kind and of the name's length, and of its two bytes
-module _ (names : List ℕ) (r : Row) (prim : ℕ) (room : r .place + r .namelen ≤ length names) where
-  pub unlike : eqb (r .kind) 1 && eqb (r .namelen) 2 ≡ false → false ≡ is-class-named names (signature prim) r
+module _ (names : List ℕ) (r : Row) (prim : ℕ) (in-bounds : r .place + r .namelen ≤ length names) where
+  pub not-class-named : eqb (r .kind) 1 && eqb (r .namelen) 2 ≡ false → false ≡ is-class-named names (primitive-array-type prim) r
   unfolding is-class-named
-  unlike e = by (eqb (r .kind) 1) (eqb (r .namelen) 2) refl e
+  not-class-named e = by (eqb (r .kind) 1) (eqb (r .namelen) 2) refl e
     where
-      by : (k n : Bool) → eqb (r .namelen) 2 ≡ n → k && n ≡ false → false ≡ both k (same (name-of names r) (signature prim))
+      by : (k n : Bool) → eqb (r .namelen) 2 ≡ n → k && n ≡ false → false ≡ both k (bytes-equal (name-of names r) (primitive-array-type prim))
       by false n f g = refl
       by true true f g = let z : _≡_ {A = ℕ} 0 1 = cc in absurd (omega arith)
       by true false f g =
-          sym (differ (name-of names r) (signature prim) (λ l. eqb-false _ _ f (sym (length-name-of names r room) ∙ (l ∙ length-signature prim))))
+          sym (different-lengths-differ (name-of names r) (primitive-array-type prim) (λ l. eqb-false _ _ f (sym (length-name-of names r in-bounds) ∙ (l ∙ length-primitive-array-type prim))))
 
-  pub alike : (letter : ℕ) → eqb (r .kind) 1 && eqb (r .namelen) 2 ≡ true → letter ≡ getD letters prim 0
-      → eqb (getD names (r .place) 0) 0x5B && eqb (getD names (r .place + 1) 0) letter ≡ is-class-named names (signature prim) r
-  unfolding is-class-named signature name-of same every
-  alike letter e f =
-      let c = two-bytes r e in
+  pub class-named-bytes : (letter : ℕ) → eqb (r .kind) 1 && eqb (r .namelen) 2 ≡ true → letter ≡ getD letters prim 0
+      → eqb (getD names (r .place) 0) 0x5B && eqb (getD names (r .place + 1) 0) letter ≡ is-class-named names (primitive-array-type prim) r
+  unfolding is-class-named primitive-array-type name-of bytes-equal all-true
+  class-named-bytes letter e f =
+      let c = class-name-two-bytes r e in
       let l : r .place < length names = omega arith in
       let m : suc (r .place) < length names = omega arith in
-      rw (c .0, c .1, part-cons names (r .place) 1 l, part-cons names (suc (r .place)) 0 m, add-one, f)
-      (joined (eqb (getD names (r .place) 0) 0x5B) (eqb (getD names (suc (r .place)) 0) (getD letters prim 0) ∷ []))
+      rw (c .0, c .1, slice-cons names (r .place) 1 l, slice-cons names (suc (r .place)) 0 m, add-one, f)
+      (all-of-all-true (eqb (getD names (r .place) 0) 0x5B) (eqb (getD names (suc (r .place)) 0) (getD letters prim 0) ∷ []))

@@ -1,5 +1,5 @@
 -- Class rows by their address, and rows without their class row, stated of the rows themselves; the tests of Classic decide them.
--- A reader must believe the records `ClassRow` and `Classless`.
+-- A reader must believe the records `ClassRow` and `ClassMissing`.
 use mathlib.Core.Path.{_≡_, refl}
 use mathlib.Core.Logic.{_↔_, _⊎_, inl, inr}
 use Prim.Native.Nat.{ℕ}
@@ -10,12 +10,12 @@ use lib.Dec.{eqb}
 use borrow.Author.Tests.{eqb-true, eq-eqb}
 use Rattle.decode.specs.Numbers.{either}
 use Rattle.decode.specs.Values.{both-left, both-right}
-use Rattle.table.specs.Rows.{of-kind}
-use Rattle.table.specs.Search.{None, none-is}
+use Rattle.table.specs.Rows.{is-kind}
+use Rattle.table.specs.Search.{NoneSatisfies, first-row-none}
 use Rattle.table.specs.declared.Row.{Row}
 use Rattle.table.specs.declared.Search.{Search}
 use Rattle.table.specs.declared.Search.the-variants.{At, NotFound}
-use Rattle.classic.specs.ClassicText.{is-class-at, class-at, nowhere, is-lost}
+use Rattle.classic.specs.ClassicText.{is-class-at, class-at, is-not-found, class-missing}
 
 -- a class row with the address a
 pub record ClassRow (a : ℕ) (r : Row) : Type 0 where
@@ -23,14 +23,14 @@ pub record ClassRow (a : ℕ) (r : Row) : Type 0 where
   pub address : r .address ≡ a
 
 -- an object or an object array for whose class word there is no class row
-pub record Classless (rows : List Row) (r : Row) : Type 0 where
+pub record ClassMissing (rows : List Row) (r : Row) : Type 0 where
   pub kind : (r .kind ≡ 2) ⊎ (r .kind ≡ 3)
-  pub none : None (ClassRow (r .word)) rows
+  pub none : NoneSatisfies (ClassRow (r .class)) rows
 
-pub class-row-is : (a : ℕ) (r : Row) → (is-class-at a r ≡ true) ↔ ClassRow a r
+pub is-class-at-iff : (a : ℕ) (r : Row) → (is-class-at a r ≡ true) ↔ ClassRow a r
 unfolding is-class-at
-class-row-is a r = (
-  λ e. record { kind = eqb-true _ _ (both-left (of-kind 1 r) (eqb (r .address) a) e); address = eqb-true _ _ (both-right (of-kind 1 r) (eqb (r .address) a) e) },
+is-class-at-iff a r = (
+  λ e. record { kind = eqb-true _ _ (both-left (is-kind 1 r) (eqb (r .address) a) e); address = eqb-true _ _ (both-right (is-kind 1 r) (eqb (r .address) a) e) },
   λ c. rw (eq-eqb _ _ (c .kind), eq-eqb _ _ (c .address)),
 )
 
@@ -43,30 +43,30 @@ either-of a b (inl e) = rw e
 either-of true b (inr e) = refl
 either-of false b (inr e) = e
 
-nowhere-is : (f : Search) → nowhere f ≡ true → f ≡ NotFound
-nowhere-is (At i) e = let z : _≡_ {A = ℕ} 0 1 = cc in absurd (omega arith)
-nowhere-is NotFound e = refl
+is-not-found-eq : (f : Search) → is-not-found f ≡ true → f ≡ NotFound
+is-not-found-eq (At i) e = let z : _≡_ {A = ℕ} 0 1 = cc in absurd (omega arith)
+is-not-found-eq NotFound e = refl
 
-pub classless-is : (rows : List Row) (r : Row) → (is-lost rows r ≡ true) ↔ Classless rows r
-unfolding is-lost
-classless-is rows r = (
-  λ e. record { kind = kinds (which _ _ (both-left kind (nowhere class) e)); none = found .0 (nowhere-is class (both-right kind (nowhere class) e)) },
-  λ c. rw (either-of (of-kind 2 r) (of-kind 3 r) (tests (c .kind)), found .1 (c .none)),
+pub class-missing-iff : (rows : List Row) (r : Row) → (class-missing rows r ≡ true) ↔ ClassMissing rows r
+unfolding class-missing
+class-missing-iff rows r = (
+  λ e. record { kind = kinds (which _ _ (both-left kind (is-not-found class) e)); none = found .0 (is-not-found-eq class (both-right kind (is-not-found class) e)) },
+  λ c. rw (either-of (is-kind 2 r) (is-kind 3 r) (tests (c .kind)), found .1 (c .none)),
 )
   where
     kind : Bool
-    kind = either (of-kind 2 r) (of-kind 3 r)
+    kind = either (is-kind 2 r) (is-kind 3 r)
 
     class : Search
-    class = class-at rows (r .word)
+    class = class-at rows (r .class)
 
-    found : (class-at rows (r .word) ≡ NotFound) ↔ None (ClassRow (r .word)) rows
-    found = none-is (ClassRow (r .word)) (is-class-at (r .word)) (class-row-is (r .word)) rows
+    found : (class-at rows (r .class) ≡ NotFound) ↔ NoneSatisfies (ClassRow (r .class)) rows
+    found = first-row-none (ClassRow (r .class)) (is-class-at (r .class)) (is-class-at-iff (r .class)) rows
 
-    kinds : (of-kind 2 r ≡ true) ⊎ (of-kind 3 r ≡ true) → (r .kind ≡ 2) ⊎ (r .kind ≡ 3)
+    kinds : (is-kind 2 r ≡ true) ⊎ (is-kind 3 r ≡ true) → (r .kind ≡ 2) ⊎ (r .kind ≡ 3)
     kinds (inl e) = inl (eqb-true _ _ e)
     kinds (inr e) = inr (eqb-true _ _ e)
 
-    tests : (r .kind ≡ 2) ⊎ (r .kind ≡ 3) → (of-kind 2 r ≡ true) ⊎ (of-kind 3 r ≡ true)
+    tests : (r .kind ≡ 2) ⊎ (r .kind ≡ 3) → (is-kind 2 r ≡ true) ⊎ (is-kind 3 r ≡ true)
     tests (inl e) = inl (eq-eqb _ _ e)
     tests (inr e) = inr (eq-eqb _ _ e)

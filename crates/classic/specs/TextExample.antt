@@ -4,31 +4,31 @@ use mathlib.Core.Path.{_≡_, refl}
 use Prim.Native.Nat.{ℕ, _*_}
 use mathlib.Core.List.{List, [], _∷_, _++_, map}
 use mathlib.Core.Bool.{false}
-use Rattle.phd.specs.declared.Facts.{Facts}
+use Rattle.phd.specs.declared.Header.{Header}
 use Rattle.table.specs.Table.{row-width, row-count}
-use Rattle.phd.specs.Phd.{limit, bit, highest, same, hash-bytes, Result, reading}
-use Rattle.phd.specs.ReadCases.{dump, computing as reads-computing}
-use Rattle.decode.specs.Numbers.{within}
-use Rattle.decode.specs.Fields.{no-text}
+use Rattle.phd.specs.Phd.{limit, bit, max-address, bytes-equal, hash-bytes, Result, read-result}
+use Rattle.phd.specs.ReadCases.{dump, unfold-all as reads-computing}
+use Rattle.decode.specs.Numbers.{all-within}
+use Rattle.decode.specs.Fields.{no-string}
 use Rattle.table.specs.Rows.{row-at, rows-from, rows-of, refs-of, name-of}
-use Rattle.phd_check.specs.GoodRows.{every, good-vm, good-header, good-hash, good-class, no-name, good-object, good-array, good-primitive, good-kind, good-place, good-span, good-numbers, good-ref, good-refs, good-row, first-bad}
-use Rattle.table.specs.CheckOrder.{refused, done, judged}
+use Rattle.phd_check.specs.GoodRows.{all-true, good-vm, good-header, good-hash, good-class, no-name, good-object, good-array, good-primitive, good-kind, good-addresses, good-span, good-numbers, good-ref, good-refs, good-row, first-bad-from}
+use Rattle.table.specs.CheckOrder.{refused, done, checked-write}
 use Rattle.phd_counts.specs.NullsCases.{row-of}
 use Rattle.table.specs.Sums.{sum}
 use Rattle.phd_counts.specs.Counts.{nulls-of, nulls}
 use Rattle.table.specs.Search.{first-from, found-row}
-use Rattle.digits.specs.Digits.{ascii, places-in, places, decimal, capital, numeral}
-use Rattle.classic.specs.ClassicText.{address, is-class-at, is-class-named, is-lost, letters, signature, array-type, naming, type-of, bytes-of, word-of, first-line, listed, second-line, row-lines, version, breakdown, totals, ended, lines, text-of, text-rows, text-rows-size, texting, text-sizing}
+use Rattle.digits.specs.Digits.{ascii, digit-count-in, digit-count, decimal, uppercase, upper-digits}
+use Rattle.classic.specs.ClassicText.{address, is-class-at, is-class-named, class-missing, letters, primitive-array-type, object-array-type, naming-class, type-of, bytes-of, class-of, first-line, refs-text, second-line, row-lines, version-line, breakdown-line, totals-line, unlines, text-lines, text-of, text-rows, text-rows-size, text-result, text-size-result}
 use Prim.Native.String.{String}
 
 -- for a proof by computing: whoever unfolds this unfolds all that a text is made of
-unfoldable pub computing : Unit {0}
-unfolding within limit bit highest same hash-bytes row-at rows-from rows-of refs-of name-of row-count every good-vm good-header good-hash good-class no-name good-object good-array good-primitive good-kind good-place good-span good-numbers good-ref good-refs good-row first-bad refused done judged nulls-of sum nulls places-in places decimal capital numeral address first-from is-class-at is-class-named is-lost found-row letters signature array-type naming type-of bytes-of word-of first-line listed second-line row-lines version breakdown totals ended lines text-of text-rows text-rows-size
-computing = tt
+unfoldable pub unfold-text : Unit {0}
+unfolding all-within limit bit max-address bytes-equal hash-bytes row-at rows-from rows-of refs-of name-of row-count all-true good-vm good-header good-hash good-class no-name good-object good-array good-primitive good-kind good-addresses good-span good-numbers good-ref good-refs good-row first-bad-from refused done checked-write nulls-of sum nulls digit-count-in digit-count decimal uppercase upper-digits address first-from is-class-at is-class-named class-missing found-row letters primitive-array-type object-array-type naming-class type-of bytes-of class-of first-line refs-text second-line row-lines version-line breakdown-line totals-line unlines text-lines text-of text-rows text-rows-size
+unfold-text = tt
 
 -- 01's lines
-unfoldable pub said : List String
-said =
+unfoldable pub expected-lines : List String
+expected-lines =
     "// Version: Test"
     ∷ "0x00001000 [0] CLS A"
     ∷ "0x00000000"
@@ -43,34 +43,34 @@ said =
     ∷ []
 
 -- the dump, read with room for four rows and a reference
-abbrev it : Result
-it = reading dump (4 * row-width) 1
+abbrev example-read : Result
+example-read = read-result dump (4 * row-width) 1
 
 -- the text of what was read, with the dump as the name bytes and room for its 280 bytes
-pub as-said : texting (it .facts) dump (it .refs) (it .rows) 280 ≡ done (ended (map ascii said))
-unfolding computing reads-computing dump said
-as-said = refl
+pub text-example : text-result (example-read .header) dump (example-read .refs) (example-read .rows) 280 ≡ done (unlines (map ascii expected-lines))
+unfolding unfold-text reads-computing dump expected-lines
+text-example = refl
 
 -- and with a byte less it is refused
-pub too-small : texting (it .facts) dump (it .refs) (it .rows) 279 ≡ refused 17 0
-unfolding computing reads-computing dump
-too-small = refl
+pub text-too-small : text-result (example-read .header) dump (example-read .refs) (example-read .rows) 279 ≡ refused 17 0
+unfolding unfold-text reads-computing dump
+text-too-small = refl
 
 -- asking for its size counts its bytes
-pub counted : text-sizing (it .facts) dump (it .refs) (it .rows) ≡ record { reply = 0; place = 280 }
-unfolding computing reads-computing dump
-counted = refl
+pub text-size-example : text-size-result (example-read .header) dump (example-read .refs) (example-read .rows) ≡ record { reply = 0; place = 280 }
+unfolding unfold-text reads-computing dump
+text-size-example = refl
 
 -- ---- an object array with nulls
 
 -- the class A at 0x1000, and at 0x1010 an array of them: its true length is 5, and it has two references
-abbrev with-array : List ℕ
-with-array =
+abbrev array-rows : List ℕ
+array-rows =
     row-of (1 ∷ 0x1000 ∷ 0 ∷ 0 ∷ 0 ∷ 0 ∷ 0 ∷ 16 ∷ 0 ∷ 0 ∷ 1 ∷ []) ++ row-of (3 ∷ 0x1010 ∷ 0x1000 ∷ 0 ∷ 0 ∷ 0 ∷ 2 ∷ 7 ∷ 5 ∷ [])
 
 -- it lists two, and adds 3 nulls and 5 in all
-abbrev array-said : List String
-array-said =
+abbrev expected-array-lines : List String
+expected-array-lines =
     "// Version: "
     ∷ "0x00001000 [0] CLS A"
     ∷ "0x00000000"
@@ -80,7 +80,7 @@ array-said =
     ∷ "// EOF:  Total 'Objects',Refs(null) : 2,5(3)"
     ∷ []
 
-pub array-as-said : let h : Facts = record { word = 32; hashed = false; openj9 = false; vm = no-text } in
-    texting h (0x41 ∷ []) (0x1000 ∷ 0x1010 ∷ []) with-array 300 ≡ done (ended (map ascii array-said))
-unfolding computing
-array-as-said = refl
+pub array-text-example : let h : Header = record { bits = 32; hashed = false; openj9 = false; vm = no-string } in
+    text-result h (0x41 ∷ []) (0x1000 ∷ 0x1010 ∷ []) array-rows 300 ≡ done (unlines (map ascii expected-array-lines))
+unfolding unfold-text
+array-text-example = refl

@@ -4,8 +4,8 @@ ghost use mathlib.Core.Path.{_≡_};
 ghost use Prim.Native.Nat.{_+_, _≤_, _<_};
 ghost use lib.ListN.{length, getD};
 ghost use Rattle.table.specs.Rows.{rows-of};
-ghost use Rattle.classic.specs.ClassicText.{letters, signature, is-class-named, class-at, class-named};
-ghost use Rattle.classic.specs.RowBounds.{AllShort};
+ghost use Rattle.classic.specs.ClassicText.{letters, primitive-array-type, is-class-named, class-at, class-named};
+ghost use Rattle.classic.specs.RowBounds.{AllNumbersInBounds};
 use table::Row;
 use table::Search;
 
@@ -13,7 +13,7 @@ use table::Search;
 const LETTERS: [u8; 8] = [0x5A, 0x43, 0x46, 0x44, 0x42, 0x53, 0x49, 0x4A];
 
 // The letter of a primitive type.
-pub fn letter(prim: u64) -> u8
+pub fn prim_letter(prim: u64) -> u8
     requires { ⌜ prim < 8 ⌝ }
     ensures { λ r. ⌜ r ≡ getD letters prim 0 ⌝ }
 {
@@ -25,7 +25,7 @@ pub fn letter(prim: u64) -> u8
 pub fn class_at(rows: &[u64], address: u64) -> Search
     ensures { λ r. ⌜ r ≡ class-at (rows-of (now (rows .entry))) address ⌝ }
 {
-    let n = rows.len() / table::ROW;
+    let n = rows.len() / table::ROW_WIDTH;
     let mut i: usize = 0;
     while i < n {
         let row = table::row_at(rows, i);
@@ -38,14 +38,14 @@ pub fn class_at(rows: &[u64], address: u64) -> Search
 }
 
 // Whether a row is a class row, named as an array of a primitive type is.
-fn named(names: &[u8], row: Row, prim: u64) -> bool
+fn is_class_named(names: &[u8], row: Row, prim: u64) -> bool
     requires { ⌜ prim < 8 ⌝ }
     requires { ⌜ row .place + row .namelen ≤ length (now names) ⌝ }
-    ensures { λ r. ⌜ r ≡ is-class-named (now (names .entry)) (signature prim) row ⌝ }
+    ensures { λ r. ⌜ r ≡ is-class-named (now (names .entry)) (primitive-array-type prim) row ⌝ }
 {
     if (row.kind == 1) & (row.namelen == 2) {
         let at = row.place as usize;
-        return (names[at] == 0x5B) & (names[at + 1] == letter(prim));
+        return (names[at] == 0x5B) & (names[at + 1] == prim_letter(prim));
     }
     false
 }
@@ -53,14 +53,14 @@ fn named(names: &[u8], row: Row, prim: u64) -> bool
 // The first class row so named.
 pub fn class_named(names: &[u8], rows: &[u64], prim: u64) -> Search
     requires { ⌜ prim < 8 ⌝ }
-    requires { ⌜ AllShort (now names) (rows-of (now rows)) ⌝ }
-    ensures { λ r. ⌜ r ≡ class-named (now (names .entry)) (rows-of (now (rows .entry))) (signature prim) ⌝ }
+    requires { ⌜ AllNumbersInBounds (now names) (rows-of (now rows)) ⌝ }
+    ensures { λ r. ⌜ r ≡ class-named (now (names .entry)) (rows-of (now (rows .entry))) (primitive-array-type prim) ⌝ }
 {
-    let n = rows.len() / table::ROW;
+    let n = rows.len() / table::ROW_WIDTH;
     let mut i: usize = 0;
     while i < n {
         let row = table::row_at(rows, i);
-        if named(names, row, prim) {
+        if is_class_named(names, row, prim) {
             return Search::At(i);
         }
         i += 1;

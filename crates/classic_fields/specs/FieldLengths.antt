@@ -5,14 +5,14 @@ use mathlib.Core.List.{List, [], _∷_}
 use Prim.Native.Nat.{ℕ, _+_, _*_, _/_}
 use native.Mathlib.Omega.{arith}
 use lib.ListN.{length, length-append}
-use Rattle.digits.specs.DigitLengths.{length-numeral}
-use Rattle.classic.specs.ClassicText.{address, listed}
+use Rattle.digits.specs.DigitLengths.{length-upper-digits}
+use Rattle.classic.specs.ClassicText.{address, refs-text}
 
-pub length-address : (word a : ℕ) → length (address word a) ≡ 2 + word / 4
+pub length-address : (bits a : ℕ) → length (address bits a) ≡ 2 + bits / 4
 unfolding address
-length-address word a = rw length-numeral (omega arith)
+length-address bits a = rw length-upper-digits (omega arith)
 
-pub length-listed : (word : ℕ) (rs : List ℕ) → length (listed word rs) ≡ length rs * (3 + word / 4)
-unfolding listed
-length-listed word [] = omega arith
-length-listed word (a ∷ rs) = simp (length-append, length-address word a, length-listed word rs) (omega arith)
+pub length-refs-text : (bits : ℕ) (rs : List ℕ) → length (refs-text bits rs) ≡ length rs * (3 + bits / 4)
+unfolding refs-text
+length-refs-text bits [] = omega arith
+length-refs-text bits (a ∷ rs) = simp (length-append, length-address bits a, length-refs-text bits rs) (omega arith)

@@ -11,43 +11,43 @@ use borrow.Author.Tests.{eqb-false, eq-eqb}
 use Rattle.decode.specs.Numbers.{both, either}
 use Rattle.table.specs.Rows.{refs-of}
 use Rattle.table.specs.declared.Row.{Row}
-use Rattle.digits.specs.Digits.{places}
-use Rattle.classic.specs.ClassicText.{address, class-at, nowhere, is-lost, bytes-of, word-of, listed, second-line}
-use Rattle.classic.specs.RowBounds.{Short, KnownKind, AllShort}
-use Rattle.digits.specs.DigitLengths.{places-most}
-use Rattle.classic_row.specs.RowText.{entry, entry-line, entry-type, row-text, row-size, naming-short, bytes-small, entry-parts}
-use Rattle.classic_row.specs.declared.Entry.{Entry}
+use Rattle.digits.specs.Digits.{digit-count}
+use Rattle.classic.specs.ClassicText.{address, class-at, is-not-found, class-missing, bytes-of, class-of, refs-text, second-line}
+use Rattle.classic.specs.RowBounds.{RowNumbersInBounds, KnownKind, AllNumbersInBounds}
+use Rattle.digits.specs.DigitLengths.{digit-count-le-20}
+use Rattle.classic_row.specs.RowText.{type-label, label-line, label-type, row-text, row-size, naming-class-in-bounds, bytes-of-lt, row-text-label-parts}
+use Rattle.classic_row.specs.declared.TypeLabel.{TypeLabel}
 
 -- an entry's name lies in the name bytes, and its numbers are small
-pub record Small (names : List ℕ) (e : Entry) : Type 0 where
-  pub named : (e .place + e .len ≤ length names) × (e .len < 65536)
-  pub few : places (e .bytes) ≤ 20
+pub record LabelBounds (names : List ℕ) (e : TypeLabel) : Type 0 where
+  pub name-in-bounds : (e .place + e .len ≤ length names) × (e .len < 65536)
+  pub few : digit-count (e .bytes) ≤ 20
 
-pub entry-small : (names : List ℕ) (rows : List Row) (r : Row) (e : Entry) → AllShort names rows → Short names r → e ≡ entry rows r → Small names e
-unfolding entry
-entry-small names rows r e a s q =
-    let n = naming-short names rows r a s in
-    let b = bytes-small names rows r a s in
-    rw q (record { named = (n .named, n .short); few = places-most (bytes-of rows r) (omega arith) })
+pub label-bounds : (names : List ℕ) (rows : List Row) (r : Row) (e : TypeLabel) → AllNumbersInBounds names rows → RowNumbersInBounds names r → e ≡ type-label rows r → LabelBounds names e
+unfolding type-label
+label-bounds names rows r e a s q =
+    let n = naming-class-in-bounds names rows r a s in
+    let b = bytes-of-lt names rows r a s in
+    rw q (record { name-in-bounds = (n .name-in-bounds, n .short); few = digit-count-le-20 (bytes-of rows r) (omega arith) })
 
 -- how many bytes a row's two lines have, by its entry, the digits of its bytes and the length of its type
-pub size-is : (word : ℕ) (names : List ℕ) (rows : List Row) (r : Row) (e : Entry) (p t : ℕ) → e ≡ entry rows r → p ≡ places (e .bytes) → t ≡ length (entry-type names (r .kind) 0 e)
-    → let one : ℕ = 2 + word / 4 in one + 8 + p + t + 1 + one + r .count * (1 + one) + 1 ≡ row-size word names rows r
+pub row-size-by-label : (bits : ℕ) (names : List ℕ) (rows : List Row) (r : Row) (e : TypeLabel) (p t : ℕ) → e ≡ type-label rows r → p ≡ digit-count (e .bytes) → t ≡ length (label-type names (r .kind) 0 e)
+    → let one : ℕ = 2 + bits / 4 in one + 8 + p + t + 1 + one + r .count * (1 + one) + 1 ≡ row-size bits names rows r
 unfolding row-size
-size-is word names rows r e p t q x y = rw (x, y, q)
+row-size-by-label bits names rows r e p t q x y = rw (x, y, q)
 
 -- a row's two lines, by its entry and the class word shown
-pub text-is : (word : ℕ) (names refs : List ℕ) (rows : List Row) (r : Row) (e : Entry) (shown : ℕ) → e ≡ entry rows r → shown ≡ word-of names rows r
-    → row-text word names refs rows r
-    ≡ entry-line word names r e ++ ((0x0A ∷ []) ++ ((address word shown ++ listed word (refs-of refs r)) ++ (0x0A ∷ [])))
+pub row-text-by-label : (bits : ℕ) (names refs : List ℕ) (rows : List Row) (r : Row) (e : TypeLabel) (shown : ℕ) → e ≡ type-label rows r → shown ≡ class-of names rows r
+    → row-text bits names refs rows r
+    ≡ label-line bits names r e ++ ((0x0A ∷ []) ++ ((address bits shown ++ refs-text bits (refs-of refs r)) ++ (0x0A ∷ [])))
 unfolding second-line
-text-is word names refs rows r e shown p q = rw (p, q) (entry-parts word names refs rows r)
+row-text-by-label bits names refs rows r e shown p q = rw (p, q) (row-text-label-parts bits names refs rows r)
 
 -- a row that is neither a class nor a primitive array is lost where the search for its class found nothing
-pub lost-is : (rows : List Row) (r : Row) → KnownKind r → (r .kind ≡ 1 → ⊥) → (r .kind ≡ 4 → ⊥) → is-lost rows r ≡ nowhere (class-at rows (r .word))
-unfolding is-lost
-lost-is rows r k a p = by (eqb (r .kind) 2) refl
+pub class-missing-by-search : (rows : List Row) (r : Row) → KnownKind r → (r .kind ≡ 1 → ⊥) → (r .kind ≡ 4 → ⊥) → class-missing rows r ≡ is-not-found (class-at rows (r .class))
+unfolding class-missing
+class-missing-by-search rows r k a p = by (eqb (r .kind) 2) refl
   where
-    by : (b : Bool) → eqb (r .kind) 2 ≡ b → both (either b (eqb (r .kind) 3)) (nowhere (class-at rows (r .word))) ≡ nowhere (class-at rows (r .word))
+    by : (b : Bool) → eqb (r .kind) 2 ≡ b → both (either b (eqb (r .kind) 3)) (is-not-found (class-at rows (r .class))) ≡ is-not-found (class-at rows (r .class))
     by true e = refl
     by false e = rw (eq-eqb (r .kind) 3 (omega (arith, eqb-false (r .kind) 2 e)))

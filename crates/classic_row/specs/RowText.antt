@@ -11,169 +11,169 @@ use lib.Dec.{eqb}
 use Rattle.decode.specs.Values.{by-cases}
 use Rattle.decode.specs.Numbers.{pick}
 use Rattle.encode.specs.Encode.{join}
-use Rattle.phd.specs.Shapes.{Word}
-use Rattle.table.specs.Rows.{of-kind, name-of, no-row, all-nth}
+use Rattle.phd.specs.Shapes.{ValidBits}
+use Rattle.table.specs.Rows.{is-kind, name-of, zero-row, all-nth}
 use Rattle.phd_check.specs.WellFormed.{length-refs-of, length-name-of}
-use Rattle.table.specs.Search.{found-row, found-below}
+use Rattle.table.specs.Search.{found-row, found-in-bounds}
 use Rattle.table.specs.declared.Row.{Row}
 use Rattle.table.specs.declared.Search.the-variants.{At, NotFound}
 use Rattle.table.specs.declared.Search.{Search}
-use Rattle.digits.specs.Digits.{ascii, places, figure}
-use Rattle.classic.specs.ClassicText.{address, class-at, is-lost, signature, array-type, naming, type-of, bytes-of, first-line, second-line, ended}
-use Rattle.classic.specs.RowBounds.{Short, AllShort}
-use Rattle.classic_fields.specs.FieldLengths.{length-address, length-listed}
-use Rattle.digits.specs.DigitLengths.{length-decimal, places-most}
-use Rattle.classic_row.specs.declared.Entry.{Entry}
-use Rattle.classic_row.specs.declared.EntryFound.{EntryFound}
-use Rattle.classic_row.specs.declared.EntryFound.the-variants.{Is, Reply}
+use Rattle.digits.specs.Digits.{ascii, digit-count, text-decimal}
+use Rattle.classic.specs.ClassicText.{address, class-at, class-missing, primitive-array-type, object-array-type, naming-class, type-of, bytes-of, first-line, second-line, unlines}
+use Rattle.classic.specs.RowBounds.{RowNumbersInBounds, AllNumbersInBounds}
+use Rattle.classic_fields.specs.FieldLengths.{length-address, length-refs-text}
+use Rattle.digits.specs.DigitLengths.{length-decimal, digit-count-le-20}
+use Rattle.classic_row.specs.declared.TypeLabel.{TypeLabel}
+use Rattle.classic_row.specs.declared.LabelResult.{LabelResult}
+use Rattle.classic_row.specs.declared.LabelResult.the-variants.{Found, Reply}
 use Rattle.classic_row.specs.declared.RowSize.{RowSize}
 use Rattle.classic_row.specs.declared.RowSize.the-variants.{Bytes, Reply as ReplySize}
 
 -- what the first line says of a row beside its address
-unfoldable pub entry : List Row → Row → Entry
-entry rows r = record { bytes = bytes-of rows r; place = naming rows r .place; len = naming rows r .namelen }
+unfoldable pub type-label : List Row → Row → TypeLabel
+type-label rows r = record { bytes = bytes-of rows r; place = naming-class rows r .place; len = naming-class rows r .namelen }
 
 -- that, or reply 18 for an object or an object array without its class row
-unfoldable pub entry-or-18 : List Row → Row → EntryFound
-entry-or-18 rows r = pick (is-lost rows r) (Reply 18) (Is (entry rows r))
+unfoldable pub type-label-or-18 : List Row → Row → LabelResult
+type-label-or-18 rows r = pick (class-missing rows r) (Reply 18) (Found (type-label rows r))
 
 -- the name, the type, `CLS` or `OBJ` behind the bytes, and the first line, by an entry
-abbrev pub entry-name : List ℕ → Entry → List ℕ
-entry-name names e = take (e .len) (drop (e .place) names)
+abbrev pub label-name : List ℕ → TypeLabel → List ℕ
+label-name names e = take (e .len) (drop (e .place) names)
 
-unfoldable pub entry-type : List ℕ → ℕ → ℕ → Entry → List ℕ
-entry-type names kind prim e = pick (eqb kind 4) (signature prim) (pick (eqb kind 3) (array-type (entry-name names e)) (entry-name names e))
+unfoldable pub label-type : List ℕ → ℕ → ℕ → TypeLabel → List ℕ
+label-type names kind prim e = pick (eqb kind 4) (primitive-array-type prim) (pick (eqb kind 3) (object-array-type (label-name names e)) (label-name names e))
 
-unfoldable pub mark : ℕ → List ℕ
-mark kind = pick (eqb kind 1) (ascii "] CLS ") (ascii "] OBJ ")
+unfoldable pub kind-mark : ℕ → List ℕ
+kind-mark kind = pick (eqb kind 1) (ascii "] CLS ") (ascii "] OBJ ")
 
-unfoldable pub entry-line : ℕ → List ℕ → Row → Entry → List ℕ
-entry-line word names r e = join (
-    address word (r .address) ∷ figure " [" (e .bytes) ∷ mark (r .kind) ∷ entry-type names (r .kind) (r .prim) e ∷ [])
+unfoldable pub label-line : ℕ → List ℕ → Row → TypeLabel → List ℕ
+label-line bits names r e = join (
+    address bits (r .address) ∷ text-decimal " [" (e .bytes) ∷ kind-mark (r .kind) ∷ label-type names (r .kind) (r .prim) e ∷ [])
 
 -- a row's two lines, as bytes
 unfoldable pub row-text : ℕ → (names refs : List ℕ) → List Row → Row → List ℕ
-row-text word names refs rows r = ended (first-line word names rows r ∷ second-line word names refs rows r ∷ [])
+row-text bits names refs rows r = unlines (first-line bits names rows r ∷ second-line bits names refs rows r ∷ [])
 
 -- how many they are
 unfoldable pub row-size : ℕ → (names : List ℕ) → List Row → Row → ℕ
-row-size word names rows r =
-    let e : Entry = entry rows r in
-    let one : ℕ = 2 + word / 4 in
-    one + 8 + places (e .bytes) + length (entry-type names (r .kind) 0 e) + 1 + one + r .count * (1 + one) + 1
+row-size bits names rows r =
+    let e : TypeLabel = type-label rows r in
+    let one : ℕ = 2 + bits / 4 in
+    one + 8 + digit-count (e .bytes) + length (label-type names (r .kind) 0 e) + 1 + one + r .count * (1 + one) + 1
 
 -- that, or reply 18 likewise
 unfoldable pub row-size-or-18 : ℕ → (names : List ℕ) → List Row → Row → RowSize
-row-size-or-18 word names rows r = pick (is-lost rows r) (ReplySize 18) (Bytes (row-size word names rows r))
+row-size-or-18 bits names rows r = pick (class-missing rows r) (ReplySize 18) (Bytes (row-size bits names rows r))
 
 -- ---- what an answer says of the row
 
 module _ (rows : List Row) (r : Row) where
-  abbrev pub EntrySays : EntryFound → Type 0
-  EntrySays (Is e) = (is-lost rows r ≡ false) × (e ≡ entry rows r)
-  EntrySays (Reply n) = (is-lost rows r ≡ true) × (n ≡ 18)
+  abbrev pub LabelMeans : LabelResult → Type 0
+  LabelMeans (Found e) = (class-missing rows r ≡ false) × (e ≡ type-label rows r)
+  LabelMeans (Reply n) = (class-missing rows r ≡ true) × (n ≡ 18)
 
-  pub entry-says : (f : EntryFound) → f ≡ entry-or-18 rows r → EntrySays f
-  unfolding entry-or-18
-  entry-says f q = rw q (by-cases (λ t. EntrySays (pick t (Reply 18) (Is (entry rows r)))) (is-lost rows r) (λ p. (p, refl)) (λ p. (p, refl)))
+  pub label-means : (f : LabelResult) → f ≡ type-label-or-18 rows r → LabelMeans f
+  unfolding type-label-or-18
+  label-means f q = rw q (by-cases (λ t. LabelMeans (pick t (Reply 18) (Found (type-label rows r)))) (class-missing rows r) (λ p. (p, refl)) (λ p. (p, refl)))
 
-module _ (word : ℕ) (names : List ℕ) (rows : List Row) (r : Row) where
-  abbrev pub SizeSays : RowSize → Type 0
-  SizeSays (Bytes n) = (is-lost rows r ≡ false) × (n ≡ row-size word names rows r)
-  SizeSays (ReplySize n) = (is-lost rows r ≡ true) × (n ≡ 18)
+module _ (bits : ℕ) (names : List ℕ) (rows : List Row) (r : Row) where
+  abbrev pub SizeMeans : RowSize → Type 0
+  SizeMeans (Bytes n) = (class-missing rows r ≡ false) × (n ≡ row-size bits names rows r)
+  SizeMeans (ReplySize n) = (class-missing rows r ≡ true) × (n ≡ 18)
 
-  pub size-says : (f : RowSize) → f ≡ row-size-or-18 word names rows r → SizeSays f
+  pub size-means : (f : RowSize) → f ≡ row-size-or-18 bits names rows r → SizeMeans f
   unfolding row-size-or-18
-  size-says f q =
-      rw q (by-cases (λ t. SizeSays (pick t (ReplySize 18) (Bytes (row-size word names rows r)))) (is-lost rows r) (λ p. (p, refl)) (λ p. (p, refl)))
+  size-means f q =
+      rw q (by-cases (λ t. SizeMeans (pick t (ReplySize 18) (Bytes (row-size bits names rows r)))) (class-missing rows r) (λ p. (p, refl)) (λ p. (p, refl)))
 
 -- ---- the two say the same
 
-pub line-is : (word : ℕ) (names : List ℕ) (rows : List Row) (r : Row) → entry-line word names r (entry rows r) ≡ first-line word names rows r
-unfolding entry-line first-line entry entry-type type-of mark name-of
-line-is word names rows r = refl
+pub label-line-is-first-line : (bits : ℕ) (names : List ℕ) (rows : List Row) (r : Row) → label-line bits names r (type-label rows r) ≡ first-line bits names rows r
+unfolding label-line first-line type-label label-type type-of kind-mark name-of
+label-line-is-first-line bits names rows r = refl
 
 -- ---- how large the numbers are
 
 -- the class row that names a type lies in the name bytes, and its numbers are small, where so it is of all rows
-pub naming-short : (names : List ℕ) (rows : List Row) (r : Row) → AllShort names rows → Short names r → Short names (naming rows r)
-unfolding naming found-row
-naming-short names rows r a s = by-kind (of-kind 1 r) (of-kind 4 r)
+pub naming-class-in-bounds : (names : List ℕ) (rows : List Row) (r : Row) → AllNumbersInBounds names rows → RowNumbersInBounds names r → RowNumbersInBounds names (naming-class rows r)
+unfolding naming-class found-row
+naming-class-in-bounds names rows r a s = by-kind (is-kind 1 r) (is-kind 4 r)
   where
-    none : Short names no-row
-    none = record { named = omega arith; short = omega arith; size = omega arith; few = omega arith; type = omega arith }
+    none : RowNumbersInBounds names zero-row
+    none = record { name-in-bounds = omega arith; short = omega arith; size = omega arith; few = omega arith; prim-lt = omega arith }
 
-    found : (f : Search) → class-at rows (r .word) ≡ f → Short names (found-row rows f)
-    found (At i) e = all-nth _ rows i (a .row) (found-below _ rows i e)
+    found : (f : Search) → class-at rows (r .class) ≡ f → RowNumbersInBounds names (found-row rows f)
+    found (At i) e = all-nth _ rows i (a .row) (found-in-bounds _ rows i e)
     found NotFound e = none
 
-    by-kind : (b c : Bool) → Short names (pick b r (pick c no-row (found-row rows (class-at rows (r .word)))))
+    by-kind : (b c : Bool) → RowNumbersInBounds names (pick b r (pick c zero-row (found-row rows (class-at rows (r .class)))))
     by-kind true c = s
     by-kind false true = none
     by-kind false false = found _ refl
 
-pub bytes-small : (names : List ℕ) (rows : List Row) (r : Row) → AllShort names rows → Short names r → bytes-of rows r < 2 ^ 34
+pub bytes-of-lt : (names : List ℕ) (rows : List Row) (r : Row) → AllNumbersInBounds names rows → RowNumbersInBounds names r → bytes-of rows r < 2 ^ 34
 unfolding bytes-of
-bytes-small names rows r a s = by-kind (of-kind 1 r) (of-kind 2 r)
+bytes-of-lt names rows r a s = by-kind (is-kind 1 r) (is-kind 2 r)
   where
-    by-kind : (b c : Bool) → pick b 0 (pick c (naming rows r .size) (4 * r .size)) < 2 ^ 34
+    by-kind : (b c : Bool) → pick b 0 (pick c (naming-class rows r .size) (4 * r .size)) < 2 ^ 34
     by-kind true c = omega arith
-    by-kind false true = let n = naming-short names rows r a s in omega arith
+    by-kind false true = let n = naming-class-in-bounds names rows r a s in omega arith
     by-kind false false = omega arith
 
 -- ---- how many bytes there are
 
 -- a type has as many, whichever primitive type it is of
-length-type : (names : List ℕ) (kind prim : ℕ) (e : Entry) → length (entry-type names kind prim e) ≡ length (entry-type names kind 0 e)
-unfolding entry-type signature
+length-type : (names : List ℕ) (kind prim : ℕ) (e : TypeLabel) → length (label-type names kind prim e) ≡ length (label-type names kind 0 e)
+unfolding label-type primitive-array-type
 length-type names kind prim e = by-kind (eqb kind 4) _
   where
-    by-kind : (b : Bool) (other : List ℕ) → length (pick b (signature prim) other) ≡ length (pick b (signature 0) other)
+    by-kind : (b : Bool) (other : List ℕ) → length (pick b (primitive-array-type prim) other) ≡ length (pick b (primitive-array-type 0) other)
     by-kind true other = refl
     by-kind false other = refl
 
 -- and at most three more than a name has
-type-most : (names : List ℕ) (kind : ℕ) (e : Entry) → length (entry-type names kind 0 e) ≤ 3 + length (entry-name names e)
-unfolding entry-type signature array-type
-type-most names kind e = by-kind (eqb kind 4) (eqb kind 3) (eqb (getD (entry-name names e) 0 0) 0x5B) (entry-name names e)
+type-le : (names : List ℕ) (kind : ℕ) (e : TypeLabel) → length (label-type names kind 0 e) ≤ 3 + length (label-name names e)
+unfolding label-type primitive-array-type object-array-type
+type-le names kind e = by-kind (eqb kind 4) (eqb kind 3) (eqb (getD (label-name names e) 0 0) 0x5B) (label-name names e)
   where
-    by-kind : (b c d : Bool) (name : List ℕ) → length (pick b (signature 0) (pick c (pick d (ascii "[" ++ name) (ascii "[L" ++ (name ++ ascii ";"))) name)) ≤ 3 + length name
+    by-kind : (b c d : Bool) (name : List ℕ) → length (pick b (primitive-array-type 0) (pick c (pick d (ascii "[" ++ name) (ascii "[L" ++ (name ++ ascii ";"))) name)) ≤ 3 + length name
     by-kind true c d name = omega arith
     by-kind false true true name = omega arith
     by-kind false true false name = simp length-append (omega arith)
     by-kind false false d name = omega arith
 
-length-mark : (kind : ℕ) → length (mark kind) ≡ 6
-unfolding mark
+length-mark : (kind : ℕ) → length (kind-mark kind) ≡ 6
+unfolding kind-mark
 length-mark kind = by-kind (eqb kind 1)
   where
     by-kind : (b : Bool) → length (pick b (ascii "] CLS ") (ascii "] OBJ ")) ≡ 6
     by-kind true = refl
     by-kind false = refl
 
-pub length-row : (word : ℕ) (names refs : List ℕ) (rows : List Row) (r : Row) → r .first + r .count ≤ length refs
-    → length (row-text word names refs rows r) ≡ row-size word names rows r
-unfolding row-text ended row-size second-line entry-line
-length-row word names refs rows r l =
-    rw (← line-is) (simp (length-append, length-address, length-decimal, length-listed, length-mark, length-type, length-refs-of) (omega arith))
+pub length-row-text : (bits : ℕ) (names refs : List ℕ) (rows : List Row) (r : Row) → r .first + r .count ≤ length refs
+    → length (row-text bits names refs rows r) ≡ row-size bits names rows r
+unfolding row-text unlines row-size second-line label-line
+length-row-text bits names refs rows r l =
+    rw (← label-line-is-first-line) (simp (length-append, length-address, length-decimal, length-refs-text, length-mark, length-type, length-refs-of) (omega arith))
 
 -- how many they are at most
-pub row-size-most : (word : ℕ) (names : List ℕ) (rows : List Row) (r : Row) → Word word → AllShort names rows → Short names r
-    → row-size word names rows r ≤ 65700 + r .count * 19
-unfolding row-size entry name-of
-row-size-most word names rows r w a s =
-    let n = naming-short names rows r a s in
-    let b = bytes-small names rows r a s in
-    let p = places-most (bytes-of rows r) (omega arith) in
-    let t = type-most names (r .kind) (entry rows r) in
-    let m = length-name-of names (naming rows r) (n .named) in
+pub row-size-le : (bits : ℕ) (names : List ℕ) (rows : List Row) (r : Row) → ValidBits bits → AllNumbersInBounds names rows → RowNumbersInBounds names r
+    → row-size bits names rows r ≤ 65700 + r .count * 19
+unfolding row-size type-label name-of
+row-size-le bits names rows r w a s =
+    let n = naming-class-in-bounds names rows r a s in
+    let b = bytes-of-lt names rows r a s in
+    let p = digit-count-le-20 (bytes-of rows r) (omega arith) in
+    let t = type-le names (r .kind) (type-label rows r) in
+    let m = length-name-of names (naming-class rows r) (n .name-in-bounds) in
     ⊎-elim (λ e. rw e (omega arith)) (λ e. rw e (omega arith)) w
 
-pub row-parts : (word : ℕ) (names refs : List ℕ) (rows : List Row) (r : Row)
-    → row-text word names refs rows r ≡ first-line word names rows r ++ ((0x0A ∷ []) ++ (second-line word names refs rows r ++ (0x0A ∷ [])))
-unfolding row-text ended
-row-parts word names refs rows r = refl
+pub row-text-parts : (bits : ℕ) (names refs : List ℕ) (rows : List Row) (r : Row)
+    → row-text bits names refs rows r ≡ first-line bits names rows r ++ ((0x0A ∷ []) ++ (second-line bits names refs rows r ++ (0x0A ∷ [])))
+unfolding row-text unlines
+row-text-parts bits names refs rows r = refl
 
-pub entry-parts : (word : ℕ) (names refs : List ℕ) (rows : List Row) (r : Row)
-    → row-text word names refs rows r ≡ entry-line word names r (entry rows r) ++ ((0x0A ∷ []) ++ (second-line word names refs rows r ++ (0x0A ∷ [])))
-entry-parts word names refs rows r = rw line-is (row-parts word names refs rows r)
+pub row-text-label-parts : (bits : ℕ) (names refs : List ℕ) (rows : List Row) (r : Row)
+    → row-text bits names refs rows r ≡ label-line bits names r (type-label rows r) ++ ((0x0A ∷ []) ++ (second-line bits names refs rows r ++ (0x0A ∷ [])))
+row-text-label-parts bits names refs rows r = rw label-line-is-first-line (row-text-parts bits names refs rows r)

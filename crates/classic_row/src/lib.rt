@@ -3,27 +3,27 @@ ghost use mathlib.Core.Path.{_≡_};
 ghost use mathlib.Core.Bool.{false};
 ghost use Prim.Native.Nat.{_+_, _≤_, _<_, _^_};
 ghost use lib.ListN.{length};
-ghost use Rattle.encode.specs.Writes.{Puts, Room};
+ghost use Rattle.encode.specs.Writes.{Writes, HasCapacity};
 ghost use Rattle.table.specs.Rows.{rows-of};
-ghost use Rattle.phd.specs.Shapes.{Word};
-ghost use Rattle.classic.specs.ClassicText.{is-lost, word-of};
-ghost use Rattle.classic.specs.RowBounds.{Short, KnownKind, AllShort};
-ghost use Rattle.classic_row.specs.RowText.{entry-or-18, row-size-or-18, row-text};
+ghost use Rattle.phd.specs.Shapes.{ValidBits};
+ghost use Rattle.classic.specs.ClassicText.{class-missing, class-of};
+ghost use Rattle.classic.specs.RowBounds.{RowNumbersInBounds, KnownKind, AllNumbersInBounds};
+ghost use Rattle.classic_row.specs.RowText.{type-label-or-18, row-size-or-18, row-text};
 use table::Row;
 use table::Search;
 
 mod parts;
 
 // What the first line says of a row beside its address: its bytes, and where the name of its type stands in the name bytes.
-pub struct Entry {
+pub struct TypeLabel {
     pub bytes: u64,
     pub place: usize,
     pub len: usize,
 }
 
 // The entry of a row, or 01's reply where its class row is missing.
-pub enum EntryFound {
-    Is(Entry),
+pub enum LabelResult {
+    Found(TypeLabel),
     Reply(u64),
 }
 
@@ -34,13 +34,13 @@ pub enum RowSize {
 }
 
 // Returns the entry of a row, or reply 18 for an object or an object array without its class row.
-fn entry_of(rows: &[u64], row: Row) -> EntryFound
+fn find_label(rows: &[u64], row: Row) -> LabelResult
     requires { ⌜ row .size < 2 ^ 32 ⌝ }
     requires { ⌜ KnownKind row ⌝ }
-    ensures { λ r. ⌜ r ≡ entry-or-18 (rows-of (now (rows .entry))) row ⌝ }
+    ensures { λ r. ⌜ r ≡ type-label-or-18 (rows-of (now (rows .entry))) row ⌝ }
 {
     if row.kind == 1 {
-        return EntryFound::Is(Entry {
+        return LabelResult::Found(TypeLabel {
             bytes: 0,
             place: row.place as usize,
             len: row.namelen as usize,
@@ -48,25 +48,25 @@ fn entry_of(rows: &[u64], row: Row) -> EntryFound
     }
     let array_bytes = 4 * row.size;
     if row.kind == 4 {
-        return EntryFound::Is(Entry {
+        return LabelResult::Found(TypeLabel {
             bytes: array_bytes,
             place: 0,
             len: 0,
         });
     }
-    let found = classic::class_at(rows, row.word);
+    let found = classic::class_at(rows, row.class);
     let Search::At(i) = found else {
-        return EntryFound::Reply(18);
+        return LabelResult::Reply(18);
     };
     let class = table::row_at(rows, i);
     if row.kind == 2 {
-        return EntryFound::Is(Entry {
+        return LabelResult::Found(TypeLabel {
             bytes: class.size,
             place: class.place as usize,
             len: class.namelen as usize,
         });
     }
-    EntryFound::Is(Entry {
+    LabelResult::Found(TypeLabel {
         bytes: array_bytes,
         place: class.place as usize,
         len: class.namelen as usize,
@@ -74,10 +74,10 @@ fn entry_of(rows: &[u64], row: Row) -> EntryFound
 }
 
 // The class word that the second line shows.
-fn word_of(names: &[u8], rows: &[u64], row: Row) -> u64
+fn class_of(names: &[u8], rows: &[u64], row: Row) -> u64
     requires { ⌜ row .prim < 8 ⌝ }
-    requires { ⌜ AllShort (now names) (rows-of (now rows)) ⌝ }
-    ensures { λ r. ⌜ r ≡ word-of (now (names .entry)) (rows-of (now (rows .entry))) row ⌝ }
+    requires { ⌜ AllNumbersInBounds (now names) (rows-of (now rows)) ⌝ }
+    ensures { λ r. ⌜ r ≡ class-of (now (names .entry)) (rows-of (now (rows .entry))) row ⌝ }
 {
     if row.kind == 4 {
         let found = classic::class_named(names, rows, row.prim);
@@ -87,24 +87,24 @@ fn word_of(names: &[u8], rows: &[u64], row: Row) -> u64
         let class = table::row_at(rows, i);
         return class.address;
     }
-    row.word
+    row.class
 }
 
-// Returns how many bytes a row's two lines have, for W, or reply 18 where `entry_of` does.
-pub fn size(word: u64, names: &[u8], rows: &[u64], row: Row) -> RowSize
-    requires { ⌜ Word word ⌝ }
-    requires { ⌜ AllShort (now names) (rows-of (now rows)) ⌝ }
-    requires { ⌜ Short (now names) row ⌝ }
+// Returns how many bytes a row's two lines have, for W, or reply 18 where `find_label` does.
+pub fn row_text_size(bits: u64, names: &[u8], rows: &[u64], row: Row) -> RowSize
+    requires { ⌜ ValidBits bits ⌝ }
+    requires { ⌜ AllNumbersInBounds (now names) (rows-of (now rows)) ⌝ }
+    requires { ⌜ RowNumbersInBounds (now names) row ⌝ }
     requires { ⌜ KnownKind row ⌝ }
-    ensures { λ r. ⌜ r ≡ row-size-or-18 word (now (names .entry)) (rows-of (now (rows .entry))) row ⌝ }
+    ensures { λ r. ⌜ r ≡ row-size-or-18 bits (now (names .entry)) (rows-of (now (rows .entry))) row ⌝ }
 {
-    match entry_of(rows, row) {
-        EntryFound::Reply(reply) => RowSize::Reply(reply),
-        EntryFound::Is(e) => {
-            let address = 2 + (word / 4) as usize;
+    match find_label(rows, row) {
+        LabelResult::Reply(reply) => RowSize::Reply(reply),
+        LabelResult::Found(e) => {
+            let address = 2 + (bits / 4) as usize;
             let first = address
                 + 8
-                + digits::places(e.bytes)
+                + digits::digit_count(e.bytes)
                 + parts::type_size(names, row.kind, e)
                 + 1;
             RowSize::Bytes(first + address + (row.count as usize) * (1 + address) + 1)
@@ -113,32 +113,32 @@ pub fn size(word: u64, names: &[u8], rows: &[u64], row: Row) -> RowSize
 }
 
 // Puts a row's two lines at a place, and gives the place after them. The row is no object or object array without its class row.
-pub fn put(
+pub fn write_row_text(
     out: &mut [u8],
     at: usize,
-    word: u64,
+    bits: u64,
     names: &[u8],
     refs: &[u64],
     rows: &[u64],
     row: Row,
 ) -> usize
-    requires { ⌜ Word word ⌝ }
-    requires { ⌜ AllShort (now names) (rows-of (now rows)) ⌝ }
-    requires { ⌜ Short (now names) row ⌝ }
+    requires { ⌜ ValidBits bits ⌝ }
+    requires { ⌜ AllNumbersInBounds (now names) (rows-of (now rows)) ⌝ }
+    requires { ⌜ RowNumbersInBounds (now names) row ⌝ }
     requires { ⌜ KnownKind row ⌝ }
-    requires { ⌜ is-lost (rows-of (now rows)) row ≡ false ⌝ }
+    requires { ⌜ class-missing (rows-of (now rows)) row ≡ false ⌝ }
     requires { ⌜ row .first + row .count ≤ length (now refs) ⌝ }
-    requires { ⌜ Room (now out) at (row-text word (now names) (now refs) (rows-of (now rows)) row) ⌝ }
-    ensures { λ r. ⌜ Puts (now (out .entry)) at (row-text word (now (names .entry)) (now (refs .entry)) (rows-of (now (rows .entry))) row) (now (out .exit)) r ⌝ }
+    requires { ⌜ HasCapacity (now out) at (row-text bits (now names) (now refs) (rows-of (now rows)) row) ⌝ }
+    ensures { λ r. ⌜ Writes (now (out .entry)) at (row-text bits (now (names .entry)) (now (refs .entry)) (rows-of (now (rows .entry))) row) (now (out .exit)) r ⌝ }
 {
-    let found = entry_of(rows, row);
-    let EntryFound::Is(e) = found else {
+    let found = find_label(rows, row);
+    let LabelResult::Found(e) = found else {
         // Not reached: a reply is given only for a row without its class row.
         return at;
     };
-    let shown = word_of(names, rows, row);
-    let first = parts::put_first(out, at, word, names, row, e);
-    let next = encode::put_byte(out, first, 0x0A);
-    let second = parts::put_second(out, next, word, shown, refs, row);
-    encode::put_byte(out, second, 0x0A)
+    let class = class_of(names, rows, row);
+    let first = parts::write_first_line(out, at, bits, names, row, e);
+    let next = encode::encode_byte(out, first, 0x0A);
+    let second = parts::write_second_line(out, next, bits, class, refs, row);
+    encode::encode_byte(out, second, 0x0A)
 }

@@ -3,17 +3,17 @@ use mathlib.Core.Path.{_≡_, refl}
 use mathlib.Core.List.{List, [], _∷_}
 use Prim.Native.Nat.{ℕ}
 use Rattle.decode.specs.Numbers.{pick}
-use Rattle.decode.specs.declared.Text.{Text}
+use Rattle.decode.specs.declared.StringSpan.{StringSpan}
 use Rattle.encode.specs.Encode.{join}
 use Rattle.phd_check.specs.GoodRows.{vm-text}
 use Rattle.digits.specs.Digits.{ascii}
-use Rattle.classic.specs.ClassicText.{version, ended}
+use Rattle.classic.specs.ClassicText.{version-line, unlines}
 use Rattle.classic_write.specs.TextParts.{version-text}
 
-module _ (names : List ℕ) (t : Text) where
+module _ (names : List ℕ) (t : StringSpan) where
   abbrev pub parts : List (List ℕ)
-  parts = ascii "// Version: " ∷ pick (t .there) (vm-text names t) [] ∷ (0x0A ∷ []) ∷ []
+  parts = ascii "// Version: " ∷ pick (t .present) (vm-text names t) [] ∷ (0x0A ∷ []) ∷ []
 
-  pub in-parts : version-text names t ≡ join parts
-  unfolding version-text version ended
-  in-parts = refl
+  pub version-in-parts : version-text names t ≡ join parts
+  unfolding version-text version-line unlines
+  version-in-parts = refl

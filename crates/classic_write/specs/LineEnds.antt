@@ -10,24 +10,24 @@ use mathlib.Core.List.{List, [], _∷_, _++_, append-nil, map-append}
 use lib.Dec.{leb, ltb, eqb}
 use lib.ListN.{length, getD}
 use borrow.Author.Tests.{leb-true, ltb-false, eq-eqb, ne-eqb}
-use Rattle.decode.specs.Numbers.{pick, both, within}
+use Rattle.decode.specs.Numbers.{pick, both, all-within}
 use Rattle.decode.specs.Values.{both-left, both-right}
-use Rattle.decode.specs.declared.Text.{Text}
+use Rattle.decode.specs.declared.StringSpan.{StringSpan}
 use Rattle.encode.specs.Encode.{join}
-use Rattle.digits.specs.Digits.{ascii, figure, capital, numeral, decimal, places}
-use Rattle.digits.specs.DigitLengths.{numeral-ten, fewest}
-use Rattle.table.specs.Rows.{of-kind, nth, All, all-nth, bare, rec-of, refs-of, name-of}
+use Rattle.digits.specs.Digits.{ascii, text-decimal, uppercase, upper-digits, decimal, digit-count}
+use Rattle.digits.specs.DigitLengths.{upper-digits-ten, digit-count-fewest}
+use Rattle.table.specs.Rows.{is-kind, nth, All, all-nth, without-place, rec-of, refs-of, name-of}
 use Rattle.table.specs.Search.{first-row, found-row}
 use Rattle.table.specs.declared.Row.{Row}
 use Rattle.table.specs.declared.Search.{Search}
 use Rattle.table.specs.declared.Search.the-variants.{At, NotFound}
-use Rattle.phd.specs.Shapes.{Word}
-use Rattle.phd.specs.declared.Facts.{Facts}
-use Rattle.phd_check.specs.GoodRows.{good-row, vm-text, AllRight}
-use Rattle.phd_check.specs.WellFormed.{Kinded, a-class, an-object, an-array, a-primitive, good-of, each-row, word-of}
-use Rattle.classic.specs.ClassicText.{address, class-at, is-lost, letters, signature, array-type, naming, type-of, first-line, listed, second-line, row-lines, version, breakdown, totals, lines}
-use Rattle.classic.specs.ClassRows.{Classless}
-use Rattle.classic_write.specs.TextTheorems.{none-lost, class-first, class-none}
+use Rattle.phd.specs.Shapes.{ValidBits}
+use Rattle.phd.specs.declared.Header.{Header}
+use Rattle.phd_check.specs.GoodRows.{good-row, vm-text, TablesGood}
+use Rattle.phd_check.specs.WellFormed.{GoodKind, a-class, an-object, an-array, a-primitive, good-rec, each-row, header-bits-good}
+use Rattle.classic.specs.ClassicText.{address, class-at, class-missing, letters, primitive-array-type, object-array-type, naming-class, type-of, first-line, refs-text, second-line, row-lines, version-line, breakdown-line, totals-line, text-lines}
+use Rattle.classic.specs.ClassRows.{ClassMissing}
+use Rattle.classic_write.specs.TextTheorems.{no-class-missing, class-at-first, class-at-none}
 
 -- the last of some bytes, or b if there are none
 unfoldable pub last-or : ℕ → List ℕ → ℕ
@@ -60,17 +60,17 @@ version-by : (b : Bool) (text : List ℕ) → EndsInSpace (ascii "// Version: " 
 unfolding last-byte last-or
 version-by false text = (λ _. inl refl, λ _. refl)
 version-by true [] = (λ _. inr (inl refl), λ _. refl)
-version-by true (c ∷ rest) = (λ e. inr (inr e), back)
+version-by true (c ∷ rest) = (λ e. inr (inr e), inverse)
   where
-    back : (true ≡ false) ⊎ ((c ∷ rest ≡ []) ⊎ EndsInSpace (c ∷ rest)) → last-or c rest ≡ 0x20
-    back (inl e) = let z : _≡_ {A = ℕ} 0 1 = cc in absurd (omega arith)
-    back (inr (inl e)) = let z : _≡_ {A = ℕ} 0 1 = cc in absurd (omega arith)
-    back (inr (inr e)) = e
+    inverse : (true ≡ false) ⊎ ((c ∷ rest ≡ []) ⊎ EndsInSpace (c ∷ rest)) → last-or c rest ≡ 0x20
+    inverse (inl e) = let z : _≡_ {A = ℕ} 0 1 = cc in absurd (omega arith)
+    inverse (inr (inl e)) = let z : _≡_ {A = ℕ} 0 1 = cc in absurd (omega arith)
+    inverse (inr (inr e)) = e
 
 -- The version line ends in a space exactly if there is no VM string, or it has no bytes, or it ends in a space.
-pub version-space : (names : List ℕ) (t : Text) → EndsInSpace (version names t) ↔ ((t .there ≡ false) ⊎ ((vm-text names t ≡ []) ⊎ EndsInSpace (vm-text names t)))
-unfolding version
-version-space names t = version-by (t .there) (vm-text names t)
+pub version-ends-in-space : (names : List ℕ) (t : StringSpan) → EndsInSpace (version-line names t) ↔ ((t .present ≡ false) ⊎ ((vm-text names t ≡ []) ⊎ EndsInSpace (vm-text names t)))
+unfolding version-line
+version-ends-in-space names t = version-by (t .present) (vm-text names t)
 
 -- ---- bytes that do not end in a space
 
@@ -99,18 +99,18 @@ final-join (x ∷ []) n = rw append-nil n
 final-join (x ∷ y ∷ rest) n = final-append x (final-join (y ∷ rest) n)
 
 -- Bytes of which each is at least 0x21: the one at an index is, and the last of at least one is not a space.
-within-at : (bytes : List ℕ) (i : ℕ) → within 0x21 0x7E bytes ≡ true → i < length bytes → 0x20 < getD bytes i 0
-unfolding within
+within-at : (bytes : List ℕ) (i : ℕ) → all-within 0x21 0x7E bytes ≡ true → i < length bytes → 0x20 < getD bytes i 0
+unfolding all-within
 within-at [] i w l = absurd (omega arith)
-within-at (b ∷ rest) zero w l = leb-true 0x21 b (both-left (leb 0x21 b) (leb b 0x7E) (both-left (both (leb 0x21 b) (leb b 0x7E)) (within 0x21 0x7E rest) w))
-within-at (b ∷ rest) (suc i) w l = within-at rest i (both-right (both (leb 0x21 b) (leb b 0x7E)) (within 0x21 0x7E rest) w) (omega arith)
+within-at (b ∷ rest) zero w l = leb-true 0x21 b (both-left (leb 0x21 b) (leb b 0x7E) (both-left (both (leb 0x21 b) (leb b 0x7E)) (all-within 0x21 0x7E rest) w))
+within-at (b ∷ rest) (suc i) w l = within-at rest i (both-right (both (leb 0x21 b) (leb b 0x7E)) (all-within 0x21 0x7E rest) w) (omega arith)
 
-final-within : (bytes : List ℕ) → within 0x21 0x7E bytes ≡ true → 1 ≤ length bytes → NoFinalSpace bytes
-unfolding within last-or
+final-within : (bytes : List ℕ) → all-within 0x21 0x7E bytes ≡ true → 1 ≤ length bytes → NoFinalSpace bytes
+unfolding all-within last-or
 final-within [] w l = absurd (omega arith)
 final-within (b ∷ []) w l = final-one b (within-at (b ∷ []) 0 w l)
 final-within (b ∷ c ∷ rest) w l =
-    let v = both-right (both (leb 0x21 b) (leb b 0x7E)) (within 0x21 0x7E (c ∷ rest)) w in
+    let v = both-right (both (leb 0x21 b) (leb b 0x7E)) (all-within 0x21 0x7E (c ∷ rest)) w in
     record { last = λ _. final-within (c ∷ rest) v (omega arith) .last b }
 
 -- ---- numbers
@@ -123,142 +123,142 @@ digit-least d = by (ltb d 10)
     by true = omega arith
     by false = omega arith
 
-capital-least : (c : ℕ) → 48 ≤ c → 0x20 < capital c
-unfolding capital
-capital-least c l = by (ltb c 0x61) refl
+uppercase-above-space : (c : ℕ) → 48 ≤ c → 0x20 < uppercase c
+unfolding uppercase
+uppercase-above-space c l = by (ltb c 0x61) refl
   where
     by : (b : Bool) → ltb c 0x61 ≡ b → 0x20 < pick b c (c - 0x20)
     by true e = omega arith
     by false e = omega (arith, ltb-false c 0x61 e)
 
-final-numeral : (b k n : ℕ) → 1 ≤ k → NoFinalSpace (numeral b k n)
-unfolding numeral
-final-numeral b zero n l = absurd (omega arith)
-final-numeral b (suc k) n l = rw map-append (final-append (numeral b k (n / b)) (final-one _ (capital-least _ (digit-least (n % b)))))
+final-upper-digits : (b k n : ℕ) → 1 ≤ k → NoFinalSpace (upper-digits b k n)
+unfolding upper-digits
+final-upper-digits b zero n l = absurd (omega arith)
+final-upper-digits b (suc k) n l = rw map-append (final-append (upper-digits b k (n / b)) (final-one _ (uppercase-above-space _ (digit-least (n % b)))))
 
 final-decimal : (n : ℕ) → NoFinalSpace (decimal n)
 unfolding decimal
-final-decimal n = rw (numeral-ten (places n) n) at (final-numeral 10 (places n) n (fewest n .0))
+final-decimal n = rw (upper-digits-ten (digit-count n) n) at (final-upper-digits 10 (digit-count n) n (digit-count-fewest n .0))
 
-final-address : (word a : ℕ) → Word word → NoFinalSpace (address word a)
+final-address : (bits a : ℕ) → ValidBits bits → NoFinalSpace (address bits a)
 unfolding address
-final-address word a w = final-append (ascii "0x") (final-numeral 16 (word / 4) a (least w))
+final-address bits a w = final-append (ascii "0x") (final-upper-digits 16 (bits / 4) a (least w))
   where
-    least : Word word → 1 ≤ word / 4
+    least : ValidBits bits → 1 ≤ bits / 4
     least (inl e) = omega arith
     least (inr e) = omega arith
 
 -- ---- the trailers
 
-final-breakdown : (rows : List Row) → NoFinalSpace (breakdown rows)
-unfolding breakdown
+final-breakdown : (rows : List Row) → NoFinalSpace (breakdown-line rows)
+unfolding breakdown-line
 final-breakdown rows =
-    final-join (figure "// Breakdown - Classes: " _ ∷ figure ", Objects: " _ ∷ figure ", ObjectArrays: " _ ∷ figure ", PrimitiveArrays: " _ ∷ [])
+    final-join (text-decimal "// Breakdown - Classes: " _ ∷ text-decimal ", Objects: " _ ∷ text-decimal ", ObjectArrays: " _ ∷ text-decimal ", PrimitiveArrays: " _ ∷ [])
     (final-append (ascii ", PrimitiveArrays: ") (final-decimal _))
 
-final-totals : (rows : List Row) → NoFinalSpace (totals rows)
-unfolding totals
-final-totals rows = final-join (figure "// EOF:  Total 'Objects',Refs(null) : " _ ∷ figure "," _ ∷ figure "(" _ ∷ ascii ")" ∷ []) (final-one 0x29 (omega arith))
+final-totals : (rows : List Row) → NoFinalSpace (totals-line rows)
+unfolding totals-line
+final-totals rows = final-join (text-decimal "// EOF:  Total 'Objects',Refs(null) : " _ ∷ text-decimal "," _ ∷ text-decimal "(" _ ∷ ascii ")" ∷ []) (final-one 0x29 (omega arith))
 
 -- ---- the second line of a row
 
-final-listed : (word : ℕ) → Word word → (xs rest : List ℕ) → NoFinalSpace xs → NoFinalSpace (xs ++ listed word rest)
-unfolding listed
-final-listed word w xs [] n = rw append-nil n
-final-listed word w xs (a ∷ rest) n = final-append xs (final-append (ascii " ") (final-listed word w (address word a) rest (final-address word a w)))
+final-refs-text : (bits : ℕ) → ValidBits bits → (xs rest : List ℕ) → NoFinalSpace xs → NoFinalSpace (xs ++ refs-text bits rest)
+unfolding refs-text
+final-refs-text bits w xs [] n = rw append-nil n
+final-refs-text bits w xs (a ∷ rest) n = final-append xs (final-append (ascii " ") (final-refs-text bits w (address bits a) rest (final-address bits a w)))
 
-final-second : (word : ℕ) (names refs : List ℕ) (rows : List Row) (r : Row) → Word word → NoFinalSpace (second-line word names refs rows r)
+final-second : (bits : ℕ) (names refs : List ℕ) (rows : List Row) (r : Row) → ValidBits bits → NoFinalSpace (second-line bits names refs rows r)
 unfolding second-line
-final-second word names refs rows r w = final-listed word w _ (refs-of refs r) (final-address word _ w)
+final-second bits names refs rows r w = final-refs-text bits w _ (refs-of refs r) (final-address bits _ w)
 
 -- ---- the first line of a row
 
 -- what a good row's kind says of its name, which is as long as the row says
-record Named (names : List ℕ) (r : Row) : Type 0 where
-  kinded : Kinded (bare r) (name-of names r)
+record GoodName (names : List ℕ) (r : Row) : Type 0 where
+  kind-good : GoodKind (without-place r) (name-of names r)
   long : length (name-of names r) ≡ r .namelen
 
-final-array : (name : List ℕ) → NoFinalSpace name → NoFinalSpace (array-type name)
-unfolding array-type
+final-array : (name : List ℕ) → NoFinalSpace name → NoFinalSpace (object-array-type name)
+unfolding object-array-type
 final-array name n = by (eqb (getD name 0 0) 0x5B)
   where
     by : (b : Bool) → NoFinalSpace (pick b (ascii "[" ++ name) (ascii "[L" ++ (name ++ ascii ";")))
     by true = final-append (ascii "[") n
     by false = final-append (ascii "[L") (final-append name (final-one 0x3B (omega arith)))
 
-final-signature : (type : ℕ) → type < 8 → NoFinalSpace (signature type)
-unfolding signature letters within
-final-signature type l = final-append (ascii "[") (final-one _ (within-at letters type refl l))
+final-primitive-array-type : (type : ℕ) → type < 8 → NoFinalSpace (primitive-array-type type)
+unfolding primitive-array-type letters all-within
+final-primitive-array-type type l = final-append (ascii "[") (final-one _ (within-at letters type refl l))
 
-module _ (names : List ℕ) (rows : List Row) (all : All (Named names) rows) where
-  class-name : (r : Row) → Named names r → r .kind ≡ 1 → NoFinalSpace (name-of names r)
-  unfolding bare
-  class-name r n k = by (n .kinded)
+module _ (names : List ℕ) (rows : List Row) (all : All (GoodName names) rows) where
+  class-name-no-space : (r : Row) → GoodName names r → r .kind ≡ 1 → NoFinalSpace (name-of names r)
+  unfolding without-place
+  class-name-no-space r n k = by (n .kind-good)
     where
-      by : Kinded (bare r) (name-of names r) → NoFinalSpace (name-of names r)
+      by : GoodKind (without-place r) (name-of names r) → NoFinalSpace (name-of names r)
       by (a-class _ _ _ _ _ least _ w) = final-within (name-of names r) w (omega (arith, n .long))
       by (an-object kind _ _ _ _) = absurd (omega arith)
       by (an-array kind _ _ _ _ _) = absurd (omega arith)
       by (a-primitive kind _ _ _ _ _ _) = absurd (omega arith)
 
   -- the name of the class of an object or object array that has its class row
-  found-name : (r : Row) → (r .kind ≡ 2) ⊎ (r .kind ≡ 3) → (Classless rows r → ⊥) → NoFinalSpace (name-of names (found-row rows (class-at rows (r .word))))
+  class-row-name-no-space : (r : Row) → (r .kind ≡ 2) ⊎ (r .kind ≡ 3) → (ClassMissing rows r → ⊥) → NoFinalSpace (name-of names (found-row rows (class-at rows (r .class))))
   unfolding found-row
-  found-name r k lost = by (class-at rows (r .word)) refl
+  class-row-name-no-space r k missing = by (class-at rows (r .class)) refl
     where
-      by : (f : Search) → class-at rows (r .word) ≡ f → NoFinalSpace (name-of names (found-row rows f))
+      by : (f : Search) → class-at rows (r .class) ≡ f → NoFinalSpace (name-of names (found-row rows f))
       by (At i) e =
-          let c = class-first rows (r .word) i .0 e in
-          class-name (nth rows i) (all-nth (Named names) rows i all (c .inside)) (c .so .kind)
-      by NotFound e = absurd (lost (record { kind = k; none = class-none rows (r .word) .0 e }))
+          let c = class-at-first rows (r .class) i .0 e in
+          class-name-no-space (nth rows i) (all-nth (GoodName names) rows i all (c .inside)) (c .holds .kind)
+      by NotFound e = absurd (missing (record { kind = k; none = class-at-none rows (r .class) .0 e }))
 
-  final-type : (r : Row) → Named names r → (Classless rows r → ⊥) → NoFinalSpace (type-of names rows r)
-  unfolding type-of naming bare
-  final-type r n lost = by (n .kinded)
+  final-type : (r : Row) → GoodName names r → (ClassMissing rows r → ⊥) → NoFinalSpace (type-of names rows r)
+  unfolding type-of naming-class without-place
+  final-type r n missing = by (n .kind-good)
     where
-      other : (k : ℕ) → (r .kind ≡ k → ⊥) → of-kind k r ≡ false
+      other : (k : ℕ) → (r .kind ≡ k → ⊥) → is-kind k r ≡ false
       other k = ne-eqb (r .kind) k
 
-      by : Kinded (bare r) (name-of names r) → NoFinalSpace (type-of names rows r)
-      by (a-class kind _ _ _ _ _ _ _) = rw (other 4 (λ e. omega arith), other 3 (λ e. omega arith), eq-eqb (r .kind) 1 kind) (class-name r n kind)
+      by : GoodKind (without-place r) (name-of names r) → NoFinalSpace (type-of names rows r)
+      by (a-class kind _ _ _ _ _ _ _) = rw (other 4 (λ e. omega arith), other 3 (λ e. omega arith), eq-eqb (r .kind) 1 kind) (class-name-no-space r n kind)
       by (an-object kind _ _ _ _) =
-          rw (other 4 (λ e. omega arith), other 3 (λ e. omega arith), other 1 (λ e. omega arith)) (found-name r (inl kind) lost)
+          rw (other 4 (λ e. omega arith), other 3 (λ e. omega arith), other 1 (λ e. omega arith)) (class-row-name-no-space r (inl kind) missing)
       by (an-array kind _ _ _ _ _) =
-          rw (other 4 (λ e. omega arith), eq-eqb (r .kind) 3 kind, other 1 (λ e. omega arith)) (final-array _ (found-name r (inr kind) lost))
-      by (a-primitive kind _ _ _ _ type _) = rw (eq-eqb (r .kind) 4 kind) (final-signature (r .prim) type)
+          rw (other 4 (λ e. omega arith), eq-eqb (r .kind) 3 kind, other 1 (λ e. omega arith)) (final-array _ (class-row-name-no-space r (inr kind) missing))
+      by (a-primitive kind _ _ _ _ type _) = rw (eq-eqb (r .kind) 4 kind) (final-primitive-array-type (r .prim) type)
 
 -- the type ends the line
-final-first : (word : ℕ) (names : List ℕ) (rows : List Row) (r : Row) → NoFinalSpace (type-of names rows r) → NoFinalSpace (first-line word names rows r)
+final-first : (bits : ℕ) (names : List ℕ) (rows : List Row) (r : Row) → NoFinalSpace (type-of names rows r) → NoFinalSpace (first-line bits names rows r)
 unfolding first-line
-final-first word names rows r t =
-    final-join (address word (r .address) ∷ figure " [" _ ∷ pick (of-kind 1 r) (ascii "] CLS ") (ascii "] OBJ ") ∷ type-of names rows r ∷ []) t
+final-first bits names rows r t =
+    final-join (address bits (r .address) ∷ text-decimal " [" _ ∷ pick (is-kind 1 r) (ascii "] CLS ") (ascii "] OBJ ") ∷ type-of names rows r ∷ []) t
 
 -- ---- the lines
 
 -- Both conditions on the tables hold exactly if a size query returns 0 (Promises, `Asks .done`), and so for every text written.
-module _ (h : Facts) (names refs : List ℕ) (rows : List Row) (a : AllRight h names refs rows) (f : first-row (is-lost rows) rows ≡ NotFound) where
-  all-named : All (Named names) rows
-  unfolding rec-of bare
-  all-named = each-row h names refs (Named names) named rows (a .1)
+module _ (h : Header) (names refs : List ℕ) (rows : List Row) (a : TablesGood h names refs rows) (f : first-row (class-missing rows) rows ≡ NotFound) where
+  all-named : All (GoodName names) rows
+  unfolding rec-of without-place
+  all-named = each-row h names refs (GoodName names) named rows (a .1)
     where
-      named : (index : ℕ) (r : Row) → good-row h names refs index r ≡ true → Named names r
-      named index r g = let k = good-of h names refs index r g in record { kinded = k .kinded; long = k .namelen }
+      named : (index : ℕ) (r : Row) → good-row h names refs index r ≡ true → GoodName names r
+      named index r g = let k = good-rec h names refs index r g in record { kind-good = k .kind-good; long = k .namelen }
 
   row-ends : (some : List Row) → ((i : ℕ) → i < length some → NoFinalSpace (type-of names rows (nth some i)))
-      → Each (λ line. EndsInSpace line → ⊥) (row-lines (h .word) names refs rows some ++ (breakdown rows ∷ totals rows ∷ []))
+      → Each (λ line. EndsInSpace line → ⊥) (row-lines (h .bits) names refs rows some ++ (breakdown-line rows ∷ totals-line rows ∷ []))
   unfolding row-lines last-byte
   row-ends [] t = (final-breakdown rows .last 0, (final-totals rows .last 0, tt))
   row-ends (r ∷ some) t = (
-    final-first (h .word) names rows r (t 0 (omega arith)) .last 0,
-    (final-second (h .word) names refs rows r (word-of h names rows refs (a .0)) .last 0, row-ends some (λ i l. t (suc i) (omega arith))),
+    final-first (h .bits) names rows r (t 0 (omega arith)) .last 0,
+    (final-second (h .bits) names refs rows r (header-bits-good h names rows refs (a .0)) .last 0, row-ends some (λ i l. t (suc i) (omega arith))),
   )
 
   -- No line after the version line ends in a space.
-  pub only-version : Each (λ line. EndsInSpace line → ⊥) (row-lines (h .word) names refs rows rows ++ (breakdown rows ∷ totals rows ∷ []))
-  only-version = row-ends rows (λ i l. final-type names rows all-named (nth rows i) (all-nth (Named names) rows i all-named l) (none-lost rows .0 f i l))
+  pub no-space-after-version : Each (λ line. EndsInSpace line → ⊥) (row-lines (h .bits) names refs rows rows ++ (breakdown-line rows ∷ totals-line rows ∷ []))
+  no-space-after-version = row-ends rows (λ i l. final-type names rows all-named (nth rows i) (all-nth (GoodName names) rows i all-named l) (no-class-missing rows .0 f i l))
 
   -- The same of all lines, numbered from 0: if a line ends in a space, it is the first, the version line.
-  pub space-in-first : (i : ℕ) → EndsInSpace (getD (lines h names refs rows) i []) → i ≡ 0
-  unfolding lines
+  pub space-in-first : (i : ℕ) → EndsInSpace (getD (text-lines h names refs rows) i []) → i ≡ 0
+  unfolding text-lines
   space-in-first zero e = refl
-  space-in-first (suc i) e = absurd (each-at (row-lines (h .word) names refs rows rows ++ (breakdown rows ∷ totals rows ∷ [])) i only-version e)
+  space-in-first (suc i) e = absurd (each-at (row-lines (h .bits) names refs rows rows ++ (breakdown-line rows ∷ totals-line rows ∷ [])) i no-space-after-version e)

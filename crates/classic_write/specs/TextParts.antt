@@ -3,33 +3,33 @@
 use mathlib.Core.Path.{_≡_, refl}
 use Prim.Native.Nat.{ℕ, _+_, _^_, _<_}
 use mathlib.Core.List.{List, [], _∷_, _++_, append-assoc}
-use Rattle.decode.specs.declared.Text.{Text}
+use Rattle.decode.specs.declared.StringSpan.{StringSpan}
 use Rattle.encode.specs.Encode.{join}
 use Rattle.table.specs.declared.Row.{Row}
 use Rattle.table.specs.declared.Search.{Search}
 use Rattle.table.specs.declared.Search.the-variants.{At, NotFound}
-use Rattle.phd.specs.declared.Facts.{Facts}
+use Rattle.phd.specs.declared.Header.{Header}
 use Rattle.table.specs.Sums.{sum}
 use Rattle.phd_counts.specs.Counts.{tally-of}
 use Rattle.phd_counts.specs.declared.Tally.{Tally}
-use Rattle.digits.specs.Digits.{ascii, figure}
-use Rattle.classic.specs.ClassicText.{row-lines, version, breakdown, totals, ended, lines, text-of}
+use Rattle.digits.specs.Digits.{ascii, text-decimal}
+use Rattle.classic.specs.ClassicText.{row-lines, version-line, breakdown-line, totals-line, unlines, text-lines, text-of}
 use Rattle.classic_row.specs.RowText.{row-size}
 use Rattle.classic_write.specs.declared.rows.LinesSize.{LinesSize}
 use Rattle.classic_write.specs.declared.rows.LinesSize.the-variants.{Bytes, Refused}
 
 -- ---- the version line
 
-unfoldable pub version-text : List ℕ → Text → List ℕ
-version-text names t = ended (version names t ∷ [])
+unfoldable pub version-text : List ℕ → StringSpan → List ℕ
+version-text names t = unlines (version-line names t ∷ [])
 
 -- ---- the rows
 
 unfoldable pub rows-text : ℕ → (names refs : List ℕ) → List Row → List ℕ
-rows-text word names refs rows = ended (row-lines word names refs rows rows)
+rows-text bits names refs rows = unlines (row-lines bits names refs rows rows)
 
 unfoldable pub rows-size : ℕ → (names : List ℕ) → List Row → ℕ
-rows-size word names rows = sum (row-size word names rows) rows
+rows-size bits names rows = sum (row-size bits names rows) rows
 
 -- by the first row without its class row: reply 18 with its index, or so many bytes where there is none
 abbrev pub size-or-18 : Search → ℕ → LinesSize
@@ -39,39 +39,39 @@ size-or-18 NotFound n = Bytes n
 -- ---- the trailers
 
 -- the references of a tally with its nulls are far below what 64 bits hold
-pub record Totalled (t : Tally) : Type 0 where
+pub record TallyBound (t : Tally) : Type 0 where
   pub small : t .refs + t .nulls < 2 ^ 62
 
-unfoldable pub breakdown-by : Tally → List ℕ
-breakdown-by t = join (
-    figure "// Breakdown - Classes: " (t .classes)
-    ∷ figure ", Objects: " (t .objects)
-    ∷ figure ", ObjectArrays: " (t .arrays)
-    ∷ figure ", PrimitiveArrays: " (t .primitives) ∷ [])
+unfoldable pub tally-breakdown : Tally → List ℕ
+tally-breakdown t = join (
+    text-decimal "// Breakdown - Classes: " (t .classes)
+    ∷ text-decimal ", Objects: " (t .objects)
+    ∷ text-decimal ", ObjectArrays: " (t .arrays)
+    ∷ text-decimal ", PrimitiveArrays: " (t .primitives) ∷ [])
 
-unfoldable pub totals-by : Tally → List ℕ
-totals-by t = join (
-    figure "// EOF:  Total 'Objects',Refs(null) : " (t .rows)
-    ∷ figure "," (t .refs + t .nulls)
-    ∷ figure "(" (t .nulls) ∷ ascii ")" ∷ [])
+unfoldable pub tally-totals : Tally → List ℕ
+tally-totals t = join (
+    text-decimal "// EOF:  Total 'Objects',Refs(null) : " (t .rows)
+    ∷ text-decimal "," (t .refs + t .nulls)
+    ∷ text-decimal "(" (t .nulls) ∷ ascii ")" ∷ [])
 
-unfoldable pub trailers-by : Tally → List ℕ
-trailers-by t = ended (breakdown-by t ∷ totals-by t ∷ [])
+unfoldable pub tally-trailers : Tally → List ℕ
+tally-trailers t = unlines (tally-breakdown t ∷ tally-totals t ∷ [])
 
 -- ---- all of it
 
 -- lines behind lines
-pub ended-append : (ls ms : List (List ℕ)) → ended (ls ++ ms) ≡ ended ls ++ ended ms
-unfolding ended
-ended-append [] ms = refl
-ended-append (l ∷ ls) ms = rw (ended-append ls ms, append-assoc)
+pub unlines-append : (ls ms : List (List ℕ)) → unlines (ls ++ ms) ≡ unlines ls ++ unlines ms
+unfolding unlines
+unlines-append [] ms = refl
+unlines-append (l ∷ ls) ms = rw (unlines-append ls ms, append-assoc)
 
 -- the trailers by the tally of the rows are those of the rows
-trailers-is : (rows : List Row) → trailers-by (tally-of rows) ≡ ended (breakdown rows ∷ totals rows ∷ [])
-unfolding trailers-by breakdown-by totals-by tally-of breakdown totals
-trailers-is rows = refl
+tally-trailers-eq : (rows : List Row) → tally-trailers (tally-of rows) ≡ unlines (breakdown-line rows ∷ totals-line rows ∷ [])
+unfolding tally-trailers tally-breakdown tally-totals tally-of breakdown-line totals-line
+tally-trailers-eq rows = refl
 
-pub text-parts : (h : Facts) (names refs : List ℕ) (rows : List Row)
-    → text-of h names refs rows ≡ version-text names (h .vm) ++ (rows-text (h .word) names refs rows ++ trailers-by (tally-of rows))
-unfolding text-of lines version-text rows-text ended
-text-parts h names refs rows = rw (trailers-is rows) (simp (ended-append, append-assoc))
+pub text-parts : (h : Header) (names refs : List ℕ) (rows : List Row)
+    → text-of h names refs rows ≡ version-text names (h .vm) ++ (rows-text (h .bits) names refs rows ++ tally-trailers (tally-of rows))
+unfolding text-of text-lines version-text rows-text unlines
+text-parts h names refs rows = rw (tally-trailers-eq rows) (simp (unlines-append, append-assoc))

@@ -7,98 +7,98 @@ use mathlib.Core.Bool.{Bool, true, false}
 use mathlib.Core.List.{List, [], _∷_, _++_}
 use lib.ListN.{length, length-append}
 use Rattle.decode.specs.Numbers.{pick}
-use Rattle.decode.specs.declared.Text.{Text}
+use Rattle.decode.specs.declared.StringSpan.{StringSpan}
 use Rattle.table.specs.declared.Row.{Row}
-use Rattle.phd.specs.Shapes.{Word}
+use Rattle.phd.specs.Shapes.{ValidBits}
 use Rattle.phd_check.specs.GoodRows.{vm-text}
 use Rattle.table.specs.Rows.{All}
-use Rattle.phd_check.specs.WellFormed.{Vm, length-text}
+use Rattle.phd_check.specs.WellFormed.{VmInBounds, length-vm-text}
 use Rattle.table.specs.Sums.{sum}
-use Rattle.phd_counts.specs.Counts.{one-of, count-of, nulls, tally-of}
-use Rattle.phd_counts.specs.CountLoop.{Few, sum-most}
+use Rattle.phd_counts.specs.Counts.{kind-count, row-ref-count, nulls, tally-of}
+use Rattle.phd_counts.specs.CountLoop.{CountBounds, sum-le-length}
 use Rattle.phd_counts.specs.declared.Tally.{Tally}
-use Rattle.digits.specs.Digits.{ascii, places}
-use Rattle.classic.specs.ClassicText.{row-lines, version, ended}
-use Rattle.classic.specs.RowBounds.{Short, AllShort, Linked, AllLinked}
-use Rattle.digits.specs.DigitLengths.{length-decimal, places-most}
-use Rattle.classic_row.specs.RowText.{row-text, row-size, length-row, row-size-most}
-use Rattle.classic_write.specs.TextParts.{Totalled, ended-append, version-text, rows-text, rows-size, trailers-by, breakdown-by, totals-by}
+use Rattle.digits.specs.Digits.{ascii, digit-count}
+use Rattle.classic.specs.ClassicText.{row-lines, version-line, unlines}
+use Rattle.classic.specs.RowBounds.{RowNumbersInBounds, AllNumbersInBounds, RefsInBounds, AllRefsInBounds}
+use Rattle.digits.specs.DigitLengths.{length-decimal, digit-count-le-20}
+use Rattle.classic_row.specs.RowText.{row-text, row-size, length-row-text, row-size-le}
+use Rattle.classic_write.specs.TextParts.{TallyBound, unlines-append, version-text, rows-text, rows-size, tally-trailers, tally-breakdown, tally-totals}
 
 -- ---- the version line
 
-pub length-version : (names : List ℕ) (t : Text) → Vm names t → length (version-text names t) ≡ 13 + pick (t .there) (t .len) 0
-unfolding version-text version ended
-length-version names t v = by (t .there) refl
+pub length-version : (names : List ℕ) (t : StringSpan) → VmInBounds names t → length (version-text names t) ≡ 13 + pick (t .present) (t .len) 0
+unfolding version-text version-line unlines
+length-version names t v = by (t .present) refl
   where
-    by : (b : Bool) → t .there ≡ b → length ((ascii "// Version: " ++ pick b (vm-text names t) []) ++ (0x0A ∷ [])) ≡ 13 + pick b (t .len) 0
-    by true e = let l = length-text names t v e in simp length-append (omega arith)
+    by : (b : Bool) → t .present ≡ b → length ((ascii "// Version: " ++ pick b (vm-text names t) []) ++ (0x0A ∷ [])) ≡ 13 + pick b (t .len) 0
+    by true e = let l = length-vm-text names t v e in simp length-append (omega arith)
     by false e = refl
 
-pub version-most : (names : List ℕ) (t : Text) → Vm names t → length (version-text names t) ≤ 65548
-version-most names t v = rw (length-version names t v) (by (t .there) refl)
+pub version-le : (names : List ℕ) (t : StringSpan) → VmInBounds names t → length (version-text names t) ≤ 65548
+version-le names t v = rw (length-version names t v) (by (t .present) refl)
   where
-    by : (b : Bool) → t .there ≡ b → 13 + pick b (t .len) 0 ≤ 65548
+    by : (b : Bool) → t .present ≡ b → 13 + pick b (t .len) 0 ≤ 65548
     by true e = let s = v .short e in omega arith
     by false e = omega arith
 
 -- ---- the rows
 
 -- the lines of a row, and of those after it; `rows` are all, among which classes are found
-pub lines-more : (word : ℕ) (names refs : List ℕ) (rows : List Row) (r : Row) (some : List Row)
-    → ended (row-lines word names refs rows (r ∷ some)) ≡ row-text word names refs rows r ++ ended (row-lines word names refs rows some)
+pub unlines-row-cons : (bits : ℕ) (names refs : List ℕ) (rows : List Row) (r : Row) (some : List Row)
+    → unlines (row-lines bits names refs rows (r ∷ some)) ≡ row-text bits names refs rows r ++ unlines (row-lines bits names refs rows some)
 unfolding row-lines row-text
-lines-more word names refs rows r some = ended-append (_ ∷ _ ∷ []) _
+unlines-row-cons bits names refs rows r some = unlines-append (_ ∷ _ ∷ []) _
 
-module _ (word : ℕ) (names refs : List ℕ) (rows : List Row) where
-  long-of : (some : List Row) → All (Linked refs) some → length (ended (row-lines word names refs rows some)) ≡ sum (row-size word names rows) some
-  unfolding row-lines ended sum
-  long-of [] a = refl
-  long-of (r ∷ some) a =
-      let l = length-row word names refs rows r (a .0) in
-      let t = long-of some (a .1) in
-      rw (lines-more, length-append, l, t)
+module _ (bits : ℕ) (names refs : List ℕ) (rows : List Row) where
+  length-rows-from : (some : List Row) → All (RefsInBounds refs) some → length (unlines (row-lines bits names refs rows some)) ≡ sum (row-size bits names rows) some
+  unfolding row-lines unlines sum
+  length-rows-from [] a = refl
+  length-rows-from (r ∷ some) a =
+      let l = length-row-text bits names refs rows r (a .0) in
+      let t = length-rows-from some (a .1) in
+      rw (unlines-row-cons, length-append, l, t)
 
-  pub rows-long : AllLinked refs rows → length (rows-text word names refs rows) ≡ rows-size word names rows
+  pub length-rows-text : AllRefsInBounds refs rows → length (rows-text bits names refs rows) ≡ rows-size bits names rows
   unfolding rows-text rows-size
-  rows-long l = long-of rows (l .span)
+  length-rows-text l = length-rows-from rows (l .span)
 
-module _ (word : ℕ) (names refs : List ℕ) (rows : List Row) (w : Word word) (a : AllShort names rows) where
-  most-of : (some : List Row) → All (Short names) some → sum (row-size word names rows) some ≤ length some * 65700 + sum count-of some * 19
+module _ (bits : ℕ) (names refs : List ℕ) (rows : List Row) (w : ValidBits bits) (a : AllNumbersInBounds names rows) where
+  rows-size-from-most : (some : List Row) → All (RowNumbersInBounds names) some → sum (row-size bits names rows) some ≤ length some * 65700 + sum row-ref-count some * 19
   unfolding sum
-  most-of [] b = omega arith
-  most-of (r ∷ some) b =
-      let m = row-size-most word names rows r w a (b .0) in
-      let t = most-of some (b .1) in
+  rows-size-from-most [] b = omega arith
+  rows-size-from-most (r ∷ some) b =
+      let m = row-size-le bits names rows r w a (b .0) in
+      let t = rows-size-from-most some (b .1) in
       omega arith
 
-  pub rows-size-most : AllLinked refs rows → length rows ≤ 2 ^ 30 → length refs ≤ 2 ^ 30 → rows-size word names rows ≤ 2 ^ 30 * 65700 + 2 ^ 30 * 19
+  pub rows-size-le : AllRefsInBounds refs rows → length rows ≤ 2 ^ 30 → length refs ≤ 2 ^ 30 → rows-size bits names rows ≤ 2 ^ 30 * 65700 + 2 ^ 30 * 19
   unfolding rows-size
-  rows-size-most l f g =
-      let m = most-of rows (a .row) in
+  rows-size-le l f g =
+      let m = rows-size-from-most rows (a .row) in
       let c = l .all in
       omega arith
 
 -- ---- the trailers
 
-pub tally-totalled : (rows : List Row) → Few rows → Totalled (tally-of rows)
+pub tally-bound : (rows : List Row) → CountBounds rows → TallyBound (tally-of rows)
 unfolding tally-of
-tally-totalled rows f =
-    let r = f .few-refs in
-    let n = f .few-nulls in
+tally-bound rows f =
+    let r = f .refs-bound in
+    let n = f .nulls-bound in
     record { small = omega arith }
 
 pub length-trailers : (t : Tally)
-    → length (trailers-by t) ≡ 113 + (places (t .classes) + places (t .objects) + places (t .arrays) + places (t .primitives)) + (places (t .rows) + places (t .refs + t .nulls) + places (t .nulls))
-unfolding trailers-by breakdown-by totals-by ended
+    → length (tally-trailers t) ≡ 113 + (digit-count (t .classes) + digit-count (t .objects) + digit-count (t .arrays) + digit-count (t .primitives)) + (digit-count (t .rows) + digit-count (t .refs + t .nulls) + digit-count (t .nulls))
+unfolding tally-trailers tally-breakdown tally-totals unlines
 length-trailers t = simp (length-append, length-decimal) (omega arith)
 
-pub trailers-most : (rows : List Row) → Few rows → length (trailers-by (tally-of rows)) ≤ 253
+pub trailers-le : (rows : List Row) → CountBounds rows → length (tally-trailers (tally-of rows)) ≤ 253
 unfolding tally-of
-trailers-most rows f =
-    let m : (n : ℕ) → n < 2 ^ 62 → places n ≤ 20 = λ n l. places-most n (omega arith) in
-    let k : (k : ℕ) → places (sum (one-of k) rows) ≤ 20 = λ k. let s = sum-most k rows in let r = f .few-rows in m _ (omega arith) in
-    let n = f .few-nulls in
-    let r = m (length rows) (omega (arith, f .few-rows)) in
-    let s = m (sum count-of rows + nulls rows) (tally-totalled rows f .small) in
+trailers-le rows f =
+    let m : (n : ℕ) → n < 2 ^ 62 → digit-count n ≤ 20 = λ n l. digit-count-le-20 n (omega arith) in
+    let k : (k : ℕ) → digit-count (sum (kind-count k) rows) ≤ 20 = λ k. let s = sum-le-length k rows in let r = f .rows-bound in m _ (omega arith) in
+    let n = f .nulls-bound in
+    let r = m (length rows) (omega (arith, f .rows-bound)) in
+    let s = m (sum row-ref-count rows + nulls rows) (tally-bound rows f .small) in
     let z = m (nulls rows) (omega arith) in
     rw length-trailers (omega (arith, k 1, k 2, k 3, k 4))

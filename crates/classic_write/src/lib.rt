@@ -2,11 +2,11 @@
 // The contract of the first is one equation with the definition; that of the second one for the answer, and one for the output.
 ghost use mathlib.Core.Path.{_≡_};
 ghost use lib.ListN.{length};
-ghost use Rattle.table.specs.Buffer.{stored};
+ghost use Rattle.table.specs.Buffer.{overwrite};
 ghost use Rattle.table.specs.Rows.{rows-of};
-ghost use Rattle.classic.specs.ClassicText.{texting, text-sizing};
-ghost use Rattle.classic_write.specs.SizedText.{Measures, Counted};
-use phd_check::Header;
+ghost use Rattle.classic.specs.ClassicText.{text-result, text-size-result};
+ghost use Rattle.classic_write.specs.SizedText.{SizedTextMeans, CheckedText};
+use phd::Header;
 use phd_counts::Tally;
 use rows::LinesSize;
 use table::Answer;
@@ -16,25 +16,25 @@ mod trailers;
 mod version;
 
 // What is found of a text before a byte of it is put: its refusal, or its size and the counts that its trailers say.
-enum Measured {
+enum SizedText {
     Refused(Answer),
     Sized(usize, Tally),
 }
 
 // Checks the header and the rows, then the class of each row in the pass that sizes their lines, and sizes the whole text.
-fn measure(header: Header, rows: &[u64], refs: &[u64], names: &[u8]) -> Measured
-    ensures { λ r. ⌜ Measures header (now (names .entry)) (now (refs .entry)) (rows-of (now (rows .entry))) r ⌝ }
+fn check_and_size(header: Header, rows: &[u64], refs: &[u64], names: &[u8]) -> SizedText
+    ensures { λ r. ⌜ SizedTextMeans header (now (names .entry)) (now (refs .entry)) (rows-of (now (rows .entry))) r ⌝ }
 {
     let checked = phd_check::check(header, names, refs, rows);
     if checked.reply != 0 {
-        return Measured::Refused(checked);
+        return SizedText::Refused(checked);
     }
-    let first = version::size(names, header.vm);
-    match rows::size(header.word, names, rows, first) {
-        LinesSize::Refused(refusal) => Measured::Refused(refusal),
+    let first = version::version_size(names, header.vm);
+    match rows::rows_text_size(header.bits, names, rows, first) {
+        LinesSize::Refused(refusal) => SizedText::Refused(refusal),
         LinesSize::Bytes(lines) => {
             let tally = phd_counts::count_all(rows);
-            Measured::Sized(lines + trailers::size(tally), tally)
+            SizedText::Sized(lines + trailers::trailers_size(tally), tally)
         }
     }
 }
@@ -42,11 +42,11 @@ fn measure(header: Header, rows: &[u64], refs: &[u64], names: &[u8]) -> Measured
 // Asks how many bytes the whole rows of a table and their references take as classic text: everything is checked as for `text`,
 // and nothing is written.
 pub fn text_size(header: Header, rows: &[u64], refs: &[u64], names: &[u8]) -> Answer
-    ensures { λ r. ⌜ r ≡ text-sizing header (now (names .entry)) (now (refs .entry)) (now (rows .entry)) ⌝ }
+    ensures { λ r. ⌜ r ≡ text-size-result header (now (names .entry)) (now (refs .entry)) (now (rows .entry)) ⌝ }
 {
-    match measure(header, rows, refs, names) {
-        Measured::Refused(refusal) => refusal,
-        Measured::Sized(size, _) => Answer {
+    match check_and_size(header, rows, refs, names) {
+        SizedText::Refused(refusal) => refusal,
+        SizedText::Sized(size, _) => Answer {
             reply: 0,
             place: size,
         },
@@ -54,7 +54,7 @@ pub fn text_size(header: Header, rows: &[u64], refs: &[u64], names: &[u8]) -> An
 }
 
 // Puts the text of good tables in which every row has its class, if there is room for it. Its size and its counts are known.
-fn fit(
+fn write_if_fits(
     size: usize,
     tally: Tally,
     header: Header,
@@ -63,9 +63,9 @@ fn fit(
     names: &[u8],
     out: &mut [u8],
 ) -> Answer
-    requires { ⌜ Counted header (now names) (now refs) (rows-of (now rows)) size tally ⌝ }
-    ensures is { λ r. ⌜ r ≡ texting header (now (names .entry)) (now (refs .entry)) (now (rows .entry)) (length (now (out .entry))) .answer ⌝ }
-    ensures out { λ _. ⌜ now (out .exit) ≡ stored (now (out .entry)) (texting header (now (names .entry)) (now (refs .entry)) (now (rows .entry)) (length (now (out .entry))) .bytes) ⌝ }
+    requires { ⌜ CheckedText header (now names) (now refs) (rows-of (now rows)) size tally ⌝ }
+    ensures is { λ r. ⌜ r ≡ text-result header (now (names .entry)) (now (refs .entry)) (now (rows .entry)) (length (now (out .entry))) .answer ⌝ }
+    ensures out { λ _. ⌜ now (out .exit) ≡ overwrite (now (out .entry)) (text-result header (now (names .entry)) (now (refs .entry)) (now (rows .entry)) (length (now (out .entry))) .bytes) ⌝ }
 {
     if out.len() < size {
         return Answer {
@@ -73,9 +73,9 @@ fn fit(
             place: 0,
         };
     }
-    let at = version::put(out, names, header.vm);
-    let end = rows::put(out, at, header.word, names, refs, rows);
-    trailers::put(out, end, tally);
+    let at = version::write_version(out, names, header.vm);
+    let end = rows::write_rows_text(out, at, header.bits, names, refs, rows);
+    trailers::write_trailers(out, end, tally);
     Answer {
         reply: 0,
         place: size,
@@ -85,11 +85,11 @@ fn fit(
 // Writes the whole rows of a table and their references as classic text, to the start of the output. What the output holds
 // behind it stays as it was, and all of it where the text is refused.
 pub fn text(header: Header, rows: &[u64], refs: &[u64], names: &[u8], out: &mut [u8]) -> Answer
-    ensures is { λ r. ⌜ r ≡ texting header (now (names .entry)) (now (refs .entry)) (now (rows .entry)) (length (now (out .entry))) .answer ⌝ }
-    ensures out { λ _. ⌜ now (out .exit) ≡ stored (now (out .entry)) (texting header (now (names .entry)) (now (refs .entry)) (now (rows .entry)) (length (now (out .entry))) .bytes) ⌝ }
+    ensures is { λ r. ⌜ r ≡ text-result header (now (names .entry)) (now (refs .entry)) (now (rows .entry)) (length (now (out .entry))) .answer ⌝ }
+    ensures out { λ _. ⌜ now (out .exit) ≡ overwrite (now (out .entry)) (text-result header (now (names .entry)) (now (refs .entry)) (now (rows .entry)) (length (now (out .entry))) .bytes) ⌝ }
 {
-    match measure(header, rows, refs, names) {
-        Measured::Refused(refusal) => refusal,
-        Measured::Sized(size, tally) => fit(size, tally, header, rows, refs, names, out),
+    match check_and_size(header, rows, refs, names) {
+        SizedText::Refused(refusal) => refusal,
+        SizedText::Sized(size, tally) => write_if_fits(size, tally, header, rows, refs, names, out),
     }
 }

@@ -2,32 +2,32 @@
 ghost use mathlib.Core.Path.{_≡_};
 ghost use Prim.Native.Nat.{_+_};
 ghost use lib.ListN.{length};
-ghost use Rattle.encode.specs.Writes.{Puts, Room};
-ghost use Rattle.phd_check.specs.WellFormed.{Vm};
+ghost use Rattle.encode.specs.Writes.{Writes, HasCapacity};
+ghost use Rattle.phd_check.specs.WellFormed.{VmInBounds};
 ghost use Rattle.classic_write.specs.TextParts.{version-text};
-use decode::Text;
+use decode::StringSpan;
 
 // How many bytes it has.
-pub fn size(names: &[u8], vm: Text) -> usize
-    requires { ⌜ Vm (now names) vm ⌝ }
+pub fn version_size(names: &[u8], vm: StringSpan) -> usize
+    requires { ⌜ VmInBounds (now names) vm ⌝ }
     ensures { λ r. ⌜ r ≡ length (version-text (now (names .entry)) vm) ⌝ }
 {
-    if vm.there {
+    if vm.present {
         return 13 + vm.len;
     }
     13
 }
 
 // Puts it at the start of the output, and gives the place after it.
-pub fn put(out: &mut [u8], names: &[u8], vm: Text) -> usize
-    requires { ⌜ Vm (now names) vm ⌝ }
-    requires { ⌜ Room (now out) 0 (version-text (now names) vm) ⌝ }
-    ensures { λ r. ⌜ Puts (now (out .entry)) 0 (version-text (now (names .entry)) vm) (now (out .exit)) r ⌝ }
+pub fn write_version(out: &mut [u8], names: &[u8], vm: StringSpan) -> usize
+    requires { ⌜ VmInBounds (now names) vm ⌝ }
+    requires { ⌜ HasCapacity (now out) 0 (version-text (now names) vm) ⌝ }
+    ensures { λ r. ⌜ Writes (now (out .entry)) 0 (version-text (now (names .entry)) vm) (now (out .exit)) r ⌝ }
 {
-    let at = encode::put_all(out, 0, b"// Version: ");
-    if vm.there {
-        let end = encode::put_bytes(out, at, names, vm.place, vm.len);
-        return encode::put_byte(out, end, 0x0A);
+    let at = encode::encode_bytes(out, 0, b"// Version: ");
+    if vm.present {
+        let end = encode::encode_slice(out, at, names, vm.place, vm.len);
+        return encode::encode_byte(out, end, 0x0A);
     }
-    encode::put_byte(out, at, 0x0A)
+    encode::encode_byte(out, at, 0x0A)
 }

@@ -1,6 +1,6 @@
--- What holds of every layout when the dump is cut or goes on: what was settled stays (`keeps`); a cut says how many bytes
--- one field lacks (`lacks`, `waits`, `needs`); a value whose end lies within a cut is read from the cut (`fits`); and one whose
--- end lies beyond it is a cut there (`stops-short`). Each is proved once, by the four clauses of the language.
+-- What holds of every layout when the dump is cut or goes on: what was settled stays (`run-append`); a cut says how many bytes
+-- one field lacks (`cut-deficit`, `cut-append`, `end-after-deficit`); a value whose end lies within a cut is read from the cut (`run-prefix`); and one whose
+-- end lies beyond it is a cut there (`prefix-cut`). Each is proved once, by the four clauses of the language.
 -- Assumes nothing.
 use mathlib.Core.Path.{_≡_, refl, sym}
 use Prim.Native.Nat.{ℕ, _+_, _-_, _≤_, _<_}
@@ -9,58 +9,58 @@ use lib.ListN.{length, take, drop, length-append, length-drop, length-take, take
 use lib.Seq.{take-append-le, drop-append-le}
 use native.Mathlib.Omega.{arith}
 use native.Mathlib.Decide.{decLe}
-use Rattle.decode.specs.Layout.{Layout, yield, refuse, here, bytes, Outcome, whole, stops, run, run-enough, run-short, had, forth}
+use Rattle.decode.specs.Layout.{Layout, yield, refuse, here, bytes, Outcome, whole, stops, run, run-enough, run-short, whole-has-bytes, start-le-end}
 use Rattle.decode.specs.declared.Stop.the-variants.{Cut, Refused}
 
 -- ---- more bytes
 
 -- a value or a refusal: more bytes will not change it
-abbrev pub Settled : {A : Type 0} → Outcome A → Type 0
-Settled (whole a n) = Unit {0}
-Settled (stops (Refused r)) = Unit {0}
-Settled (stops (Cut n)) = ⊥
+abbrev pub NotCut : {A : Type 0} → Outcome A → Type 0
+NotCut (whole a n) = Unit {0}
+NotCut (stops (Refused r)) = Unit {0}
+NotCut (stops (Cut n)) = ⊥
 
 -- a part of what is at hand is the same part of what goes on
-pub part-append : (n at : ℕ) (s t : List ℕ) → at + n ≤ length s → take n (drop at (s ++ t)) ≡ take n (drop at s)
-part-append n at s t h =
+pub slice-append : (n at : ℕ) (s t : List ℕ) → at + n ≤ length s → take n (drop at (s ++ t)) ≡ take n (drop at s)
+slice-append n at s t h =
     let a : at ≤ length s = omega arith in
     let b : n ≤ length (drop at s) = simp length-drop (omega arith) in
     rw (drop-append-le at s t a, take-append-le n (drop at s) t b)
 
 -- a field that is there is read the same from what goes on
-enough-append : {A : Type 0} (n : ℕ) (k : List ℕ → Layout A) (s t : List ℕ) (at : ℕ) → at + n ≤ length s
+run-bytes-append : {A : Type 0} (n : ℕ) (k : List ℕ → Layout A) (s t : List ℕ) (at : ℕ) → at + n ≤ length s
     → run (bytes n k) (s ++ t) at ≡ run (k (take n (drop at s))) (s ++ t) (at + n)
-enough-append n k s t at e =
+run-bytes-append n k s t at e =
     let l : at + n ≤ length (s ++ t) = simp length-append (omega arith) in
-    rw (run-enough n k (s ++ t) at l, part-append n at s t e)
+    rw (run-enough n k (s ++ t) at l, slice-append n at s t e)
 
-keeps-bytes : {A : Type 0} (n : ℕ) (k : List ℕ → Layout A) (s t : List ℕ) (at : ℕ)
-    → ((b : List ℕ) → Settled (run (k b) s (at + n)) → run (k b) (s ++ t) (at + n) ≡ run (k b) s (at + n))
-    → Settled (run (bytes n k) s at) → run (bytes n k) (s ++ t) at ≡ run (bytes n k) s at
-keeps-bytes {A} n k s t at ih w = elim (decLe (at + n) (length s)) [ yes e ↦ enough e | no e ↦ absurd (short (omega arith)) ]
+run-append-bytes : {A : Type 0} (n : ℕ) (k : List ℕ → Layout A) (s t : List ℕ) (at : ℕ)
+    → ((b : List ℕ) → NotCut (run (k b) s (at + n)) → run (k b) (s ++ t) (at + n) ≡ run (k b) s (at + n))
+    → NotCut (run (bytes n k) s at) → run (bytes n k) (s ++ t) at ≡ run (bytes n k) s at
+run-append-bytes {A} n k s t at ih w = elim (decLe (at + n) (length s)) [ yes e ↦ enough e | no e ↦ absurd (short (omega arith)) ]
   where
     short : length s < at + n → ⊥
     short e = rw (run-short n k s at e) at w
 
     enough : at + n ≤ length s → run (bytes n k) (s ++ t) at ≡ run (bytes n k) s at
-    enough e = rw (enough-append n k s t at e, run-enough n k s at e) (ih (take n (drop at s)) (rw (run-enough n k s at e) at w))
+    enough e = rw (run-bytes-append n k s t at e, run-enough n k s at e) (ih (take n (drop at s)) (rw (run-enough n k s at e) at w))
 
 -- More bytes after those at hand change nothing that was settled without them.
-pub keeps : {A : Type 0} (l : Layout A) (s t : List ℕ) (at : ℕ) → Settled (run l s at) → run l (s ++ t) at ≡ run l s at
+pub run-append : {A : Type 0} (l : Layout A) (s t : List ℕ) (at : ℕ) → NotCut (run l s at) → run l (s ++ t) at ≡ run l s at
 unfolding run
-keeps (yield a) s t at w = refl
-keeps (refuse r) s t at w = refl
-keeps (here k) s t at w = keeps (k at) s t at w
-keeps (bytes n k) s t at w = keeps-bytes n k s t at (λ b w′. keeps (k b) s t (at + n) w′) w
+run-append (yield a) s t at w = refl
+run-append (refuse r) s t at w = refl
+run-append (here k) s t at w = run-append (k at) s t at w
+run-append (bytes n k) s t at w = run-append-bytes n k s t at (λ b w′. run-append (k b) s t (at + n) w′) w
 
 -- So a value is read the same from any longer run of bytes.
-pub keeps-whole : {A : Type 0} (l : Layout A) (s t : List ℕ) (at : ℕ) (a : A) (e : ℕ) → run l s at ≡ whole a e → run l (s ++ t) at ≡ whole a e
-keeps-whole l s t at a e h = rw (keeps l s t at (rw h tt)) h
+pub run-append-whole : {A : Type 0} (l : Layout A) (s t : List ℕ) (at : ℕ) (a : A) (e : ℕ) → run l s at ≡ whole a e → run l (s ++ t) at ≡ whole a e
+run-append-whole l s t at a e h = rw (run-append l s t at (rw h tt)) h
 
 -- ---- what a cut says
 
 -- A field stands at a place within the dump, and k of its bytes, one at least and not more than it has, are beyond the end.
-pub record Lacking (s : List ℕ) (at k : ℕ) : Type 0 where
+pub record FieldDeficit (s : List ℕ) (at k : ℕ) : Type 0 where
   pub place : ℕ
   pub width : ℕ
   pub after : at ≤ place
@@ -69,36 +69,36 @@ pub record Lacking (s : List ℕ) (at k : ℕ) : Type 0 where
   pub most : k ≤ width
   pub end : place + width ≡ length s + k
 
-abbrev Lacks : {A : Type 0} → Layout A → List ℕ → ℕ → Type 0
-Lacks l s at = (k : ℕ) → at ≤ length s → run l s at ≡ stops (Cut k) → Lacking s at k
+abbrev CutDeficit : {A : Type 0} → Layout A → List ℕ → ℕ → Type 0
+CutDeficit l s at = (k : ℕ) → at ≤ length s → run l s at ≡ stops (Cut k) → FieldDeficit s at k
 
-lacks-bytes : {A : Type 0} (n : ℕ) (k : List ℕ → Layout A) (s : List ℕ) (at : ℕ) → ((b : List ℕ) → Lacks (k b) s (at + n)) → Lacks (bytes n k) s at
-lacks-bytes n k s at ih j p h = elim (decLe (at + n) (length s)) [ yes e ↦ later e | no e ↦ now (omega arith) ]
+cut-deficit-bytes : {A : Type 0} (n : ℕ) (k : List ℕ → Layout A) (s : List ℕ) (at : ℕ) → ((b : List ℕ) → CutDeficit (k b) s (at + n)) → CutDeficit (bytes n k) s at
+cut-deficit-bytes n k s at ih j p h = elim (decLe (at + n) (length s)) [ yes e ↦ later e | no e ↦ now (omega arith) ]
   where
-    now : length s < at + n → Lacking s at j
+    now : length s < at + n → FieldDeficit s at j
     now e =
         let z : stops (Cut (at + n - length s)) ≡ stops (Cut j) = rw (run-short n k s at e) at h in
         let y : at + n - length s ≡ j = cc in
         record { place = at; width = n; after = omega arith; within = p; some = omega arith; most = omega arith; end = omega arith }
 
-    later : at + n ≤ length s → Lacking s at j
+    later : at + n ≤ length s → FieldDeficit s at j
     later e =
         let w = ih (take n (drop at s)) j e (rw (run-enough n k s at e) at h) in
         record { place = w .place; width = w .width; after = omega arith; within = w .within; some = w .some; most = w .most; end = w .end }
 
 -- What a cut says is lacking is what one field lacks, which begins within the dump.
-pub lacks : {A : Type 0} (l : Layout A) (s : List ℕ) (at : ℕ) → Lacks l s at
+pub cut-deficit : {A : Type 0} (l : Layout A) (s : List ℕ) (at : ℕ) → CutDeficit l s at
 unfolding run
-lacks (yield a) s at k p h = let z : _≡_ {A = ℕ} 0 1 = cc in absurd (omega arith)
-lacks (refuse r) s at k p h = let z : _≡_ {A = ℕ} 0 1 = cc in absurd (omega arith)
-lacks (here f) s at k p h = lacks (f at) s at k p h
-lacks (bytes n f) s at k p h = lacks-bytes n f s at (λ b. lacks (f b) s (at + n)) k p h
+cut-deficit (yield a) s at k p h = let z : _≡_ {A = ℕ} 0 1 = cc in absurd (omega arith)
+cut-deficit (refuse r) s at k p h = let z : _≡_ {A = ℕ} 0 1 = cc in absurd (omega arith)
+cut-deficit (here f) s at k p h = cut-deficit (f at) s at k p h
+cut-deficit (bytes n f) s at k p h = cut-deficit-bytes n f s at (λ b. cut-deficit (f b) s (at + n)) k p h
 
-abbrev Waits : {A : Type 0} → Layout A → (s t : List ℕ) → ℕ → Type 0
-Waits l s t at = (k : ℕ) → run l s at ≡ stops (Cut k) → length t < k → run l (s ++ t) at ≡ stops (Cut (k - length t))
+abbrev CutAppend : {A : Type 0} → Layout A → (s t : List ℕ) → ℕ → Type 0
+CutAppend l s t at = (k : ℕ) → run l s at ≡ stops (Cut k) → length t < k → run l (s ++ t) at ≡ stops (Cut (k - length t))
 
-waits-bytes : {A : Type 0} (n : ℕ) (k : List ℕ → Layout A) (s t : List ℕ) (at : ℕ) → ((b : List ℕ) → Waits (k b) s t (at + n)) → Waits (bytes n k) s t at
-waits-bytes n k s t at ih j h g = elim (decLe (at + n) (length s)) [ yes e ↦ later e | no e ↦ now (omega arith) ]
+cut-append-bytes : {A : Type 0} (n : ℕ) (k : List ℕ → Layout A) (s t : List ℕ) (at : ℕ) → ((b : List ℕ) → CutAppend (k b) s t (at + n)) → CutAppend (bytes n k) s t at
+cut-append-bytes n k s t at ih j h g = elim (decLe (at + n) (length s)) [ yes e ↦ later e | no e ↦ now (omega arith) ]
   where
     now : length s < at + n → run (bytes n k) (s ++ t) at ≡ stops (Cut (j - length t))
     now e =
@@ -109,107 +109,107 @@ waits-bytes n k s t at ih j h g = elim (decLe (at + n) (length s)) [ yes e ↦ l
         rw (run-short n k (s ++ t) at q, x)
 
     later : at + n ≤ length s → run (bytes n k) (s ++ t) at ≡ stops (Cut (j - length t))
-    later e = rw (enough-append n k s t at e) (ih (take n (drop at s)) j (rw (run-enough n k s at e) at h) g)
+    later e = rw (run-bytes-append n k s t at e) (ih (take n (drop at s)) j (rw (run-enough n k s at e) at h) g)
 
 -- With fewer bytes more than it lacks, the field is still cut, and lacks as many less.
-pub waits : {A : Type 0} (l : Layout A) (s t : List ℕ) (at : ℕ) → Waits l s t at
+pub cut-append : {A : Type 0} (l : Layout A) (s t : List ℕ) (at : ℕ) → CutAppend l s t at
 unfolding run
-waits (yield a) s t at k h g = let z : _≡_ {A = ℕ} 0 1 = cc in absurd (omega arith)
-waits (refuse r) s t at k h g = let z : _≡_ {A = ℕ} 0 1 = cc in absurd (omega arith)
-waits (here f) s t at k h g = waits (f at) s t at k h g
-waits (bytes n f) s t at k h g = waits-bytes n f s t at (λ b. waits (f b) s t (at + n)) k h g
+cut-append (yield a) s t at k h g = let z : _≡_ {A = ℕ} 0 1 = cc in absurd (omega arith)
+cut-append (refuse r) s t at k h g = let z : _≡_ {A = ℕ} 0 1 = cc in absurd (omega arith)
+cut-append (here f) s t at k h g = cut-append (f at) s t at k h g
+cut-append (bytes n f) s t at k h g = cut-append-bytes n f s t at (λ b. cut-append (f b) s t (at + n)) k h g
 
-abbrev Needs : {A : Type 0} → Layout A → (s t : List ℕ) → ℕ → Type 0
-Needs {A} l s t at = (k : ℕ) (a : A) (e : ℕ) → run l s at ≡ stops (Cut k) → run l (s ++ t) at ≡ whole a e → length s + k ≤ e
+abbrev EndAfterDeficit : {A : Type 0} → Layout A → (s t : List ℕ) → ℕ → Type 0
+EndAfterDeficit {A} l s t at = (k : ℕ) (a : A) (e : ℕ) → run l s at ≡ stops (Cut k) → run l (s ++ t) at ≡ whole a e → length s + k ≤ e
 
-needs-bytes : {A : Type 0} (n : ℕ) (k : List ℕ → Layout A) (s t : List ℕ) (at : ℕ) → ((b : List ℕ) → Needs (k b) s t (at + n)) → Needs (bytes n k) s t at
-needs-bytes n k s t at ih j a e h g = elim (decLe (at + n) (length s)) [ yes l ↦ later l | no l ↦ now (omega arith) ]
+end-after-deficit-bytes : {A : Type 0} (n : ℕ) (k : List ℕ → Layout A) (s t : List ℕ) (at : ℕ) → ((b : List ℕ) → EndAfterDeficit (k b) s t (at + n)) → EndAfterDeficit (bytes n k) s t at
+end-after-deficit-bytes n k s t at ih j a e h g = elim (decLe (at + n) (length s)) [ yes l ↦ later l | no l ↦ now (omega arith) ]
   where
     now : length s < at + n → length s + j ≤ e
     now l =
         let z : stops (Cut (at + n - length s)) ≡ stops (Cut j) = rw (run-short n k s at l) at h in
         let y : at + n - length s ≡ j = cc in
-        let m : at + n ≤ length (s ++ t) = had n k (s ++ t) at a e g in
-        let f : at + n ≤ e = forth (k (take n (drop at (s ++ t)))) (s ++ t) (at + n) a e (rw (run-enough n k (s ++ t) at m) at g) in
+        let m : at + n ≤ length (s ++ t) = whole-has-bytes n k (s ++ t) at a e g in
+        let f : at + n ≤ e = start-le-end (k (take n (drop at (s ++ t)))) (s ++ t) (at + n) a e (rw (run-enough n k (s ++ t) at m) at g) in
         omega arith
 
     later : at + n ≤ length s → length s + j ≤ e
-    later l = ih (take n (drop at s)) j a e (rw (run-enough n k s at l) at h) (rw (enough-append n k s t at l) at g)
+    later l = ih (take n (drop at s)) j a e (rw (run-enough n k s at l) at h) (rw (run-bytes-append n k s t at l) at g)
 
 -- Whatever more bytes make a value of what was cut, it ends no sooner than the field that lacked some.
-pub needs : {A : Type 0} (l : Layout A) (s t : List ℕ) (at : ℕ) → Needs l s t at
+pub end-after-deficit : {A : Type 0} (l : Layout A) (s t : List ℕ) (at : ℕ) → EndAfterDeficit l s t at
 unfolding run
-needs (yield b) s t at k a e h g = let z : _≡_ {A = ℕ} 0 1 = cc in absurd (omega arith)
-needs (refuse r) s t at k a e h g = let z : _≡_ {A = ℕ} 0 1 = cc in absurd (omega arith)
-needs (here f) s t at k a e h g = needs (f at) s t at k a e h g
-needs (bytes n f) s t at k a e h g = needs-bytes n f s t at (λ b. needs (f b) s t (at + n)) k a e h g
+end-after-deficit (yield b) s t at k a e h g = let z : _≡_ {A = ℕ} 0 1 = cc in absurd (omega arith)
+end-after-deficit (refuse r) s t at k a e h g = let z : _≡_ {A = ℕ} 0 1 = cc in absurd (omega arith)
+end-after-deficit (here f) s t at k a e h g = end-after-deficit (f at) s t at k a e h g
+end-after-deficit (bytes n f) s t at k a e h g = end-after-deficit-bytes n f s t at (λ b. end-after-deficit (f b) s t (at + n)) k a e h g
 
 -- ---- a cut behind the end of a value, and one before it
 
 -- what a cut leaves is the same part
-part-take : (n at m : ℕ) (s : List ℕ) → at + n ≤ m → at + n ≤ length s → take n (drop at (take m s)) ≡ take n (drop at s)
-part-take n at m s h l =
+slice-take : (n at m : ℕ) (s : List ℕ) → at + n ≤ m → at + n ≤ length s → take n (drop at (take m s)) ≡ take n (drop at s)
+slice-take n at m s h l =
     let q : at + n ≤ length (take m s) = simp length-take (omega arith) in
-    sym (rw take-append-drop at (part-append n at (take m s) (drop m s) q))
+    sym (rw take-append-drop at (slice-append n at (take m s) (drop m s) q))
 
 -- a field within the cut is read from the cut
-enough-take : {A : Type 0} (n : ℕ) (k : List ℕ → Layout A) (s : List ℕ) (at m : ℕ) → at + n ≤ m → at + n ≤ length s
+run-bytes-take : {A : Type 0} (n : ℕ) (k : List ℕ → Layout A) (s : List ℕ) (at m : ℕ) → at + n ≤ m → at + n ≤ length s
     → run (bytes n k) (take m s) at ≡ run (k (take n (drop at s))) (take m s) (at + n)
-enough-take n k s at m h l =
+run-bytes-take n k s at m h l =
     let q : at + n ≤ length (take m s) = simp length-take (omega arith) in
-    rw (run-enough n k (take m s) at q, part-take n at m s h l)
+    rw (run-enough n k (take m s) at q, slice-take n at m s h l)
 
-abbrev Fits : {A : Type 0} → Layout A → List ℕ → ℕ → Type 0
-Fits {A} l s at = (m : ℕ) (a : A) (e : ℕ) → run l s at ≡ whole a e → e ≤ m → run l (take m s) at ≡ whole a e
+abbrev RunPrefix : {A : Type 0} → Layout A → List ℕ → ℕ → Type 0
+RunPrefix {A} l s at = (m : ℕ) (a : A) (e : ℕ) → run l s at ≡ whole a e → e ≤ m → run l (take m s) at ≡ whole a e
 
-fits-bytes : {A : Type 0} (n : ℕ) (k : List ℕ → Layout A) (s : List ℕ) (at : ℕ) → ((b : List ℕ) → Fits (k b) s (at + n)) → Fits (bytes n k) s at
-fits-bytes n k s at ih m a e h g =
-    let l : at + n ≤ length s = had n k s at a e h in
+run-prefix-bytes : {A : Type 0} (n : ℕ) (k : List ℕ → Layout A) (s : List ℕ) (at : ℕ) → ((b : List ℕ) → RunPrefix (k b) s (at + n)) → RunPrefix (bytes n k) s at
+run-prefix-bytes n k s at ih m a e h g =
+    let l : at + n ≤ length s = whole-has-bytes n k s at a e h in
     let b : List ℕ = take n (drop at s) in
     let r : run (k b) s (at + n) ≡ whole a e = rw (run-enough n k s at l) at h in
-    let z : at + n ≤ e = forth (k b) s (at + n) a e r in
+    let z : at + n ≤ e = start-le-end (k b) s (at + n) a e r in
     let y : at + n ≤ m = omega arith in
-    rw (enough-take n k s at m y l) (ih b m a e r g)
+    rw (run-bytes-take n k s at m y l) (ih b m a e r g)
 
 -- What was read whole, and ends within the cut, is read from the cut.
-pub fits : {A : Type 0} (l : Layout A) (s : List ℕ) (at : ℕ) → Fits l s at
+pub run-prefix : {A : Type 0} (l : Layout A) (s : List ℕ) (at : ℕ) → RunPrefix l s at
 unfolding run
-fits (yield b) s at m a e h g = h
-fits (refuse r) s at m a e h g = h
-fits (here k) s at m a e h g = fits (k at) s at m a e h g
-fits (bytes n k) s at m a e h g = fits-bytes n k s at (λ b. fits (k b) s (at + n)) m a e h g
+run-prefix (yield b) s at m a e h g = h
+run-prefix (refuse r) s at m a e h g = h
+run-prefix (here k) s at m a e h g = run-prefix (k at) s at m a e h g
+run-prefix (bytes n k) s at m a e h g = run-prefix-bytes n k s at (λ b. run-prefix (k b) s (at + n)) m a e h g
 
 -- a cut, whatever it lacks
-pub record Cut-short {A : Type 0} (o : Outcome A) : Type 0 where
-  pub lack : ℕ
-  pub is : o ≡ stops (Cut lack)
+pub record IsCut {A : Type 0} (o : Outcome A) : Type 0 where
+  pub deficit : ℕ
+  pub is : o ≡ stops (Cut deficit)
 
-abbrev Shortens : {A : Type 0} → Layout A → List ℕ → ℕ → Type 0
-Shortens {A} l s at = (m : ℕ) (a : A) (e : ℕ) → run l s at ≡ whole a e → at ≤ m → m < e → Cut-short (run l (take m s) at)
+abbrev PrefixCut : {A : Type 0} → Layout A → List ℕ → ℕ → Type 0
+PrefixCut {A} l s at = (m : ℕ) (a : A) (e : ℕ) → run l s at ≡ whole a e → at ≤ m → m < e → IsCut (run l (take m s) at)
 
-short-bytes : {A : Type 0} (n : ℕ) (k : List ℕ → Layout A) (s : List ℕ) (at : ℕ) → ((b : List ℕ) → Shortens (k b) s (at + n))
-    → Shortens (bytes n k) s at
-short-bytes {A} n k s at ih m a e h p g = elim (decLe (at + n) m) [ yes y ↦ later y | no y ↦ now (omega arith) ]
+prefix-cut-bytes : {A : Type 0} (n : ℕ) (k : List ℕ → Layout A) (s : List ℕ) (at : ℕ) → ((b : List ℕ) → PrefixCut (k b) s (at + n))
+    → PrefixCut (bytes n k) s at
+prefix-cut-bytes {A} n k s at ih m a e h p g = elim (decLe (at + n) m) [ yes y ↦ later y | no y ↦ now (omega arith) ]
   where
     l : at + n ≤ length s
-    l = had n k s at a e h
+    l = whole-has-bytes n k s at a e h
 
     rest : run (k (take n (drop at s))) s (at + n) ≡ whole a e
     rest = rw (run-enough n k s at l) at h
 
-    now : m < at + n → Cut-short (run (bytes n k) (take m s) at)
+    now : m < at + n → IsCut (run (bytes n k) (take m s) at)
     now y =
         let u = l in
         let q : length (take m s) < at + n = simp length-take (omega arith) in
-        record { lack = at + n - length (take m s); is = run-short n k (take m s) at q }
+        record { deficit = at + n - length (take m s); is = run-short n k (take m s) at q }
 
-    later : at + n ≤ m → Cut-short (run (bytes n k) (take m s) at)
-    later y = rw (enough-take n k s at m y l) (ih (take n (drop at s)) m a e rest y g)
+    later : at + n ≤ m → IsCut (run (bytes n k) (take m s) at)
+    later y = rw (run-bytes-take n k s at m y l) (ih (take n (drop at s)) m a e rest y g)
 
 -- What was read whole, and ends beyond the cut, is a cut there.
-pub stops-short : {A : Type 0} (l : Layout A) (s : List ℕ) (at : ℕ) → Shortens l s at
+pub prefix-cut : {A : Type 0} (l : Layout A) (s : List ℕ) (at : ℕ) → PrefixCut l s at
 unfolding run
-stops-short (yield b) s at m a e h p g = let z : at ≡ e = cc in absurd (omega arith)
-stops-short (refuse r) s at m a e h p g = let z : _≡_ {A = ℕ} 0 1 = cc in absurd (omega arith)
-stops-short (here k) s at m a e h p g = stops-short (k at) s at m a e h p g
-stops-short (bytes n k) s at m a e h p g = short-bytes n k s at (λ b. stops-short (k b) s (at + n)) m a e h p g
+prefix-cut (yield b) s at m a e h p g = let z : at ≡ e = cc in absurd (omega arith)
+prefix-cut (refuse r) s at m a e h p g = let z : _≡_ {A = ℕ} 0 1 = cc in absurd (omega arith)
+prefix-cut (here k) s at m a e h p g = prefix-cut (k at) s at m a e h p g
+prefix-cut (bytes n k) s at m a e h p g = prefix-cut-bytes n k s at (λ b. prefix-cut (k b) s (at + n)) m a e h p g

@@ -3,13 +3,13 @@
 use Prim.Native.Nat.{ℕ, _^_, _<_}
 use mathlib.Core.Bool.{true, false, not}
 use lib.Dec.{leb, ltb, eqb}
-use Rattle.decode.specs.Numbers.{signed, moved, counted, within}
+use Rattle.decode.specs.Numbers.{signed, add-gap, to-count, all-within}
 use Rattle.decode.specs.Layout.{Layout, yield, Outcome, whole, stops, _>>=_, _>>_, position, raw, field, check, need}
-use Rattle.decode.specs.declared.Piece.{Piece}
-use Rattle.decode.specs.declared.Piece.the-variants.{Is, Stops}
-use Rattle.decode.specs.declared.Text.{Text}
-use Rattle.decode.specs.declared.TextRead.{TextRead}
-use Rattle.decode.specs.declared.TextRead.the-variants.{Is as IsText, Stops as StopsText}
+use Rattle.decode.specs.declared.NumberRead.{NumberRead}
+use Rattle.decode.specs.declared.NumberRead.the-variants.{Is, Stops}
+use Rattle.decode.specs.declared.StringSpan.{StringSpan}
+use Rattle.decode.specs.declared.StringRead.{StringRead}
+use Rattle.decode.specs.declared.StringRead.the-variants.{Is as IsText, Stops as StopsText}
 
 -- a field of n bytes that must be v, else the reply
 unfoldable pub exactly : ℕ → ℕ → ℕ → Layout ℕ
@@ -29,11 +29,11 @@ below n top reply = do
 unfoldable pub address : ℕ → ℕ → ℕ → Layout ℕ
 address n base highest = do
   gap ← field n
-  need 8 (moved highest base (signed n gap))
+  need 8 (add-gap highest base (signed n gap))
 
 -- A reference is such an address, from that of its own record, and not 0, else 9.
-unfoldable pub reference : ℕ → ℕ → ℕ → Layout ℕ
-reference n base highest = do
+unfoldable pub ref-field : ℕ → ℕ → ℕ → Layout ℕ
+ref-field n base highest = do
   r ← address n base highest
   check 9 (not (eqb r 0))
   yield r
@@ -42,33 +42,33 @@ reference n base highest = do
 unfoldable pub count : ℕ → Layout ℕ
 count n = do
   c ← field n
-  need 12 (counted (signed n c))
+  need 12 (to-count (signed n c))
 
 -- A UTF string: a two-byte length, at least `least`, and as many bytes, each from low to 0x7E; else 7.
-unfoldable pub string : ℕ → ℕ → Layout Text
+unfoldable pub string : ℕ → ℕ → Layout StringSpan
 string low least = do
   n ← field 2
   check 7 (leb least n)
   p ← position
   text ← raw n
-  check 7 (within low 0x7E text)
-  yield (record { there = true; place = p; len = n })
+  check 7 (all-within low 0x7E text)
+  yield (record { present = true; place = p; len = n })
 
 -- no string
-abbrev pub no-text : Text
-no-text = record { there = false; place = 0; len = 0 }
+abbrev pub no-string : StringSpan
+no-string = record { present = false; place = 0; len = 0 }
 
 -- ---- what the functions' answers say
 
-abbrev pub outcome : Piece → Outcome ℕ
+abbrev pub outcome : NumberRead → Outcome ℕ
 outcome (Is a next) = whole a next
 outcome (Stops w) = stops w
 
-abbrev pub text-outcome : TextRead → Outcome Text
-text-outcome (IsText t next) = whole t next
-text-outcome (StopsText w) = stops w
+abbrev pub string-outcome : StringRead → Outcome StringSpan
+string-outcome (IsText t next) = whole t next
+string-outcome (StopsText w) = stops w
 
 -- a number of n bytes is below 256 ^ n
-abbrev pub Small : ℕ → Piece → Type 0
-Small n (Is a next) = a < 256 ^ n
-Small n (Stops w) = Unit {0}
+abbrev pub FitsWidth : ℕ → NumberRead → Type 0
+FitsWidth n (Is a next) = a < 256 ^ n
+FitsWidth n (Stops w) = Unit {0}

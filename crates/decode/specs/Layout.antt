@@ -95,9 +95,9 @@ unfolding run
 run-short n k s at h = rw (lt-leb (at + n) (length s) h, run)
 
 -- a field that was read whole had its bytes
-pub had : {A : Type 0} (n : ℕ) (k : List ℕ → Layout A) (s : List ℕ) (at : ℕ) (a : A) (e : ℕ) → run (bytes n k) s at ≡ whole a e
+pub whole-has-bytes : {A : Type 0} (n : ℕ) (k : List ℕ → Layout A) (s : List ℕ) (at : ℕ) (a : A) (e : ℕ) → run (bytes n k) s at ≡ whole a e
     → at + n ≤ length s
-had n k s at a e h = elim (decLe (at + n) (length s)) [ yes l ↦ l | no l ↦ absurd (short (omega arith)) ]
+whole-has-bytes n k s at a e h = elim (decLe (at + n) (length s)) [ yes l ↦ l | no l ↦ absurd (short (omega arith)) ]
   where
     short : length s < at + n → ⊥
     short l =
@@ -107,13 +107,13 @@ had n k s at a e h = elim (decLe (at + n) (length s)) [ yes l ↦ l | no l ↦ a
 
 -- ---- one layout after another
 
-abbrev pub onward : {A B : Type 0} → Outcome A → (A → ℕ → Outcome B) → Outcome B
-onward (whole a n) f = f a n
-onward (stops w) f = stops w
+abbrev pub and-then : {A B : Type 0} → Outcome A → (A → ℕ → Outcome B) → Outcome B
+and-then (whole a n) f = f a n
+and-then (stops w) f = stops w
 
 then-bytes : {A B : Type 0} (n : ℕ) (k : List ℕ → Layout A) (f : A → Layout B) (s : List ℕ) (at : ℕ)
-    → ((b : List ℕ) → run (k b >>= f) s (at + n) ≡ onward (run (k b) s (at + n)) (λ a p. run (f a) s p))
-    → run (bytes n k >>= f) s at ≡ onward (run (bytes n k) s at) (λ a p. run (f a) s p)
+    → ((b : List ℕ) → run (k b >>= f) s (at + n) ≡ and-then (run (k b) s (at + n)) (λ a p. run (f a) s p))
+    → run (bytes n k >>= f) s at ≡ and-then (run (bytes n k) s at) (λ a p. run (f a) s p)
 unfolding _>>=_
 then-bytes n k f s at ih = elim (decLe (at + n) (length s)) [
   | yes e ↦ rw (run-enough n k s at e, run-enough n (λ b. k b >>= f) s at e) (ih (take n (drop at s)))
@@ -123,7 +123,7 @@ then-bytes n k f s at ih = elim (decLe (at + n) (length s)) [
 ]
 
 pub run-then : {A B : Type 0} (l : Layout A) (f : A → Layout B) (s : List ℕ) (at : ℕ)
-    → run (l >>= f) s at ≡ onward (run l s at) (λ a p. run (f a) s p)
+    → run (l >>= f) s at ≡ and-then (run l s at) (λ a p. run (f a) s p)
 unfolding run _>>=_
 run-then (yield a) f s at = refl
 run-then (refuse r) f s at = refl
@@ -135,7 +135,7 @@ pub then-inv : {A B : Type 0} (l : Layout A) (f : A → Layout B) (s : List ℕ)
     → (a : A) × (n : ℕ) × (run l s at ≡ whole a n) × (run (f a) s n ≡ whole b e)
 then-inv {A} {B} l f s at b e r = by (run l s at) refl (sym (run-then l f s at) ∙ r)
   where
-    by : (o : Outcome A) → run l s at ≡ o → onward (run l s at) (λ a p. run (f a) s p) ≡ whole b e
+    by : (o : Outcome A) → run l s at ≡ o → and-then (run l s at) (λ a p. run (f a) s p) ≡ whole b e
         → (a : A) × (n : ℕ) × (run l s at ≡ whole a n) × (run (f a) s n ≡ whole b e)
     by (whole a n) k g = (a, n, k, rw k at g)
     by (stops x) k g = let h : stops x ≡ whole b e = rw k at g in let z : _≡_ {A = ℕ} 0 1 = cc in absurd (omega arith)
@@ -171,9 +171,9 @@ unfolding field
 run-field-short n s at h = run-short n (λ b. yield (value b)) s at h
 
 -- a field of no bytes is 0, wherever it stands
-pub run-none : (s : List ℕ) (at : ℕ) → at ≤ length s → run (field 0) s at ≡ whole 0 at
+pub run-field-empty : (s : List ℕ) (at : ℕ) → at ≤ length s → run (field 0) s at ≡ whole 0 at
 unfolding value-after
-run-none s at h = let e : at + 0 ≡ at = omega arith in let l : at + 0 ≤ length s = omega arith in rw (run-field 0 s at l, e)
+run-field-empty s at h = let e : at + 0 ≡ at = omega arith in let l : at + 0 ≤ length s = omega arith in rw (run-field 0 s at l, e)
 
 pub run-raw : (n : ℕ) (s : List ℕ) (at : ℕ) → at + n ≤ length s → run (raw n) s at ≡ whole (take n (drop at s)) (at + n)
 unfolding run raw
@@ -188,32 +188,32 @@ unfolding run check
 run-check r true s at = refl
 run-check r false s at = refl
 
-abbrev pub needed : ℕ → Maybe → ℕ → Outcome ℕ
-needed r (Just a) at = whole a at
-needed r Nothing at = stops (Refused r)
+abbrev pub need-outcome : ℕ → Maybe → ℕ → Outcome ℕ
+need-outcome r (Just a) at = whole a at
+need-outcome r Nothing at = stops (Refused r)
 
-pub run-need : (r : ℕ) (m : Maybe) (s : List ℕ) (at : ℕ) → run (need r m) s at ≡ needed r m at
+pub run-need : (r : ℕ) (m : Maybe) (s : List ℕ) (at : ℕ) → run (need r m) s at ≡ need-outcome r m at
 unfolding run need
 run-need r (Just a) s at = refl
 run-need r Nothing s at = refl
 
 -- ---- a reading goes forth, and stays within the dump
 
-pub forth : {A : Type 0} (l : Layout A) (s : List ℕ) (at : ℕ) (a : A) (e : ℕ) → run l s at ≡ whole a e → at ≤ e
+pub start-le-end : {A : Type 0} (l : Layout A) (s : List ℕ) (at : ℕ) (a : A) (e : ℕ) → run l s at ≡ whole a e → at ≤ e
 unfolding run
-forth (yield b) s at a e h = let z : at ≡ e = cc in omega arith
-forth (refuse r) s at a e h = let z : _≡_ {A = ℕ} 0 1 = cc in omega arith
-forth (here k) s at a e h = forth (k at) s at a e h
-forth (bytes n k) s at a e h =
-    let l : at + n ≤ length s = had n k s at a e h in
-    let z : at + n ≤ e = forth (k (take n (drop at s))) s (at + n) a e (rw (run-enough n k s at l) at h) in
+start-le-end (yield b) s at a e h = let z : at ≡ e = cc in omega arith
+start-le-end (refuse r) s at a e h = let z : _≡_ {A = ℕ} 0 1 = cc in omega arith
+start-le-end (here k) s at a e h = start-le-end (k at) s at a e h
+start-le-end (bytes n k) s at a e h =
+    let l : at + n ≤ length s = whole-has-bytes n k s at a e h in
+    let z : at + n ≤ e = start-le-end (k (take n (drop at s))) s (at + n) a e (rw (run-enough n k s at l) at h) in
     omega arith
 
-pub inside : {A : Type 0} (l : Layout A) (s : List ℕ) (at : ℕ) (a : A) (e : ℕ) → at ≤ length s → run l s at ≡ whole a e → e ≤ length s
+pub end-in-bounds : {A : Type 0} (l : Layout A) (s : List ℕ) (at : ℕ) (a : A) (e : ℕ) → at ≤ length s → run l s at ≡ whole a e → e ≤ length s
 unfolding run
-inside (yield b) s at a e p h = let z : at ≡ e = cc in omega arith
-inside (refuse r) s at a e p h = let z : _≡_ {A = ℕ} 0 1 = cc in omega arith
-inside (here k) s at a e p h = inside (k at) s at a e p h
-inside (bytes n k) s at a e p h =
-    let l : at + n ≤ length s = had n k s at a e h in
-    inside (k (take n (drop at s))) s (at + n) a e l (rw (run-enough n k s at l) at h)
+end-in-bounds (yield b) s at a e p h = let z : at ≡ e = cc in omega arith
+end-in-bounds (refuse r) s at a e p h = let z : _≡_ {A = ℕ} 0 1 = cc in omega arith
+end-in-bounds (here k) s at a e p h = end-in-bounds (k at) s at a e p h
+end-in-bounds (bytes n k) s at a e p h =
+    let l : at + n ≤ length s = whole-has-bytes n k s at a e h in
+    end-in-bounds (k (take n (drop at s))) s (at + n) a e l (rw (run-enough n k s at l) at h)

@@ -1,5 +1,5 @@
 -- Numbers as a dump holds them: big-endian bytes, two's complement, and the exact sums that give an address.
--- A reader must believe that `value`, `signed` and `moved` say what 01 says of numbers, gaps and references.
+-- A reader must believe that `value`, `signed` and `add-gap` say what 01 says of numbers, gaps and references.
 use Prim.Native.Nat.{ℕ, suc, _+_, _-_, _*_, _^_}
 use mathlib.Core.Bool.{Bool, true, false}
 use mathlib.Core.List.{List, [], _∷_}
@@ -7,8 +7,8 @@ use lib.Dec.{leb, ltb}
 use lib.IntN.{ℤ, pos, negsuc}
 use Rattle.decode.specs.declared.Maybe.{Maybe}
 use Rattle.decode.specs.declared.Maybe.the-variants.{Just, Nothing}
-use Rattle.decode.specs.declared.Step.{Step}
-use Rattle.decode.specs.declared.Step.the-variants.{Up, Down}
+use Rattle.decode.specs.declared.SignCase.{SignCase}
+use Rattle.decode.specs.declared.SignCase.the-variants.{NonNeg, NegSuc}
 
 -- the one or the other, by a test
 abbrev pub pick {ℓ} : {X : Type ℓ} → Bool → X → X → X
@@ -35,25 +35,25 @@ unfoldable pub signed : ℕ → ℕ → ℤ
 signed n v = pick (ltb (v + v) (256 ^ n)) (pos v) (negsuc (256 ^ n - suc v))
 
 -- a signed number by its sign
-unfoldable pub step : ℤ → Step
-step (pos n) = Up n
-step (negsuc n) = Down n
+unfoldable pub sign-case : ℤ → SignCase
+sign-case (pos n) = NonNeg n
+sign-case (negsuc n) = NegSuc n
 
 -- a sum, if it lies in 0 to highest
 abbrev pub in-range : ℕ → ℕ → Maybe
 in-range highest sum = pick (leb sum highest) (Just sum) Nothing
 
 -- base + 4 × gap, an exact sum, if it lies in 0 to highest. (`negsuc n` is -1 - n.)
-unfoldable pub moved : ℕ → ℕ → ℤ → Maybe
-moved highest base (pos n) = in-range highest (base + 4 * n)
-moved highest base (negsuc n) = pick (leb (4 * suc n) base) (in-range highest (base - 4 * suc n)) Nothing
+unfoldable pub add-gap : ℕ → ℕ → ℤ → Maybe
+add-gap highest base (pos n) = in-range highest (base + 4 * n)
+add-gap highest base (negsuc n) = pick (leb (4 * suc n) base) (in-range highest (base - 4 * suc n)) Nothing
 
 -- Counts, lengths and the instance sizes of classes lie in 0 to 2^31 - 1, whatever the field's width.
-unfoldable pub counted : ℤ → Maybe
-counted (pos n) = pick (ltb n (2 ^ 31)) (Just n) Nothing
-counted (negsuc n) = Nothing
+unfoldable pub to-count : ℤ → Maybe
+to-count (pos n) = pick (ltb n (2 ^ 31)) (Just n) Nothing
+to-count (negsuc n) = Nothing
 
 -- whether every byte lies from low to high
-unfoldable pub within : ℕ → ℕ → List ℕ → Bool
-within low high [] = true
-within low high (b ∷ bs) = both (both (leb low b) (leb b high)) (within low high bs)
+unfoldable pub all-within : ℕ → ℕ → List ℕ → Bool
+all-within low high [] = true
+all-within low high (b ∷ bs) = both (both (leb low b) (leb b high)) (all-within low high bs)

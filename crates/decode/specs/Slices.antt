@@ -8,22 +8,22 @@ use mathlib.Core.List.{List, _∷_}
 use lib.ListN.{length, getD, take, drop, length-take, length-drop}
 use lib.Seq.{drop-cons}
 
-pub length-part : (l : List ℕ) (at n : ℕ) → at + n ≤ length l → length (take n (drop at l)) ≡ n
-length-part l at n h = simp (length-take, length-drop) (omega arith)
+pub length-slice : (l : List ℕ) (at n : ℕ) → at + n ≤ length l → length (take n (drop at l)) ≡ n
+length-slice l at n h = simp (length-take, length-drop) (omega arith)
 
 -- the first of the elements at a place, and those after it
-pub part-cons : (l : List ℕ) (k m : ℕ) → k < length l → take (suc m) (drop k l) ≡ getD l k 0 ∷ take m (drop (suc k) l)
-part-cons l k m h = rw (drop-cons l k 0)
+pub slice-cons : (l : List ℕ) (k m : ℕ) → k < length l → take (suc m) (drop k l) ≡ getD l k 0 ∷ take m (drop (suc k) l)
+slice-cons l k m h = rw (drop-cons l k 0)
 
 -- of n elements at a place, the element number i, and those after it
-pub part-next : (l : List ℕ) (at n i : ℕ) → i < n → at + n ≤ length l
+pub slice-next : (l : List ℕ) (at n i : ℕ) → i < n → at + n ≤ length l
     → take (n - i) (drop (at + i) l) ≡ getD l (at + i) 0 ∷ take (n - (i + 1)) (drop (at + (i + 1)) l)
-part-next l at n i h room =
+slice-next l at n i h in-bounds =
     let e : n - i ≡ suc (n - (i + 1)) = omega arith in
     let f : suc (at + i) ≡ at + (i + 1) = omega arith in
     let g : at + i < length l = omega arith in
-    rw (e, part-cons l (at + i) (n - (i + 1)) g, f)
+    rw (e, slice-cons l (at + i) (n - (i + 1)) g, f)
 
 -- of the elements before the place `end`, the one at k, and those after it
-pub part-until : (l : List ℕ) (k end : ℕ) → k < end → end ≤ length l → take (end - k) (drop k l) ≡ getD l k 0 ∷ take (end - (k + 1)) (drop (k + 1) l)
-part-until l k end h room = simp zero-add at (part-next l 0 end k h (simp zero-add room))
+pub slice-until : (l : List ℕ) (k end : ℕ) → k < end → end ≤ length l → take (end - k) (drop k l) ≡ getD l k 0 ∷ take (end - (k + 1)) (drop (k + 1) l)
+slice-until l k end h in-bounds = simp zero-add at (slice-next l 0 end k h (simp zero-add in-bounds))

@@ -1,5 +1,5 @@
 -- How many bytes a layout takes for the value that it gives, found by its parts: a law for each way to build a layout, and one for each
--- kind of field. A reader must believe `Takes`, `Away` and `CountIn`.
+-- kind of field. A reader must believe `Takes`, `AddressIn` and `CountIn`.
 use mathlib.Core.Path.{_≡_, refl, subst, _∙_}
 use Prim.Native.Nat.{ℕ, _+_, _-_, _≤_}
 use native.Mathlib.Nat.{add-zero}
@@ -8,14 +8,14 @@ use mathlib.Core.Bool.{Bool, true, false}
 use mathlib.Core.List.{List, [], _∷_}
 use lib.ListN.{length, take, drop}
 use borrow.Author.Tests.{leb-true}
-use Rattle.decode.specs.Numbers.{pick, value, value-after, signed, moved, counted}
-use Rattle.decode.specs.Slices.{length-part}
-use Rattle.decode.specs.Layout.{Layout, yield, refuse, bytes, whole, stops, run, _>>=_, position, raw, field, check, need, run-yield, run-refuse, run-position, run-enough, had, then-inv, forth}
-use Rattle.decode.specs.Fields.{exactly, below, address, reference, count, string}
+use Rattle.decode.specs.Numbers.{pick, value, value-after, signed, add-gap, to-count}
+use Rattle.decode.specs.Slices.{length-slice}
+use Rattle.decode.specs.Layout.{Layout, yield, refuse, bytes, whole, stops, run, _>>=_, position, raw, field, check, need, run-yield, run-refuse, run-position, run-enough, whole-has-bytes, then-inv, start-le-end}
+use Rattle.decode.specs.Fields.{exactly, below, address, ref-field, count, string}
 use Rattle.decode.specs.declared.Stop.the-variants.{Refused}
 use Rattle.decode.specs.declared.Maybe.{Maybe}
 use Rattle.decode.specs.declared.Maybe.the-variants.{Just, Nothing}
-use Rattle.decode.specs.declared.Text.{Text}
+use Rattle.decode.specs.declared.StringSpan.{StringSpan}
 
 -- P holds of every value that the layout gives, wherever it is read, and of the number of bytes that it takes there.
 pub record Takes {A : Type 0} (P : A → ℕ → Type 0) (l : Layout A) : Type 0 where
@@ -50,24 +50,24 @@ takes-then Q {P} l f g k = record {
 }
 
 -- and need not
-pub takes-last : {A B : Type 0} {P : B → ℕ → Type 0} (l : Layout A) (f : A → Layout B) → ((a : A) (n : ℕ) → Takes (λ b m. P b (n + m)) (f a)) → Takes P (l >>= f)
-takes-last l f k =
-    takes-then (λ _ _. Unit {0}) l f (record { each = λ s at a e h. (e - at, omega (arith, forth l s at a e h), tt) }) (λ a n _. k a n)
+pub takes-then-any : {A B : Type 0} {P : B → ℕ → Type 0} (l : Layout A) (f : A → Layout B) → ((a : A) (n : ℕ) → Takes (λ b m. P b (n + m)) (f a)) → Takes P (l >>= f)
+takes-then-any l f k =
+    takes-then (λ _ _. Unit {0}) l f (record { each = λ s at a e h. (e - at, omega (arith, start-le-end l s at a e h), tt) }) (λ a n _. k a n)
 
 -- what holds may be weakened
-pub takes-when : {A : Type 0} {Q P : A → ℕ → Type 0} {l : Layout A} → Takes Q l → ((a : A) (n : ℕ) → Q a n → P a n) → Takes P l
-takes-when g w = record { each = λ s at a e h. let x = g .each s at a e h in (x .0, x .1, w a (x .0) (x .2)) }
+pub takes-weaken : {A : Type 0} {Q P : A → ℕ → Type 0} {l : Layout A} → Takes Q l → ((a : A) (n : ℕ) → Q a n → P a n) → Takes P l
+takes-weaken g w = record { each = λ s at a e h. let x = g .each s at a e h in (x .0, x .1, w a (x .0) (x .2)) }
 
 -- a layout that goes by a test
-pub takes-by : {A : Type 0} {P : A → ℕ → Type 0} (b : Bool) (l m : Layout A) → (b ≡ true → Takes P l) → (b ≡ false → Takes P m) → Takes P (pick b l m)
-takes-by true l m f g = f refl
-takes-by false l m f g = g refl
+pub takes-cases : {A : Type 0} {P : A → ℕ → Type 0} (b : Bool) (l m : Layout A) → (b ≡ true → Takes P l) → (b ≡ false → Takes P m) → Takes P (pick b l m)
+takes-cases true l m f g = f refl
+takes-cases false l m f g = g refl
 
 takes-bytes : {A : Type 0} {P : A → ℕ → Type 0} (n : ℕ) (k : List ℕ → A) → ((b : List ℕ) → length b ≡ n → P (k b) n) → Takes P (bytes n (λ b. yield (k b)))
 takes-bytes {A} {P} n k g = record {
   each = λ s at a e h.
-      let l : at + n ≤ length s = had n (λ b. yield (k b)) s at a e h in
-      let x = takes-yield {P = λ b m. P b (n + m)} (k (take n (drop at s))) (rw (add-zero n) (g (take n (drop at s)) (length-part s at n l)))
+      let l : at + n ≤ length s = whole-has-bytes n (λ b. yield (k b)) s at a e h in
+      let x = takes-yield {P = λ b m. P b (n + m)} (k (take n (drop at s))) (rw (add-zero n) (g (take n (drop at s)) (length-slice s at n l)))
       .each s (at + n) a e (rw (run-enough n (λ b. yield (k b)) s at l) at h) in
       (n + x .0, omega (arith, x .1), x .2);
 }
@@ -115,35 +115,35 @@ takes-below w top r =
     takes-then _ _ _ (takes-field w) (λ x n e. takes-then _ _ _ (takes-check r _) (λ _ n₁ e₁. takes-yield x (omega (arith, e .0, e₁ .0))))
 
 -- a is away from base by a signed number of w bytes, in fours, and at most highest: what an address and a reference are read as
-pub record Away (w base highest a : ℕ) : Type 0 where
+pub record AddressIn (w base highest a : ℕ) : Type 0 where
   pub number : ℕ
-  pub leads : moved highest base (signed w number) ≡ Just a
+  pub address-is : add-gap highest base (signed w number) ≡ Just a
 
-pub takes-address : (w base highest : ℕ) → Takes (λ a n. (n ≡ w) × Away w base highest a) (address w base highest)
+pub takes-address : (w base highest : ℕ) → Takes (λ a n. (n ≡ w) × AddressIn w base highest a) (address w base highest)
 unfolding address
 takes-address w base highest =
-    takes-then _ _ _ (takes-field w) (λ v n e. takes-when (takes-need 8 _) (λ a m k.
-    (omega (arith, e .0, k .0), record { number = v; leads = k .1 })))
+    takes-then _ _ _ (takes-field w) (λ v n e. takes-weaken (takes-need 8 _) (λ a m k.
+    (omega (arith, e .0, k .0), record { number = v; address-is = k .1 })))
 
-pub takes-reference : (w base highest : ℕ) → Takes (λ a n. (n ≡ w) × Away w base highest a) (reference w base highest)
-unfolding reference
-takes-reference w base highest =
+pub takes-ref : (w base highest : ℕ) → Takes (λ a n. (n ≡ w) × AddressIn w base highest a) (ref-field w base highest)
+unfolding ref-field
+takes-ref w base highest =
     takes-then _ _ _ (takes-address w base highest) (λ a n e. takes-then _ _ _ (takes-check 9 _) (λ _ m k.
     takes-yield a (omega (arith, e .0, k .0), e .1)))
 
 -- a is a count, as a signed number of w bytes
 pub record CountIn (w a : ℕ) : Type 0 where
   pub number : ℕ
-  pub counts : counted (signed w number) ≡ Just a
+  pub counts : to-count (signed w number) ≡ Just a
 
 pub takes-count : (w : ℕ) → Takes (λ a n. (n ≡ w) × CountIn w a) (count w)
 unfolding count
 takes-count w =
-    takes-then _ _ _ (takes-field w) (λ v n e. takes-when (takes-need 12 _) (λ a m k.
+    takes-then _ _ _ (takes-field w) (λ v n e. takes-weaken (takes-need 12 _) (λ a m k.
     (omega (arith, e .0, k .0), record { number = v; counts = k .1 })))
 
 -- a string takes its length's two bytes and its own
-pub takes-string : (low least : ℕ) → Takes (λ (t : Text) n. (n ≡ 2 + t .len) × (least ≤ t .len)) (string low least)
+pub takes-string : (low least : ℕ) → Takes (λ (t : StringSpan) n. (n ≡ 2 + t .len) × (least ≤ t .len)) (string low least)
 unfolding string
 takes-string low least =
     takes-then _ _ _ (takes-field 2) (λ v n e. takes-then _ _ _ (takes-check 7 _) (λ _ n₁ e₁.

@@ -10,9 +10,9 @@ use lib.IntN.{ℤ, pos, negsuc}
 use native.Mathlib.Omega.{arith}
 use native.Mathlib.Decide.{decLe}
 use borrow.Author.Tests.{leb-true, ltb-true, eqb-false, not-true}
-use Rattle.decode.specs.Numbers.{pick, both, value, signed, in-range, moved, counted}
-use Rattle.decode.specs.Layout.{Layout, yield, refuse, bytes, Outcome, whole, stops, run, run-enough, run-short, run-then, then-inv, onward, run-yield, run-refuse, run-position, inside, _>>=_, position, raw, field, check, need}
-use Rattle.decode.specs.Fields.{exactly, below, address, reference, count, string}
+use Rattle.decode.specs.Numbers.{pick, both, value, signed, in-range, add-gap, to-count}
+use Rattle.decode.specs.Layout.{Layout, yield, refuse, bytes, Outcome, whole, stops, run, run-enough, run-short, run-then, then-inv, and-then, run-yield, run-refuse, run-position, end-in-bounds, _>>=_, position, raw, field, check, need}
+use Rattle.decode.specs.Fields.{exactly, below, address, ref-field, count, string}
 use Rattle.decode.specs.declared.Stop.the-variants.{Cut, Refused}
 use Rattle.decode.specs.declared.Maybe.{Maybe}
 use Rattle.decode.specs.declared.Maybe.the-variants.{Just, Nothing}
@@ -24,8 +24,8 @@ pick-either P true x y p q = p
 pick-either P false x y p q = q
 
 -- a test has one answer
-pub true-false : true ≡ false → ⊥
-true-false e = let z : _≡_ {A = ℕ} 0 1 = cc in omega arith
+pub true-not-false : true ≡ false → ⊥
+true-not-false e = let z : _≡_ {A = ℕ} 0 1 = cc in omega arith
 
 -- a statement about a test, from its two cases
 pub by-cases : (P : Bool → Type 0) (b : Bool) → (b ≡ true → P true) → (b ≡ false → P false) → P b
@@ -39,12 +39,12 @@ both-left false b e = e
 
 pub both-right : (a b : Bool) → both a b ≡ true → b ≡ true
 both-right true b e = e
-both-right false b e = absurd (true-false (sym e))
+both-right false b e = absurd (true-not-false (sym e))
 
 -- 1 or 0 is at most 1
-pub one-most : (b : Bool) → pick b 1 0 ≤ 1
-one-most true = omega arith
-one-most false = omega arith
+pub bit-le-one : (b : Bool) → pick b 1 0 ≤ 1
+bit-le-one true = omega arith
+bit-le-one false = omega arith
 
 -- ---- values
 
@@ -70,24 +70,24 @@ pub gives-then : {A B : Type 0} {s : List ℕ} (Q : A → Type 0) {P : B → Typ
 gives-then {A} {B} {s} Q {P} l f g k = record {
   each = λ at b e p h.
       let w = then-inv l f s at b e h in
-      k (w .0) (g .each at (w .0) (w .1) p (w .2)) .each (w .1) b e (inside l s at (w .0) (w .1) p (w .2)) (w .3);
+      k (w .0) (g .each at (w .0) (w .1) p (w .2)) .each (w .1) b e (end-in-bounds l s at (w .0) (w .1) p (w .2)) (w .3);
 }
 
 -- and need not
-pub gives-last : {A B : Type 0} {s : List ℕ} {P : B → Type 0} (l : Layout A) (f : A → Layout B) → ((a : A) → Gives s P (f a)) → Gives s P (l >>= f)
-gives-last l f k = gives-then (λ _. Unit {0}) l f (record { each = λ at a e p h. tt }) (λ a _. k a)
+pub gives-then-any : {A B : Type 0} {s : List ℕ} {P : B → Type 0} (l : Layout A) (f : A → Layout B) → ((a : A) → Gives s P (f a)) → Gives s P (l >>= f)
+gives-then-any l f k = gives-then (λ _. Unit {0}) l f (record { each = λ at a e p h. tt }) (λ a _. k a)
 
 -- what holds of every value may be weakened
-pub gives-when : {A : Type 0} {s : List ℕ} {Q P : A → Type 0} {l : Layout A} → Gives s Q l → ((a : A) → Q a → P a) → Gives s P l
-gives-when g w = record { each = λ at a e p h. w a (g .each at a e p h) }
+pub gives-weaken : {A : Type 0} {s : List ℕ} {Q P : A → Type 0} {l : Layout A} → Gives s Q l → ((a : A) → Q a → P a) → Gives s P l
+gives-weaken g w = record { each = λ at a e p h. w a (g .each at a e p h) }
 
 pub gives-pick : {A : Type 0} {s : List ℕ} {P : A → Type 0} (b : Bool) (l m : Layout A) → Gives s P l → Gives s P m → Gives s P (pick b l m)
 gives-pick {A} {s} {P} b l m g k = pick-either (Gives s P) b l m g k
 
 -- a layout that goes by a test
-pub gives-by : {A : Type 0} {s : List ℕ} {P : A → Type 0} (b : Bool) (l m : Layout A) → (b ≡ true → Gives s P l) → (b ≡ false → Gives s P m) → Gives s P (pick b l m)
-gives-by true l m f g = f refl
-gives-by false l m f g = g refl
+pub gives-cases : {A : Type 0} {s : List ℕ} {P : A → Type 0} (b : Bool) (l m : Layout A) → (b ≡ true → Gives s P l) → (b ≡ false → Gives s P m) → Gives s P (pick b l m)
+gives-cases true l m f g = f refl
+gives-cases false l m f g = g refl
 
 -- a test that let reading go on, and a value that was there
 pub gives-check : {s : List ℕ} (r : ℕ) (b : Bool) → Gives s (λ _. b ≡ true) (check r b)
@@ -113,15 +113,15 @@ refuses-yield {A} a = record { each = λ s at r h. absurd (never at r (rw run-yi
     never at r h = let z : _≡_ {A = ℕ} 0 1 = cc in omega arith
 
 pub refuses-refuse : {A : Type 0} {P : ℕ → Type 0} (r : ℕ) → P r → Refuses {A = A} P (refuse r)
-refuses-refuse {A} {P} r p = record { each = λ s at x h. subst P (said x (rw run-refuse at h)) p }
+refuses-refuse {A} {P} r p = record { each = λ s at x h. subst P (same-reply x (rw run-refuse at h)) p }
   where
-    said : (x : ℕ) → _≡_ {A = Outcome A} (stops (Refused r)) (stops (Refused x)) → r ≡ x
-    said x h = cc
+    same-reply : (x : ℕ) → _≡_ {A = Outcome A} (stops (Refused r)) (stops (Refused x)) → r ≡ x
+    same-reply x h = cc
 
 pub refuses-then : {A B : Type 0} {P : ℕ → Type 0} (l : Layout A) (f : A → Layout B) → Refuses P l → ((a : A) → Refuses P (f a)) → Refuses P (l >>= f)
 refuses-then {A} {B} {P} l f g k = record { each = λ s at r h. by s at r (run l s at) refl (sym (run-then l f s at) ∙ h) }
   where
-    by : (s : List ℕ) (at r : ℕ) (o : Outcome A) → run l s at ≡ o → onward (run l s at) (λ a p. run (f a) s p) ≡ stops (Refused r) → P r
+    by : (s : List ℕ) (at r : ℕ) (o : Outcome A) → run l s at ≡ o → and-then (run l s at) (λ a p. run (f a) s p) ≡ stops (Refused r) → P r
     by s at r (whole a n) e h = k a .each s n r (rw e at h)
     by s at r (stops w) e h =
         let q : stops w ≡ stops (Refused r) = rw e at h in
@@ -166,62 +166,62 @@ refuses-check r true p = refuses-yield tt
 refuses-check r false p = refuses-refuse r p
 
 -- a value that must be there is refused only where it is not
-pub refuses-nothing : {P : ℕ → Type 0} (r : ℕ) (m : Maybe) → (m ≡ Nothing → P r) → Refuses P (need r m)
+pub refuses-need-nothing : {P : ℕ → Type 0} (r : ℕ) (m : Maybe) → (m ≡ Nothing → P r) → Refuses P (need r m)
 unfolding need
-refuses-nothing r (Just a) p = refuses-yield a
-refuses-nothing r Nothing p = refuses-refuse r (p refl)
+refuses-need-nothing r (Just a) p = refuses-yield a
+refuses-need-nothing r Nothing p = refuses-refuse r (p refl)
 
 pub refuses-need : {P : ℕ → Type 0} (r : ℕ) (m : Maybe) → P r → Refuses P (need r m)
-refuses-need r m p = refuses-nothing r m (λ _. p)
+refuses-need r m p = refuses-need-nothing r m (λ _. p)
 
 -- ---- the range of addresses and references
 
 -- a sum in range is the address, and at most the highest
-pub in-range-is : (highest sum a : ℕ) → in-range highest sum ≡ Just a → (sum ≡ a) × (a ≤ highest)
-in-range-is highest sum a h = by (leb sum highest) refl h
+pub in-range-inv : (highest sum a : ℕ) → in-range highest sum ≡ Just a → (sum ≡ a) × (a ≤ highest)
+in-range-inv highest sum a h = by (leb sum highest) refl h
   where
     by : (b : Bool) → leb sum highest ≡ b → pick b (Just sum) Nothing ≡ Just a → (sum ≡ a) × (a ≤ highest)
     by true e g = let l : sum ≤ highest = leb-true _ _ e in let z : sum ≡ a = cc in (z, omega arith)
     by false e g = let z : _≡_ {A = ℕ} 0 1 = cc in absurd (omega arith)
 
 -- a moved address lies in 0 to highest
-pub moved-most : (highest base : ℕ) (gap : ℤ) (a : ℕ) → moved highest base gap ≡ Just a → a ≤ highest
-unfolding moved
-moved-most highest base (pos n) a h = in-range-is highest (base + 4 * n) a h .1
-moved-most highest base (negsuc n) a h = by (leb (4 * suc n) base) h
+pub add-gap-le : (highest base : ℕ) (gap : ℤ) (a : ℕ) → add-gap highest base gap ≡ Just a → a ≤ highest
+unfolding add-gap
+add-gap-le highest base (pos n) a h = in-range-inv highest (base + 4 * n) a h .1
+add-gap-le highest base (negsuc n) a h = by (leb (4 * suc n) base) h
   where
     by : (b : Bool) → pick b (in-range highest (base - 4 * suc n)) Nothing ≡ Just a → a ≤ highest
-    by true g = in-range-is highest (base - 4 * suc n) a g .1
+    by true g = in-range-inv highest (base - 4 * suc n) a g .1
     by false g = let z : _≡_ {A = ℕ} 0 1 = cc in absurd (omega arith)
 
 pub gives-address : {s : List ℕ} (n base highest : ℕ) → Gives s (λ a. a ≤ highest) (address n base highest)
 unfolding address
-gives-address n base highest = gives-last _ _ (λ gap. gives-when (gives-need 8 _) (λ a e. moved-most highest base (signed n gap) a e))
+gives-address n base highest = gives-then-any _ _ (λ gap. gives-weaken (gives-need 8 _) (λ a e. add-gap-le highest base (signed n gap) a e))
 
-pub gives-reference : {s : List ℕ} (n base highest : ℕ) → Gives s (λ r. (1 ≤ r) × (r ≤ highest)) (reference n base highest)
-unfolding reference
-gives-reference n base highest =
+pub gives-ref : {s : List ℕ} (n base highest : ℕ) → Gives s (λ r. (1 ≤ r) × (r ≤ highest)) (ref-field n base highest)
+unfolding ref-field
+gives-ref n base highest =
     gives-then _ _ _ (gives-address n base highest) (λ r l. gives-then _ _ _ (gives-check 9 _) (λ _ e.
     gives-yield r (let z : r ≡ 0 → ⊥ = eqb-false r 0 (not-true _ e) in omega arith, l)))
 
 -- ---- the range of counts
 
 -- a count is the number read, and below 2^31
-pub counted-is : (z : ℤ) (n : ℕ) → counted z ≡ Just n → (z ≡ pos n) × (n < 2 ^ 31)
-unfolding counted
-counted-is (pos m) n h = by (ltb m (2 ^ 31)) refl h
+pub to-count-inv : (z : ℤ) (n : ℕ) → to-count z ≡ Just n → (z ≡ pos n) × (n < 2 ^ 31)
+unfolding to-count
+to-count-inv (pos m) n h = by (ltb m (2 ^ 31)) refl h
   where
     by : (b : Bool) → ltb m (2 ^ 31) ≡ b → pick b (Just m) Nothing ≡ Just n → (pos m ≡ pos n) × (n < 2 ^ 31)
     by true e g = let l : m < 2 ^ 31 = ltb-true _ _ e in let z : m ≡ n = cc in (ap pos z, omega arith)
     by false e g = let z : _≡_ {A = ℕ} 0 1 = cc in absurd (omega arith)
-counted-is (negsuc m) n h = let z : _≡_ {A = ℕ} 0 1 = cc in absurd (omega arith)
+to-count-inv (negsuc m) n h = let z : _≡_ {A = ℕ} 0 1 = cc in absurd (omega arith)
 
-pub counted-below : (z : ℤ) (n : ℕ) → counted z ≡ Just n → n < 2 ^ 31
-counted-below z n h = counted-is z n h .1
+pub to-count-lt : (z : ℤ) (n : ℕ) → to-count z ≡ Just n → n < 2 ^ 31
+to-count-lt z n h = to-count-inv z n h .1
 
 pub gives-count : {s : List ℕ} (n : ℕ) → Gives s (λ c. c < 2 ^ 31) (count n)
 unfolding count
-gives-count n = gives-last _ _ (λ c. gives-when (gives-need 12 _) (λ a e. counted-below (signed n c) a e))
+gives-count n = gives-then-any _ _ (λ c. gives-weaken (gives-need 12 _) (λ a e. to-count-lt (signed n c) a e))
 
 -- ---- the replies of the kinds of field
 
@@ -237,9 +237,9 @@ pub refuses-address : {P : ℕ → Type 0} (n base highest : ℕ) → P 8 → Re
 unfolding address
 refuses-address n base highest p = refuses-then _ _ (refuses-field n) (λ gap. refuses-need 8 _ p)
 
-pub refuses-reference : {P : ℕ → Type 0} (n base highest : ℕ) → P 8 → P 9 → Refuses P (reference n base highest)
-unfolding reference
-refuses-reference n base highest p q =
+pub refuses-ref : {P : ℕ → Type 0} (n base highest : ℕ) → P 8 → P 9 → Refuses P (ref-field n base highest)
+unfolding ref-field
+refuses-ref n base highest p q =
     refuses-then _ _ (refuses-address n base highest p) (λ r. refuses-then _ _ (refuses-check 9 _ q) (λ _. refuses-yield r))
 
 pub refuses-count : {P : ℕ → Type 0} (n : ℕ) → P 12 → Refuses P (count n)

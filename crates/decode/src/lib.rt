@@ -3,15 +3,15 @@
 ghost use mathlib.Core.Path.{_≡_};
 ghost use Prim.Native.Nat.{_+_, _-_, _^_, _≤_, _<_};
 ghost use lib.ListN.{length, take, drop};
-ghost use Rattle.decode.specs.Numbers.{pick, value, signed as signedOf, step, moved as movedBy, counted as countedOf, within};
+ghost use Rattle.decode.specs.Numbers.{pick, value, signed as signedOf, sign-case, add-gap, to-count, all-within};
 ghost use Rattle.decode.specs.Layout.{run, field as fieldOf, reply-of, missing-of};
-ghost use Rattle.decode.specs.Fields.{outcome, text-outcome, Small, exactly as exactlyOf, below as belowOf, address as addressOf, reference as referenceOf, count as countOf, string as stringOf};
+ghost use Rattle.decode.specs.Fields.{outcome, string-outcome, FitsWidth, exactly as exactlyOf, below as belowOf, address as addressOf, ref-field, count as countOf, string as stringOf};
 
 // The one number where a test holds, else the other.
-pub fn choice(first: bool, x: u64, y: u64) -> u64
-    ensures { λ r. ⌜ r ≡ pick first x y ⌝ }
+pub fn choice(test: bool, x: u64, y: u64) -> u64
+    ensures { λ r. ⌜ r ≡ pick test x y ⌝ }
 {
-    if first {
+    if test {
         return x;
     }
     y
@@ -44,7 +44,7 @@ pub fn missing_of(w: Stop) -> usize
 }
 
 // A number that was read, with the place after it.
-pub enum Piece {
+pub enum NumberRead {
     Is(u64, usize),
     Stops(Stop),
 }
@@ -56,21 +56,21 @@ pub enum Maybe {
 }
 
 // A signed number by its sign: up by n, or down by n + 1.
-pub enum Step {
-    Up(u64),
-    Down(u64),
+pub enum SignCase {
+    NonNeg(u64),
+    NegSuc(u64),
 }
 
 // Where a string stands in the dump, if one does.
-pub struct Text {
-    pub there: bool,
+pub struct StringSpan {
+    pub present: bool,
     pub place: usize,
     pub len: usize,
 }
 
 // A string that was read, with the place after it.
-pub enum TextRead {
-    Is(Text, usize),
+pub enum StringRead {
+    Is(StringSpan, usize),
     Stops(Stop),
 }
 
@@ -96,49 +96,49 @@ fn be(s: &[u8], at: usize, n: usize) -> u64
 }
 
 // A field of n bytes.
-pub fn field(s: &[u8], at: usize, n: usize) -> Piece
+pub fn field(s: &[u8], at: usize, n: usize) -> NumberRead
     requires { ⌜ (n ≤ 8) × (at ≤ length (now s)) ⌝ }
     ensures is { λ r. ⌜ outcome r ≡ run (fieldOf n) (now (s .entry)) at ⌝ }
-    ensures small { λ r. ⌜ Small n r ⌝ }
+    ensures small { λ r. ⌜ FitsWidth n r ⌝ }
 {
     let left = s.len() - at;
     if n <= left {
         let v = be(s, at, n);
-        Piece::Is(v, at + n)
+        NumberRead::Is(v, at + n)
     } else {
-        Piece::Stops(Stop::Cut(n - left))
+        NumberRead::Stops(Stop::Cut(n - left))
     }
 }
 
 // A field of n bytes that must be v.
-pub fn exactly(s: &[u8], at: usize, n: usize, v: u64, reply: u64) -> Piece
+pub fn exactly(s: &[u8], at: usize, n: usize, v: u64, reply: u64) -> NumberRead
     requires { ⌜ (n ≤ 8) × (at ≤ length (now s)) ⌝ }
     ensures { λ r. ⌜ outcome r ≡ run (exactlyOf n v reply) (now (s .entry)) at ⌝ }
 {
     match field(s, at, n) {
-        Piece::Is(x, next) => {
+        NumberRead::Is(x, next) => {
             if x == v {
-                return Piece::Is(x, next);
+                return NumberRead::Is(x, next);
             }
-            Piece::Stops(Stop::Refused(reply))
+            NumberRead::Stops(Stop::Refused(reply))
         }
-        Piece::Stops(w) => Piece::Stops(w),
+        NumberRead::Stops(w) => NumberRead::Stops(w),
     }
 }
 
 // A field of n bytes that must be below a number.
-pub fn below(s: &[u8], at: usize, n: usize, top: u64, reply: u64) -> Piece
+pub fn below(s: &[u8], at: usize, n: usize, bound: u64, reply: u64) -> NumberRead
     requires { ⌜ (n ≤ 8) × (at ≤ length (now s)) ⌝ }
-    ensures { λ r. ⌜ outcome r ≡ run (belowOf n top reply) (now (s .entry)) at ⌝ }
+    ensures { λ r. ⌜ outcome r ≡ run (belowOf n bound reply) (now (s .entry)) at ⌝ }
 {
     match field(s, at, n) {
-        Piece::Is(x, next) => {
-            if x < top {
-                return Piece::Is(x, next);
+        NumberRead::Is(x, next) => {
+            if x < bound {
+                return NumberRead::Is(x, next);
             }
-            Piece::Stops(Stop::Refused(reply))
+            NumberRead::Stops(Stop::Refused(reply))
         }
-        Piece::Stops(w) => Piece::Stops(w),
+        NumberRead::Stops(w) => NumberRead::Stops(w),
     }
 }
 
@@ -168,22 +168,22 @@ pub fn signed(raw: u64, n: usize) -> i64
 }
 
 // A signed number by its sign.
-fn step_of(gap: i64) -> Step
-    ensures { λ r. ⌜ r ≡ step gap ⌝ }
+fn sign_case_of(gap: i64) -> SignCase
+    ensures { λ r. ⌜ r ≡ sign-case gap ⌝ }
 {
     if gap < 0 {
-        Step::Down((-1 - gap) as u64)
+        SignCase::NegSuc((-1 - gap) as u64)
     } else {
-        Step::Up(gap as u64)
+        SignCase::NonNeg(gap as u64)
     }
 }
 
 // base + 4 * gap, where that lies in 0 to highest. No sum wraps: a negative gap is subtracted.
-pub fn moved(base: u64, gap: i64, highest: u64) -> Maybe
-    ensures { λ r. ⌜ r ≡ movedBy highest base gap ⌝ }
+pub fn add_gap(base: u64, gap: i64, highest: u64) -> Maybe
+    ensures { λ r. ⌜ r ≡ add-gap highest base gap ⌝ }
 {
-    match step_of(gap) {
-        Step::Up(n) => {
+    match sign_case_of(gap) {
+        SignCase::NonNeg(n) => {
             if base <= highest {
                 if n <= (highest - base) / 4 {
                     return Maybe::Just(base + 4 * n);
@@ -191,7 +191,7 @@ pub fn moved(base: u64, gap: i64, highest: u64) -> Maybe
             }
             Maybe::Nothing
         }
-        Step::Down(n) => {
+        SignCase::NegSuc(n) => {
             if n < base / 4 {
                 let to = base - 4 * (n + 1);
                 if to <= highest {
@@ -204,71 +204,71 @@ pub fn moved(base: u64, gap: i64, highest: u64) -> Maybe
 }
 
 // An address, by a gap of n bytes from another.
-pub fn address(s: &[u8], at: usize, n: usize, base: u64, highest: u64) -> Piece
+pub fn address(s: &[u8], at: usize, n: usize, base: u64, highest: u64) -> NumberRead
     requires { ⌜ (n ≤ 8) × (at ≤ length (now s)) ⌝ }
     ensures { λ r. ⌜ outcome r ≡ run (addressOf n base highest) (now (s .entry)) at ⌝ }
 {
     match field(s, at, n) {
-        Piece::Is(raw, next) => {
+        NumberRead::Is(raw, next) => {
             let gap = signed(raw, n);
-            match moved(base, gap, highest) {
-                Maybe::Just(a) => Piece::Is(a, next),
-                Maybe::Nothing => Piece::Stops(Stop::Refused(8)),
+            match add_gap(base, gap, highest) {
+                Maybe::Just(a) => NumberRead::Is(a, next),
+                Maybe::Nothing => NumberRead::Stops(Stop::Refused(8)),
             }
         }
-        Piece::Stops(w) => Piece::Stops(w),
+        NumberRead::Stops(w) => NumberRead::Stops(w),
     }
 }
 
 // A reference, by a value of n bytes from the address of its record.
-pub fn reference(s: &[u8], at: usize, n: usize, base: u64, highest: u64) -> Piece
+pub fn ref_field(s: &[u8], at: usize, n: usize, base: u64, highest: u64) -> NumberRead
     requires { ⌜ (n ≤ 8) × (at ≤ length (now s)) ⌝ }
-    ensures { λ r. ⌜ outcome r ≡ run (referenceOf n base highest) (now (s .entry)) at ⌝ }
+    ensures { λ r. ⌜ outcome r ≡ run (ref-field n base highest) (now (s .entry)) at ⌝ }
 {
     match address(s, at, n, base, highest) {
-        Piece::Is(a, next) => {
+        NumberRead::Is(a, next) => {
             if a == 0 {
-                return Piece::Stops(Stop::Refused(9));
+                return NumberRead::Stops(Stop::Refused(9));
             }
-            Piece::Is(a, next)
+            NumberRead::Is(a, next)
         }
-        Piece::Stops(w) => Piece::Stops(w),
+        NumberRead::Stops(w) => NumberRead::Stops(w),
     }
 }
 
 // The number of a signed count, where it is one.
-pub fn counted(c: i64) -> Maybe
-    ensures { λ r. ⌜ r ≡ countedOf c ⌝ }
+pub fn to_count(c: i64) -> Maybe
+    ensures { λ r. ⌜ r ≡ to-count c ⌝ }
 {
-    match step_of(c) {
-        Step::Up(n) => {
+    match sign_case_of(c) {
+        SignCase::NonNeg(n) => {
             if n < 0x8000_0000 {
                 return Maybe::Just(n);
             }
             Maybe::Nothing
         }
-        Step::Down(_) => Maybe::Nothing,
+        SignCase::NegSuc(_) => Maybe::Nothing,
     }
 }
 
 // A count, a length or a class's instance size of n bytes.
-pub fn count(s: &[u8], at: usize, n: usize) -> Piece
+pub fn count(s: &[u8], at: usize, n: usize) -> NumberRead
     requires { ⌜ (n ≤ 8) × (at ≤ length (now s)) ⌝ }
     ensures { λ r. ⌜ outcome r ≡ run (countOf n) (now (s .entry)) at ⌝ }
 {
     match field(s, at, n) {
-        Piece::Is(raw, next) => match counted(signed(raw, n)) {
-            Maybe::Just(c) => Piece::Is(c, next),
-            Maybe::Nothing => Piece::Stops(Stop::Refused(12)),
+        NumberRead::Is(raw, next) => match to_count(signed(raw, n)) {
+            Maybe::Just(c) => NumberRead::Is(c, next),
+            Maybe::Nothing => NumberRead::Stops(Stop::Refused(12)),
         },
-        Piece::Stops(w) => Piece::Stops(w),
+        NumberRead::Stops(w) => NumberRead::Stops(w),
     }
 }
 
 // Whether the n bytes at a place lie from low to high.
 pub fn all_within(s: &[u8], at: usize, n: usize, low: u8, high: u8) -> bool
     requires { ⌜ at + n ≤ length (now s) ⌝ }
-    ensures { λ r. ⌜ r ≡ within low high (take n (drop at (now (s .entry)))) ⌝ }
+    ensures { λ r. ⌜ r ≡ all-within low high (take n (drop at (now (s .entry)))) ⌝ }
 {
     let mut i: usize = 0;
     while i < n {
@@ -285,32 +285,32 @@ pub fn all_within(s: &[u8], at: usize, n: usize, low: u8, high: u8) -> bool
 }
 
 // A string: its length, at least `least`, and its bytes, each from low to 0x7E.
-pub fn string(s: &[u8], at: usize, low: u8, least: u64) -> TextRead
+pub fn string(s: &[u8], at: usize, low: u8, least: u64) -> StringRead
     requires { ⌜ at ≤ length (now s) ⌝ }
-    ensures { λ r. ⌜ text-outcome r ≡ run (stringOf low least) (now (s .entry)) at ⌝ }
+    ensures { λ r. ⌜ string-outcome r ≡ run (stringOf low least) (now (s .entry)) at ⌝ }
 {
     match field(s, at, 2) {
-        Piece::Is(len, place) => {
+        NumberRead::Is(len, place) => {
             if len < least {
-                return TextRead::Stops(Stop::Refused(7));
+                return StringRead::Stops(Stop::Refused(7));
             }
             let n = len as usize;
             let left = s.len() - place;
             if left < n {
-                return TextRead::Stops(Stop::Cut(n - left));
+                return StringRead::Stops(Stop::Cut(n - left));
             }
             if all_within(s, place, n, low, 0x7E) {
-                return TextRead::Is(
-                    Text {
-                        there: true,
+                return StringRead::Is(
+                    StringSpan {
+                        present: true,
                         place: place,
                         len: n,
                     },
                     place + n,
                 );
             }
-            TextRead::Stops(Stop::Refused(7))
+            StringRead::Stops(Stop::Refused(7))
         }
-        Piece::Stops(w) => TextRead::Stops(w),
+        NumberRead::Stops(w) => StringRead::Stops(w),
     }
 }

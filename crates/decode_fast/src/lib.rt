@@ -5,7 +5,7 @@ ghost use mathlib.Core.Path.{_≡_};
 ghost use Prim.Native.Nat.{_+_, _^_, _≤_, _<_};
 ghost use lib.ListN.{length, take, drop};
 ghost use Rattle.decode.specs.Numbers.{value};
-ghost use Rattle.decode_fast.specs.RefsInRange.{far, clear as clearOf, target};
+ghost use Rattle.decode_fast.specs.RefsInRange.{gap-reach, refs-in-range, target};
 
 fn wide(x: u8) -> u64
     ensures { λ r. ⌜ r ≡ x ⌝ }
@@ -14,7 +14,7 @@ fn wide(x: u8) -> u64
 }
 
 // The four bytes at a place, big-endian.
-pub fn be4(s: &[u8], at: usize) -> u64
+pub fn be_u32(s: &[u8], at: usize) -> u64
     requires { ⌜ at + 4 ≤ length (now s) ⌝ }
     ensures is { λ r. ⌜ r ≡ value (take 4 (drop at (now (s .entry)))) ⌝ }
     ensures small { λ r. ⌜ r < 256 ^ 4 ⌝ }
@@ -24,16 +24,16 @@ pub fn be4(s: &[u8], at: usize) -> u64
 }
 
 // The eight bytes at a place, big-endian.
-pub fn be8(s: &[u8], at: usize) -> u64
+pub fn be_u64(s: &[u8], at: usize) -> u64
     requires { ⌜ at + 8 ≤ length (now s) ⌝ }
     ensures { λ r. ⌜ r ≡ value (take 8 (drop at (now (s .entry)))) ⌝ }
 {
-    let fifth = be4(s, at) * 256 + wide(s[at + 4]);
+    let fifth = be_u32(s, at) * 256 + wide(s[at + 4]);
     ((fifth * 256 + wide(s[at + 5])) * 256 + wide(s[at + 6])) * 256 + wide(s[at + 7])
 }
 
 // The first n of the two bytes at a place, big-endian.
-pub fn of2(s: &[u8], at: usize, n: usize) -> u64
+pub fn be_upto2(s: &[u8], at: usize, n: usize) -> u64
     requires { ⌜ (n ≤ 2) × (at + 2 ≤ length (now s)) ⌝ }
     ensures is { λ r. ⌜ r ≡ value (take n (drop at (now (s .entry)))) ⌝ }
     ensures small { λ r. ⌜ r < 256 ^ n ⌝ }
@@ -42,36 +42,36 @@ pub fn of2(s: &[u8], at: usize, n: usize) -> u64
 }
 
 // The first n of the four bytes at a place, big-endian.
-pub fn of4(s: &[u8], at: usize, n: usize) -> u64
+pub fn be_upto4(s: &[u8], at: usize, n: usize) -> u64
     requires { ⌜ (n ≤ 4) × (at + 4 ≤ length (now s)) ⌝ }
     ensures is { λ r. ⌜ r ≡ value (take n (drop at (now (s .entry)))) ⌝ }
     ensures small { λ r. ⌜ r < 256 ^ n ⌝ }
 {
-    be4(s, at) >> (32 - 8 * n)
+    be_u32(s, at) >> (32 - 8 * n)
 }
 
 // Whether every value of w bytes, at most 4, is a good reference of a record at the address a.
-pub fn clear(w: usize, a: u64, top: u64) -> bool
-    ensures { λ r. ⌜ r ≡ clearOf w a top ⌝ }
+pub fn refs_in_range(w: usize, a: u64, top: u64) -> bool
+    ensures { λ r. ⌜ r ≡ refs-in-range w a top ⌝ }
 {
     if 4 < w {
         return false;
     }
-    let most = 0x2_0000_0000 >> (32 - 8 * w);
-    if top < most {
+    let reach = 0x2_0000_0000 >> (32 - 8 * w);
+    if top < reach {
         return false;
     }
-    (most < a) & (a < top - most)
+    (reach < a) & (a < top - reach)
 }
 
 // The reference of w bytes at a place, of a record at the address a that is clear. It counts from the lowest that w bytes
 // can say, so that nothing asks for the sign.
-pub fn placed(s: &[u8], at: usize, w: usize, a: u64) -> u64
-    requires { ⌜ (1 ≤ w) × (w ≤ 4) × (at + 4 ≤ length (now s)) × (far w < a) × (a + far w < 2 ^ 64) ⌝ }
+pub fn read_ref_unchecked(s: &[u8], at: usize, w: usize, a: u64) -> u64
+    requires { ⌜ (1 ≤ w) × (w ≤ 4) × (at + 4 ≤ length (now s)) × (gap-reach w < a) × (a + gap-reach w < 2 ^ 64) ⌝ }
     ensures { λ r. ⌜ r ≡ target w a (value (take w (drop at (now (s .entry))))) ⌝ }
 {
     let k = 32 - 8 * w;
-    let most = 0x2_0000_0000 >> k;
-    let lifted = (be4(s, at) + 0x8000_0000) % 0x1_0000_0000;
-    (a - most) + 4 * (lifted >> k)
+    let reach = 0x2_0000_0000 >> k;
+    let biased = (be_u32(s, at) + 0x8000_0000) % 0x1_0000_0000;
+    (a - reach) + 4 * (biased >> k)
 }

@@ -16,28 +16,28 @@ ascii end = []
 ascii (c then s) = code c ∷ ascii s
 
 -- how many digits a number has in base ten: one below ten, else one more than its tenth has; with so many steps at most
-unfoldable pub places-in : ℕ → ℕ → ℕ
-places-in zero n = 1
-places-in (suc k) n = elim (ltb n 10) [
+unfoldable pub digit-count-in : ℕ → ℕ → ℕ
+digit-count-in zero n = 1
+digit-count-in (suc k) n = elim (ltb n 10) [
   | true ↦ 1
-  | false ↦ suc (places-in k (n / 10))
+  | false ↦ suc (digit-count-in k (n / 10))
 ]
 
-unfoldable pub places : ℕ → ℕ
-places n = places-in n n
+unfoldable pub digit-count : ℕ → ℕ
+digit-count n = digit-count-in n n
 
 -- a number in base ten
 unfoldable pub decimal : ℕ → List ℕ
-decimal n = digits 10 (places n) n
+decimal n = digits 10 (digit-count n) n
 
 -- a number after a text
-abbrev pub figure : String → ℕ → List ℕ
-figure before n = ascii before ++ decimal n
+abbrev pub text-decimal : String → ℕ → List ℕ
+text-decimal before n = ascii before ++ decimal n
 
 -- a small letter as a capital; a digit as it is
-unfoldable pub capital : ℕ → ℕ
-capital c = pick (ltb c 0x61) c (c - 0x20)
+unfoldable pub uppercase : ℕ → ℕ
+uppercase c = pick (ltb c 0x61) c (c - 0x20)
 
 -- the last k digits of a number in base b, in capitals
-unfoldable pub numeral : ℕ → ℕ → ℕ → List ℕ
-numeral b k n = map capital (digits b k n)
+unfoldable pub upper-digits : ℕ → ℕ → ℕ → List ℕ
+upper-digits b k n = map uppercase (digits b k n)

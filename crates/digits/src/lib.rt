@@ -4,13 +4,13 @@ ghost use mathlib.Core.Path.{_≡_};
 ghost use Prim.Native.Nat.{_≤_, _<_};
 ghost use mathlib.Core.List.{_++_};
 ghost use Rattle.io.specs.Digits.{glyph as glyphOf};
-ghost use Rattle.encode.specs.Writes.{Puts, Room};
-ghost use Rattle.digits.specs.Digits.{capital, numeral, places as placesOf, decimal};
+ghost use Rattle.encode.specs.Writes.{Writes, HasCapacity};
+ghost use Rattle.digits.specs.Digits.{uppercase, upper-digits, digit-count, decimal};
 
 // Returns a digit below 16 as a character, in upper case.
-fn glyph(d: u64) -> u8
+fn upper_digit(d: u64) -> u8
     requires { ⌜ d < 16 ⌝ }
-    ensures { λ r. ⌜ r ≡ capital (glyphOf d) ⌝ }
+    ensures { λ r. ⌜ r ≡ uppercase (glyphOf d) ⌝ }
 {
     if d < 10 {
         return 48 + d as u8;
@@ -19,24 +19,24 @@ fn glyph(d: u64) -> u8
 }
 
 // Writes the last k digits of a number.
-pub fn put_digits(out: &mut [u8], at: usize, base: u64, k: usize, n: u64) -> usize
+pub fn write_digits(out: &mut [u8], at: usize, base: u64, k: usize, n: u64) -> usize
     requires { ⌜ (1 < base) × (base ≤ 16) ⌝ }
-    requires { ⌜ Room (now out) at (numeral base k n) ⌝ }
-    ensures { λ r. ⌜ Puts (now (out .entry)) at (numeral base k n) (now (out .exit)) r ⌝ }
+    requires { ⌜ HasCapacity (now out) at (upper-digits base k n) ⌝ }
+    ensures { λ r. ⌜ Writes (now (out .entry)) at (upper-digits base k n) (now (out .exit)) r ⌝ }
 {
     let mut rest = n;
     let mut i = k;
     while 0 < i {
         i -= 1;
-        out[at + i] = glyph(rest % base);
+        out[at + i] = upper_digit(rest % base);
         rest = rest / base;
     }
     at + k
 }
 
 // Returns how many digits a number has in base ten.
-pub fn places(n: u64) -> usize
-    ensures { λ r. ⌜ r ≡ placesOf n ⌝ }
+pub fn digit_count(n: u64) -> usize
+    ensures { λ r. ⌜ r ≡ digit-count n ⌝ }
 {
     let mut rest = n;
     let mut k: usize = 1;
@@ -48,19 +48,19 @@ pub fn places(n: u64) -> usize
 }
 
 // Writes a number in base ten.
-pub fn put_decimal(out: &mut [u8], at: usize, n: u64) -> usize
-    requires { ⌜ Room (now out) at (decimal n) ⌝ }
-    ensures { λ r. ⌜ Puts (now (out .entry)) at (decimal n) (now (out .exit)) r ⌝ }
+pub fn write_decimal(out: &mut [u8], at: usize, n: u64) -> usize
+    requires { ⌜ HasCapacity (now out) at (decimal n) ⌝ }
+    ensures { λ r. ⌜ Writes (now (out .entry)) at (decimal n) (now (out .exit)) r ⌝ }
 {
-    let k = places(n);
-    put_digits(out, at, 10, k, n)
+    let k = digit_count(n);
+    write_digits(out, at, 10, k, n)
 }
 
 // Writes a number in base ten after a text.
-pub fn put_figure(out: &mut [u8], at: usize, before: &[u8], n: u64) -> usize
-    requires { ⌜ Room (now out) at (now before ++ decimal n) ⌝ }
-    ensures { λ r. ⌜ Puts (now (out .entry)) at (now (before .entry) ++ decimal n) (now (out .exit)) r ⌝ }
+pub fn write_text_decimal(out: &mut [u8], at: usize, text: &[u8], n: u64) -> usize
+    requires { ⌜ HasCapacity (now out) at (now text ++ decimal n) ⌝ }
+    ensures { λ r. ⌜ Writes (now (out .entry)) at (now (text .entry) ++ decimal n) (now (out .exit)) r ⌝ }
 {
-    let digits = encode::put_all(out, at, before);
-    put_decimal(out, digits, n)
+    let digits = encode::encode_bytes(out, at, text);
+    write_decimal(out, digits, n)
 }

@@ -12,11 +12,11 @@ use lib.Seq.{sets, set-comm}
 use lib.IntN.{pos, negsuc}
 use borrow.Author.Tests.{le-leb, lt-leb, le-ltb, lt-ltb}
 use Rattle.decode.specs.Numbers.{pick}
-use Rattle.decode.specs.Slices.{part-next}
+use Rattle.decode.specs.Slices.{slice-next}
 use Rattle.decode.specs.Values.{pick-either}
-use Rattle.encode.specs.Encode.{be, gap, code, fits, widest, most, links, complement}
+use Rattle.encode.specs.Encode.{be, gap, width-code, fits, refs-code, max, encode-ref-list, twos-complement}
 use Rattle.encode.specs.NumberRoundTrip.{length-be}
-use Rattle.encode.specs.Widths.{code-counts}
+use Rattle.encode.specs.Widths.{code-count}
 
 -- the last of a run of stores may go first
 pub sets-snoc : (vs l : List ℕ) (i x : ℕ) → sets l i (vs ++ (x ∷ [])) ≡ sets (set l (i + length vs) x) i vs
@@ -26,7 +26,7 @@ sets-snoc (a ∷ vs) l i x =
     let d : i ≡ suc i + length vs → ⊥ = λ h. omega arith in
     rw e (sets-snoc vs (set l i a) (suc i) x ∙ ap (λ (m : List ℕ). sets m (suc i) vs) (set-comm l i (suc i + length vs) a x d))
 
--- The digits of a number in the base b, k of them, each written by `glyph`: the last may go first, and then the others, which are
+-- The digits of a number in the base b, k of them, each written by `upper_digit`: the last may go first, and then the others, which are
 -- those of the number's quotient.
 pub digit-step : (digits : ℕ → ℕ → List ℕ) (b : ℕ) (glyph : ℕ → ℕ)
     → ((k n : ℕ) → length (digits k n) ≡ k)
@@ -41,71 +41,71 @@ digit-step digits b glyph long last out at k n h =
     ∙ ap (λ (j : ℕ). sets (set out (at + j) (glyph (n % b))) at (digits (k - 1) (n / b))) (long (k - 1) (n / b))
 
 -- a byte of a number written
-pub put-step : (out : List ℕ) (at k v : ℕ) → 0 < k → sets out at (be k v) ≡ sets (set out (at + (k - 1)) (v % 256)) at (be (k - 1) (v / 256))
+pub be-step : (out : List ℕ) (at k v : ℕ) → 0 < k → sets out at (be k v) ≡ sets (set out (at + (k - 1)) (v % 256)) at (be (k - 1) (v / 256))
 unfolding be
-put-step = digit-step be 256 (λ d. d) length-be (λ k n. refl)
+be-step = digit-step be 256 (λ d. d) length-be (λ k n. refl)
 
 -- ---- the least width code
 
 -- a gap down is as wide as the number that it is as far below -1
-code-far : (up : Bool) (d : ℕ) → code (pick up (pos d) (negsuc d)) ≡ code (pos d)
-unfolding code fits
-code-far true d = refl
-code-far false d = refl
+code-sign : (up : Bool) (d : ℕ) → width-code (pick up (pos d) (negsuc d)) ≡ width-code (pos d)
+unfolding width-code fits
+code-sign true d = refl
+code-sign false d = refl
 
 -- the code of a gap is that of its distance
-pub code-gap : (from to d : ℕ) → gap from to ≡ pick (leb from to) (pos d) (negsuc d) → code (gap from to) ≡ code (pos d)
-code-gap from to d e = ap code e ∙ code-far (leb from to) d
+pub code-gap : (from to d : ℕ) → gap from to ≡ pick (leb from to) (pos d) (negsuc d) → width-code (gap from to) ≡ width-code (pos d)
+code-gap from to d e = ap width-code e ∙ code-sign (leb from to) d
 
 -- n bytes hold a number if it does not reach half of 256 ^ n, and only then
-pub half-held : (n half m : ℕ) → half + half ≡ 256 ^ n → pick {X = ℕ} (leb half m) 1 0 ≡ pick (fits n (pos m)) 0 1
+pub half-le-fits : (n half m : ℕ) → half + half ≡ 256 ^ n → pick {X = ℕ} (leb half m) 1 0 ≡ pick (fits n (pos m)) 0 1
 unfolding fits
-half-held n half m e = elim (decLe half m) [
+half-le-fits n half m e = elim (decLe half m) [
   | yes l ↦ rw (le-leb half m l, le-ltb (m + m) (256 ^ n) (omega arith))
   | no l ↦ rw (lt-leb half m (omega arith), lt-ltb (m + m) (256 ^ n) (omega arith))
 ]
 
 -- a width that does not hold a number holds no greater one
-narrow-more : (n a b : ℕ) → a ≤ b → pick (fits n (pos a)) 0 1 ≤ pick (fits n (pos b)) 0 1
+fits-antitone : (n a b : ℕ) → a ≤ b → pick (fits n (pos a)) 0 1 ≤ pick (fits n (pos b)) 0 1
 unfolding fits
-narrow-more n a b h = elim (decLt (b + b) (256 ^ n)) [
+fits-antitone n a b h = elim (decLt (b + b) (256 ^ n)) [
   | yes l ↦ rw (lt-ltb (b + b) (256 ^ n) l, lt-ltb (a + a) (256 ^ n) (omega arith)) (omega arith)
   | no l ↦ rw (le-ltb (b + b) (256 ^ n) (omega arith)) (pick-either (λ x. x ≤ 1) (ltb (a + a) (256 ^ n)) 0 1 (omega arith) (omega arith))
 ]
 
-code-le : (a b : ℕ) → a ≤ b → code (pos a) ≤ code (pos b)
-code-le a b h = omega (arith, code-counts (pos a), code-counts (pos b), narrow-more 1 a b h, narrow-more 2 a b h, narrow-more 4 a b h)
+code-le : (a b : ℕ) → a ≤ b → width-code (pos a) ≤ width-code (pos b)
+code-le a b h = omega (arith, code-count (pos a), code-count (pos b), fits-antitone 1 a b h, fits-antitone 2 a b h, fits-antitone 4 a b h)
 
-most-first : (a b : ℕ) → b ≤ a → most a b ≡ a
-most-first a b h = elim (decLe a b) [
+max-eq-left : (a b : ℕ) → b ≤ a → max a b ≡ a
+max-eq-left a b h = elim (decLe a b) [
   | yes l ↦ rw (le-leb a b l) (omega arith)
   | no l ↦ let g : b < a = omega arith in rw (lt-leb a b g)
 ]
 
 -- the greater of two codes is that of the greater number
-code-most : (a b : ℕ) → most (code (pos a)) (code (pos b)) ≡ code (pos (most a b))
-code-most a b = elim (decLe a b) [
-  | yes l ↦ rw (le-leb a b l, le-leb (code (pos a)) (code (pos b)) (code-le a b l))
+code-max : (a b : ℕ) → max (width-code (pos a)) (width-code (pos b)) ≡ width-code (pos (max a b))
+code-max a b = elim (decLe a b) [
+  | yes l ↦ rw (le-leb a b l, le-leb (width-code (pos a)) (width-code (pos b)) (code-le a b l))
   | no l ↦
       let g : b < a = omega arith in
       let k : b ≤ a = omega arith in
-      rw (lt-leb a b g) (most-first (code (pos a)) (code (pos b)) (code-le b a k))
+      rw (lt-leb a b g) (max-eq-left (width-code (pos a)) (width-code (pos b)) (code-le b a k))
 ]
 
 -- ---- the next of the numbers from a place on
 
-module _ (l : List ℕ) (at n i : ℕ) (h : i < n) (room : at + n ≤ length l) where
+module _ (l : List ℕ) (at n i : ℕ) (h : i < n) (in-bounds : at + n ≤ length l) where
   -- its width, by its distance
-  pub widest-next : (m a d : ℕ) → gap a (getD l (at + i) 0) ≡ pick (leb a (getD l (at + i) 0)) (pos d) (negsuc d)
-      → widest (code (pos m)) a (take (n - i) (drop (at + i) l))
-      ≡ widest (code (pos (most m d))) a (take (n - (i + 1)) (drop (at + (i + 1)) l))
-  unfolding widest
-  widest-next m a d e =
-      let c = ap (most (code (pos m))) (code-gap a (getD l (at + i) 0) d e) ∙ code-most m d in
-      rw (part-next l at n i h room) (ap (λ (k : ℕ). widest k a (take (n - (i + 1)) (drop (at + (i + 1)) l))) c)
+  pub refs-code-next : (m a d : ℕ) → gap a (getD l (at + i) 0) ≡ pick (leb a (getD l (at + i) 0)) (pos d) (negsuc d)
+      → refs-code (width-code (pos m)) a (take (n - i) (drop (at + i) l))
+      ≡ refs-code (width-code (pos (max m d))) a (take (n - (i + 1)) (drop (at + (i + 1)) l))
+  unfolding refs-code
+  refs-code-next m a d e =
+      let c = ap (max (width-code (pos m))) (code-gap a (getD l (at + i) 0) d e) ∙ code-max m d in
+      rw (slice-next l at n i h in-bounds) (ap (λ (k : ℕ). refs-code k a (take (n - (i + 1)) (drop (at + (i + 1)) l))) c)
 
   -- as a reference
-  pub links-next : (w a : ℕ) → links w a (take (n - i) (drop (at + i) l))
-      ≡ be w (complement (gap a (getD l (at + i) 0))) ++ links w a (take (n - (i + 1)) (drop (at + (i + 1)) l))
-  unfolding links
-  links-next w a = rw (part-next l at n i h room)
+  pub encode-ref-list-next : (w a : ℕ) → encode-ref-list w a (take (n - i) (drop (at + i) l))
+      ≡ be w (twos-complement (gap a (getD l (at + i) 0))) ++ encode-ref-list w a (take (n - (i + 1)) (drop (at + (i + 1)) l))
+  unfolding encode-ref-list
+  encode-ref-list-next w a = rw (slice-next l at n i h in-bounds)

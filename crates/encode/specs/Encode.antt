@@ -22,9 +22,9 @@ unfoldable pub gap : ℕ → ℕ → ℤ
 gap from to = pick (leb from to) (pos ((to - from) / 4)) (negsuc ((from - to - 1) / 4))
 
 -- a signed number in two's complement, of 64 bits: its lowest n bytes are the number in any n bytes that hold it
-unfoldable pub complement : ℤ → ℕ
-complement (pos n) = n
-complement (negsuc n) = 2 ^ 64 - suc n
+unfoldable pub twos-complement : ℤ → ℕ
+twos-complement (pos n) = n
+twos-complement (negsuc n) = 2 ^ 64 - suc n
 
 -- whether n bytes hold a signed number: it lies in - 256 ^ n / 2 to 256 ^ n / 2 - 1
 unfoldable pub fits : ℕ → ℤ → Bool
@@ -32,19 +32,19 @@ fits n (pos m) = ltb (m + m) (256 ^ n)
 fits n (negsuc m) = ltb (m + m) (256 ^ n)
 
 -- the least width code that holds it: 0 byte, 1 short, 2 int, 3 long
-unfoldable pub code : ℤ → ℕ
-code g = pick (fits 1 g) 0 (pick (fits 2 g) 1 (pick (fits 4 g) 2 3))
+unfoldable pub width-code : ℤ → ℕ
+width-code g = pick (fits 1 g) 0 (pick (fits 2 g) 1 (pick (fits 4 g) 2 3))
 
 -- the greater of two
-abbrev pub most : ℕ → ℕ → ℕ
-most a b = pick (leb a b) b a
+abbrev pub max : ℕ → ℕ → ℕ
+max a b = pick (leb a b) b a
 
 -- the greatest of the width code m and those of references, of a record at the address a
-unfoldable pub widest : ℕ → ℕ → List ℕ → ℕ
-widest m a [] = m
-widest m a (r ∷ rs) = widest (most m (code (gap a r))) a rs
+unfoldable pub refs-code : ℕ → ℕ → List ℕ → ℕ
+refs-code m a [] = m
+refs-code m a (r ∷ rs) = refs-code (max m (width-code (gap a r))) a rs
 
 -- references of w bytes each, of a record at the address a
-unfoldable pub links : ℕ → ℕ → List ℕ → List ℕ
-links w a [] = []
-links w a (r ∷ rs) = be w (complement (gap a r)) ++ links w a rs
+unfoldable pub encode-ref-list : ℕ → ℕ → List ℕ → List ℕ
+encode-ref-list w a [] = []
+encode-ref-list w a (r ∷ rs) = be w (twos-complement (gap a r)) ++ encode-ref-list w a rs

@@ -9,18 +9,18 @@ use native.Mathlib.Decide.{decLe}
 use lib.ListN.{length}
 use lib.Dec.{eqb}
 use borrow.Author.Tests.{le-leb, lt-leb, lt-ltb, ne-eqb}
-use Rattle.decode.specs.Numbers.{value, signed, moved, counted, within}
+use Rattle.decode.specs.Numbers.{value, signed, add-gap, to-count, all-within}
 use Rattle.decode.specs.Layout.{position, raw}
-use Rattle.decode.specs.Fields.{address, reference, count, string}
+use Rattle.decode.specs.Fields.{address, ref-field, count, string}
 use Rattle.decode.specs.declared.Maybe.the-variants.{Just}
-use Rattle.encode.specs.Encode.{be, gap, complement, fits}
-use Rattle.encode.specs.NumberRoundTrip.{length-be, signed-back}
-use Rattle.encode.specs.Reads.{Reads, reads-then, reads-end, reads-skip, reads-yield, reads-held, reads-field, reads-raw, reads-position, reads-check, reads-need}
+use Rattle.encode.specs.Encode.{be, gap, twos-complement, fits}
+use Rattle.encode.specs.NumberRoundTrip.{length-be, signed-be}
+use Rattle.encode.specs.Reads.{Reads, reads-then, reads-end, reads-skip, reads-yield, reads-field-value, reads-field, reads-raw, reads-position, reads-check, reads-need}
 
 -- the gap from one address to another leads there, both being multiples of 4
-pub moved-back : (highest a b : ℕ) → a % 4 ≡ 0 → b % 4 ≡ 0 → b ≤ highest → moved highest a (gap a b) ≡ Just b
-unfolding moved gap
-moved-back highest a b p q t = elim (decLe a b) [
+pub add-gap-gap : (highest a b : ℕ) → a % 4 ≡ 0 → b % 4 ≡ 0 → b ≤ highest → add-gap highest a (gap a b) ≡ Just b
+unfolding add-gap gap
+add-gap-gap highest a b p q t = elim (decLe a b) [
   | yes l ↦
       let e : a + 4 * ((b - a) / 4) ≡ b = omega arith in
       rw (le-leb a b l, e, le-leb b highest t)
@@ -32,31 +32,31 @@ moved-back highest a b p q t = elim (decLe a b) [
       rw (lt-leb a b k, le-leb (4 * suc n) a c, e, le-leb b highest t)
 ]
 
-module _ (p w base highest a : ℕ) (base-fours : base % 4 ≡ 0) (fours : a % 4 ≡ 0) (most : a ≤ highest) (some : 1 ≤ w) (wide : w ≤ 8)
+module _ (p w base highest a : ℕ) (base-aligned : base % 4 ≡ 0) (aligned : a % 4 ≡ 0) (most : a ≤ highest) (some : 1 ≤ w) (wide : w ≤ 8)
     (fit : fits w (gap base a) ≡ true) where
-  pub reads-address : Reads p (address w base highest) (be w (complement (gap base a))) a
+  pub reads-address : Reads p (address w base highest) (be w (twos-complement (gap base a))) a
   unfolding address
   reads-address =
-      let v : ℕ = complement (gap base a) in
-      let back : moved highest base (signed w (value (be w v))) ≡ Just a =
-      rw (signed-back w (gap base a) some wide fit) (moved-back highest base a base-fours fours most) in
-      reads-end p _ _ (be w v) (value (be w v)) a (reads-held p w v) (reads-need _ 8 _ a back)
+      let v : ℕ = twos-complement (gap base a) in
+      let inverse : add-gap highest base (signed w (value (be w v))) ≡ Just a =
+      rw (signed-be w (gap base a) some wide fit) (add-gap-gap highest base a base-aligned aligned most) in
+      reads-end p _ _ (be w v) (value (be w v)) a (reads-field-value p w v) (reads-need _ 8 _ a inverse)
 
-  pub reads-reference : 1 ≤ a → Reads p (reference w base highest) (be w (complement (gap base a))) a
-  unfolding reference
-  reads-reference h =
+  pub reads-ref : 1 ≤ a → Reads p (ref-field w base highest) (be w (twos-complement (gap base a))) a
+  unfolding ref-field
+  reads-ref h =
       let e : not (eqb a 0) ≡ true = rw (ne-eqb a 0 (omega arith)) in
       reads-end p _ _ _ a a reads-address (reads-skip _ _ _ _ tt a (reads-check _ 9 _ e) (reads-yield _ a))
 
 pub reads-count : (p w v : ℕ) → v < 2 ^ 31 → v + v < 256 ^ w → Reads p (count w) (be w v) v
-unfolding count signed counted
+unfolding count signed to-count
 reads-count p w v small fit =
     let l : v < 256 ^ w = omega arith in
-    let e : counted (signed w v) ≡ Just v = rw (lt-ltb (v + v) (256 ^ w) fit, lt-ltb v (2 ^ 31) small) in
+    let e : to-count (signed w v) ≡ Just v = rw (lt-ltb (v + v) (256 ^ w) fit, lt-ltb v (2 ^ 31) small) in
     reads-end p _ _ (be w v) v v (reads-field p w v l) (reads-need _ 12 _ v e)
 
-pub reads-string : (p low least : ℕ) (bs : List ℕ) → least ≤ length bs → length bs < 65536 → within low 0x7E bs ≡ true
-    → Reads p (string low least) (be 2 (length bs) ++ bs) (record { there = true; place = p + 2; len = length bs })
+pub reads-string : (p low least : ℕ) (bs : List ℕ) → least ≤ length bs → length bs < 65536 → all-within low 0x7E bs ≡ true
+    → Reads p (string low least) (be 2 (length bs) ++ bs) (record { present = true; place = p + 2; len = length bs })
 unfolding string
 reads-string p low least bs some short seen =
     let n : ℕ = length bs in

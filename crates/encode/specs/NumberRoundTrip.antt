@@ -1,4 +1,4 @@
--- Numbers that were put as bytes, and read back: unsigned (`value-be`), and signed in two's complement (`signed-back`).
+-- Numbers that were put as bytes, and read back: unsigned (`value-be`), and signed in two's complement (`signed-be`).
 -- Assumes nothing.
 use mathlib.Core.Path.{_≡_, refl, sym, ap, _∙_}
 use Prim.Native.Nat.{ℕ, zero, suc, _+_, _-_, _*_, _/_, _%_, _^_, _≤_, _<_}
@@ -11,7 +11,7 @@ use lib.Pow.{pow-add}
 use lib.IntN.{ℤ, pos, negsuc}
 use borrow.Author.Tests.{lt-ltb, le-ltb, ltb-true}
 use Rattle.decode.specs.Numbers.{value, value-after, signed}
-use Rattle.encode.specs.Encode.{join, be, complement, fits}
+use Rattle.encode.specs.Encode.{join, be, twos-complement, fits}
 
 pub length-be : (n v : ℕ) → length (be n v) ≡ n
 unfolding be
@@ -36,10 +36,10 @@ value-snoc [] a x = refl
 value-snoc (b ∷ bs) a x = value-snoc bs (a * 256 + b) x
 
 -- the lowest n bytes of a number hold what is left of it beyond a multiple of 256 ^ n
-value-low : (n q r : ℕ) → r < 256 ^ n → value (be n (q * 256 ^ n + r)) ≡ r
+value-be-mod : (n q r : ℕ) → r < 256 ^ n → value (be n (q * 256 ^ n + r)) ≡ r
 unfolding be value-after
-value-low zero q r h = omega arith
-value-low (suc n) q r h =
+value-be-mod zero q r h = omega arith
+value-be-mod (suc n) q r h =
     let m : ℕ = q * 256 ^ n in
     let v : ℕ = q * 256 ^ suc n + r in
     let g : r / 256 < 256 ^ n = div-lt-iff-lt-mul {k = 256} {x = r} {y = 256 ^ n} (omega arith) .1 (rw pow-suc at h) in
@@ -47,15 +47,15 @@ value-low (suc n) q r h =
     let e : v ≡ m * 256 + r = rw (p, ← mul-assoc q (256 ^ n) 256) in
     let d : v / 256 ≡ m + r / 256 = omega arith in
     let l : v % 256 ≡ r % 256 = omega arith in
-    value-snoc (be n (v / 256)) 0 (v % 256) ∙ rw (d, l, value-low n q (r / 256) g, div-add-mod' r 256)
+    value-snoc (be n (v / 256)) 0 (v % 256) ∙ rw (d, l, value-be-mod n q (r / 256) g, div-add-mod' r 256)
 
 -- what was put as n bytes is read back, if n bytes hold it
 pub value-be : (n v : ℕ) → v < 256 ^ n → value (be n v) ≡ v
-value-be n v h = let e : 0 * 256 ^ n + v ≡ v = omega arith in rw e at (value-low n 0 v h)
+value-be n v h = let e : 0 * 256 ^ n + v ≡ v = omega arith in rw e at (value-be-mod n 0 v h)
 
 -- a number of 64 bits below 0, as 256 ^ n less it and some whole 256 ^ n
-below : (n m : ℕ) → n ≤ 8 → suc m ≤ 256 ^ n → 2 ^ 64 - suc m ≡ (256 ^ (8 - n) - 1) * 256 ^ n + (256 ^ n - suc m)
-below n m h k =
+complement-split : (n m : ℕ) → n ≤ 8 → suc m ≤ 256 ^ n → 2 ^ 64 - suc m ≡ (256 ^ (8 - n) - 1) * 256 ^ n + (256 ^ n - suc m)
+complement-split n m h k =
     let w : ℕ = 256 ^ n in
     let a : ℕ = 256 ^ (8 - n) in
     let o : 1 ≤ a = one-le-pow (8 - n) 256 (omega arith) in
@@ -66,13 +66,13 @@ below n m h k =
     omega arith
 
 -- A signed number that fits n bytes is read back.
-pub signed-back : (n : ℕ) (g : ℤ) → 1 ≤ n → n ≤ 8 → fits n g ≡ true → signed n (value (be n (complement g))) ≡ g
-unfolding signed complement fits
-signed-back n (pos m) s h f =
+pub signed-be : (n : ℕ) (g : ℤ) → 1 ≤ n → n ≤ 8 → fits n g ≡ true → signed n (value (be n (twos-complement g))) ≡ g
+unfolding signed twos-complement fits
+signed-be n (pos m) s h f =
     let l : m + m < 256 ^ n = ltb-true _ _ f in
     let k : m < 256 ^ n = omega arith in
     rw (value-be n m k, lt-ltb (m + m) (256 ^ n) l)
-signed-back n (negsuc m) s h f =
+signed-be n (negsuc m) s h f =
     let l : m + m < 256 ^ n = ltb-true _ _ f in
     let i : n ≡ suc (n - 1) = omega arith in
     let d : 256 ^ n ≡ 256 ^ (n - 1) * 256 = ap (λ (x : ℕ). 256 ^ x) i ∙ pow-suc 256 (n - 1) in
@@ -81,4 +81,4 @@ signed-back n (negsuc m) s h f =
     let b : v < 256 ^ n = omega arith in
     let t : 256 ^ n ≤ v + v = omega arith in
     let e : 256 ^ n - suc v ≡ m = omega arith in
-    rw (below n m h k, value-low n (256 ^ (8 - n) - 1) v b, le-ltb (v + v) (256 ^ n) t, e)
+    rw (complement-split n m h k, value-be-mod n (256 ^ (8 - n) - 1) v b, le-ltb (v + v) (256 ^ n) t, e)

@@ -8,9 +8,9 @@ use mathlib.Core.Bool.{Bool, true, false}
 use lib.Dec.{leb, ltb}
 use lib.IntN.{ℤ, pos, negsuc}
 use borrow.Author.Tests.{le-leb, lt-leb, lt-ltb, leb-true, ltb-false}
-use Rattle.decode.specs.Numbers.{pick, signed, in-range, moved}
-use Rattle.decode.specs.Values.{in-range-is, counted-is}
-use Rattle.decode.specs.Takes.{Away, CountIn}
+use Rattle.decode.specs.Numbers.{pick, signed, in-range, add-gap}
+use Rattle.decode.specs.Values.{in-range-inv, to-count-inv}
+use Rattle.decode.specs.Takes.{AddressIn, CountIn}
 use Rattle.decode.specs.declared.Maybe.the-variants.{Just, Nothing}
 use Rattle.encode.specs.Encode.{gap, fits}
 
@@ -28,25 +28,25 @@ signed-fits n v = by (ltb (v + v) (256 ^ n)) refl
         lt-ltb (m + m) (256 ^ n) (omega arith)
 
 -- the gap to where a gap leads is that gap
-pub gap-back : (highest base : ℕ) (g : ℤ) (a : ℕ) → moved highest base g ≡ Just a → gap base a ≡ g
-unfolding moved gap
-gap-back highest base (pos n) a h =
-    let e : base + 4 * n ≡ a = in-range-is highest _ a h .0 in
+pub gap-add-gap : (highest base : ℕ) (g : ℤ) (a : ℕ) → add-gap highest base g ≡ Just a → gap base a ≡ g
+unfolding add-gap gap
+gap-add-gap highest base (pos n) a h =
+    let e : base + 4 * n ≡ a = in-range-inv highest _ a h .0 in
     let d : (a - base) / 4 ≡ n = omega arith in
     rw (le-leb base a (omega arith), d)
-gap-back highest base (negsuc n) a h = by (leb (4 * suc n) base) refl h
+gap-add-gap highest base (negsuc n) a h = by (leb (4 * suc n) base) refl h
   where
     by : (b : Bool) → leb (4 * suc n) base ≡ b → pick b (in-range highest (base - 4 * suc n)) Nothing ≡ Just a
         → pick (leb base a) (pos ((a - base) / 4)) (negsuc ((base - a - 1) / 4)) ≡ negsuc n
     by true k g =
         let l : 4 * suc n ≤ base = leb-true _ _ k in
-        let e : base - 4 * suc n ≡ a = in-range-is highest _ a g .0 in
+        let e : base - 4 * suc n ≡ a = in-range-inv highest _ a g .0 in
         let d : (base - a - 1) / 4 ≡ n = omega arith in
         rw (lt-leb base a (omega arith), d)
     by false k g = let z : _≡_ {A = ℕ} 0 1 = cc in absurd (omega arith)
 
-pub away-fits : (w base highest a : ℕ) → Away w base highest a → fits w (gap base a) ≡ true
-away-fits w base highest a x = rw (gap-back highest base (signed w (x .number)) a (x .leads)) (signed-fits w (x .number))
+pub address-gap-fits : (w base highest a : ℕ) → AddressIn w base highest a → fits w (gap base a) ≡ true
+address-gap-fits w base highest a x = rw (gap-add-gap highest base (signed w (x .number)) a (x .address-is)) (signed-fits w (x .number))
 
-pub counted-fits : (w a : ℕ) → CountIn w a → fits w (pos a) ≡ true
-counted-fits w a x = rw (← counted-is (signed w (x .number)) a (x .counts) .0) (signed-fits w (x .number))
+pub count-fits : (w a : ℕ) → CountIn w a → fits w (pos a) ≡ true
+count-fits w a x = rw (← to-count-inv (signed w (x .number)) a (x .counts) .0) (signed-fits w (x .number))

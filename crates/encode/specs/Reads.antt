@@ -57,12 +57,12 @@ unfolding raw
 reads-raw p bs = reads-bytes p (length bs) (λ b. yield b) bs bs refl refl
 
 -- a field gives what its bytes hold: the number put, if they hold it
-pub reads-held : (p w v : ℕ) → Reads p (field w) (be w v) (value (be w v))
+pub reads-field-value : (p w v : ℕ) → Reads p (field w) (be w v) (value (be w v))
 unfolding field
-reads-held p w v = reads-bytes p w (λ b. yield (value b)) (be w v) (value (be w v)) (length-be w v) refl
+reads-field-value p w v = reads-bytes p w (λ b. yield (value b)) (be w v) (value (be w v)) (length-be w v) refl
 
 pub reads-field : (p w v : ℕ) → v < 256 ^ w → Reads p (field w) (be w v) v
-reads-field p w v h = rw (value-be w v h) at (reads-held p w v)
+reads-field p w v h = rw (value-be w v h) at (reads-field-value p w v)
 
 pub reads-position : (p : ℕ) → Reads p position [] p
 unfolding run position

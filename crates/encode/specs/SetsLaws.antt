@@ -7,13 +7,13 @@ use native.Mathlib.Nat.{add-zero}
 use native.Mathlib.Omega.{arith}
 use lib.ListN.{length, set, length-append}
 use lib.Seq.{sets}
-use Rattle.encode.specs.Encode.{gap, complement, links}
+use Rattle.encode.specs.Encode.{gap, twos-complement, encode-ref-list}
 use Rattle.encode.specs.NumberRoundTrip.{length-be}
 
-pub length-links : (w a : ℕ) (rs : List ℕ) → length (links w a rs) ≡ length rs * w
-unfolding links
-length-links w a [] = omega arith
-length-links w a (r ∷ rs) = simp (length-append, length-be w (complement (gap a r)), length-links w a rs) (omega arith)
+pub length-encode-ref-list : (w a : ℕ) (rs : List ℕ) → length (encode-ref-list w a rs) ≡ length rs * w
+unfolding encode-ref-list
+length-encode-ref-list w a [] = omega arith
+length-encode-ref-list w a (r ∷ rs) = simp (length-append, length-be w (twos-complement (gap a r)), length-encode-ref-list w a rs) (omega arith)
 
 -- two lists stored as one: the second after the first
 pub sets-append : (l : List ℕ) (at : ℕ) (xs ys : List ℕ) → sets l at (xs ++ ys) ≡ sets (sets l at xs) (at + length xs) ys

@@ -12,21 +12,21 @@ use lib.IntN.{ℤ, pos, negsuc}
 use borrow.Author.Tests.{le-leb, lt-leb, lt-ltb, ltb-true, leb-true, leb-false}
 use Rattle.decode.specs.Numbers.{pick}
 use Rattle.decode.specs.Values.{pick-either, by-cases}
-use Rattle.encode.specs.Encode.{gap, fits, code, most, widest}
+use Rattle.encode.specs.Encode.{gap, fits, width-code, max, refs-code}
 
 -- ---- what a width holds
 
-more-held : (n m v : ℕ) → n ≤ m → ltb (v + v) (256 ^ n) ≡ true → ltb (v + v) (256 ^ m) ≡ true
-more-held n m v l h =
+ltb-wider : (n m v : ℕ) → n ≤ m → ltb (v + v) (256 ^ n) ≡ true → ltb (v + v) (256 ^ m) ≡ true
+ltb-wider n m v l h =
     let p : 256 ^ n ≤ 256 ^ m = pow-le-pow-right {n = 256} (lit< tt) {i = n} {j = m} l in
     let q : v + v < 256 ^ n = ltb-true _ _ h in
     lt-ltb (v + v) (256 ^ m) (omega arith)
 
 -- a wider field holds it too
-pub fits-more : (n m : ℕ) (g : ℤ) → n ≤ m → fits n g ≡ true → fits m g ≡ true
+pub fits-wider : (n m : ℕ) (g : ℤ) → n ≤ m → fits n g ≡ true → fits m g ≡ true
 unfolding fits
-fits-more n m (pos v) l h = more-held n m v l h
-fits-more n m (negsuc v) l h = more-held n m v l h
+fits-wider n m (pos v) l h = ltb-wider n m v l h
+fits-wider n m (negsuc v) l h = ltb-wider n m v l h
 
 -- any two addresses of n bytes are a gap of n bytes
 pub gap-fits : (n a b : ℕ) → a < 256 ^ n → b < 256 ^ n → fits n (gap a b) ≡ true
@@ -53,91 +53,91 @@ too-narrow g c (suc n) = pick (fits (2 ^ c) g) 0 1 + too-narrow g (suc c) n
 
 module _ (g : ℤ) where
   -- it is at most the next code
-  least-most : (c n : ℕ) → least-code g c n ≤ c + n
-  least-most c zero = omega arith
-  least-most c (suc n) =
-      pick-either (λ k. k ≤ c + suc n) (fits (2 ^ c) g) c (least-code g (suc c) n) (omega arith) (omega (arith, least-most (suc c) n))
+  least-code-le : (c n : ℕ) → least-code g c n ≤ c + n
+  least-code-le c zero = omega arith
+  least-code-le c (suc n) =
+      pick-either (λ k. k ≤ c + suc n) (fits (2 ^ c) g) c (least-code g (suc c) n) (omega arith) (omega (arith, least-code-le (suc c) n))
 
   -- a code whose width holds the number is none whose width does not
   differ : (c k : ℕ) → fits (2 ^ c) g ≡ false → fits (2 ^ k) g ≡ true → c ≡ k → ⊥
   differ c k e h d = let z : _≡_ {A = ℕ} 0 1 = cc in omega arith
 
   -- no code below it has a width that holds the number
-  least-first : (k c n : ℕ) → fits (2 ^ k) g ≡ true → c ≤ k → least-code g c n ≤ k
-  least-first k c zero h l = l
-  least-first k c (suc n) h l =
+  least-code-least : (k c n : ℕ) → fits (2 ^ k) g ≡ true → c ≤ k → least-code g c n ≤ k
+  least-code-least k c zero h l = l
+  least-code-least k c (suc n) h l =
       by-cases (λ t. pick t c (least-code g (suc c) n) ≤ k) (fits (2 ^ c) g) (λ _. l)
-      (λ e. least-first k (suc c) n h (omega (arith, differ c k e h)))
+      (λ e. least-code-least k (suc c) n h (omega (arith, differ c k e h)))
 
   -- its own width holds the number, if that of the next code does where none of these does
-  least-holds : (c n : ℕ) → fits (2 ^ (c + n)) g ≡ true → fits (2 ^ least-code g c n) g ≡ true
-  least-holds c zero h = rw add-zero at h
-  least-holds c (suc n) h =
+  least-code-fits : (c n : ℕ) → fits (2 ^ (c + n)) g ≡ true → fits (2 ^ least-code g c n) g ≡ true
+  least-code-fits c zero h = rw add-zero at h
+  least-code-fits c (suc n) h =
       let e : c + suc n ≡ suc c + n = omega arith in
-      by-cases (λ t. fits (2 ^ pick t c (least-code g (suc c) n)) g ≡ true) (fits (2 ^ c) g) (λ d. d) (λ _. least-holds (suc c) n (rw e at h))
+      by-cases (λ t. fits (2 ^ pick t c (least-code g (suc c) n)) g ≡ true) (fits (2 ^ c) g) (λ d. d) (λ _. least-code-fits (suc c) n (rw e at h))
 
   -- from a code whose width holds the number on, none is too narrow
-  none-narrow : (c n : ℕ) → fits (2 ^ c) g ≡ true → too-narrow g c n ≡ 0
-  none-narrow c zero h = refl
-  none-narrow c (suc n) h = rw h (omega (arith, none-narrow (suc c) n (fits-more (2 ^ c) (2 ^ suc c) g (omega arith) h)))
+  too-narrow-zero : (c n : ℕ) → fits (2 ^ c) g ≡ true → too-narrow g c n ≡ 0
+  too-narrow-zero c zero h = refl
+  too-narrow-zero c (suc n) h = rw h (omega (arith, too-narrow-zero (suc c) n (fits-wider (2 ^ c) (2 ^ suc c) g (omega arith) h)))
 
   -- so the least code is how many are too narrow
-  least-counts : (c n : ℕ) → c + too-narrow g c n ≡ least-code g c n
-  least-counts c zero = omega arith
-  least-counts c (suc n) =
+  least-code-count : (c n : ℕ) → c + too-narrow g c n ≡ least-code g c n
+  least-code-count c zero = omega arith
+  least-code-count c (suc n) =
       by-cases (λ t. c + (pick t 0 1 + too-narrow g (suc c) n) ≡ pick t c (least-code g (suc c) n)) (fits (2 ^ c) g)
-      (λ e. omega (arith, none-narrow c (suc n) e)) (λ _. omega (arith, least-counts (suc c) n))
+      (λ e. omega (arith, too-narrow-zero c (suc n) e)) (λ _. omega (arith, least-code-count (suc c) n))
 
   -- a number's code is the least of 0, 1 and 2 whose width holds it, or 3
-  code-is : code g ≡ least-code g 0 3
-  unfolding code
-  code-is = refl
+  code-least-code : width-code g ≡ least-code g 0 3
+  unfolding width-code
+  code-least-code = refl
 
-  pub code-lt : code g < 4
-  code-lt = omega (arith, code-is, least-most 0 3)
+  pub code-lt : width-code g < 4
+  code-lt = omega (arith, code-least-code, least-code-le 0 3)
 
   -- Where the width of a code holds a number, the number's own code is no greater.
-  pub code-least : (k : ℕ) → fits (2 ^ k) g ≡ true → code g ≤ k
-  code-least k h = rw code-is (least-first k 0 3 h (omega arith))
+  pub code-least : (k : ℕ) → fits (2 ^ k) g ≡ true → width-code g ≤ k
+  code-least k h = rw code-least-code (least-code-least k 0 3 h (omega arith))
 
   -- what 8 bytes hold is held by the width of its code
-  pub code-fits : fits 8 g ≡ true → fits (2 ^ code g) g ≡ true
-  code-fits h = rw code-is (least-holds 0 3 h)
+  pub code-fits : fits 8 g ≡ true → fits (2 ^ width-code g) g ≡ true
+  code-fits h = rw code-least-code (least-code-fits 0 3 h)
 
   -- the code of a number is how many codes have widths that do not hold it
-  pub code-counts : pick (fits 1 g) 0 1 + pick (fits 2 g) 0 1 + pick (fits 4 g) 0 1 ≡ code g
-  code-counts = omega (arith, code-is, least-counts 0 3)
+  pub code-count : pick (fits 1 g) 0 1 + pick (fits 2 g) 0 1 + pick (fits 4 g) 0 1 ≡ width-code g
+  code-count = omega (arith, code-least-code, least-code-count 0 3)
 
 -- and by that of any greater code
-pub code-more : (g : ℤ) (c : ℕ) → code g ≤ c → fits 8 g ≡ true → fits (2 ^ c) g ≡ true
-code-more g c l h = fits-more (2 ^ code g) (2 ^ c) g (pow-le-pow-right {n = 2} (lit< tt) {i = code g} {j = c} l) (code-fits g h)
+pub code-fits-wider : (g : ℤ) (c : ℕ) → width-code g ≤ c → fits 8 g ≡ true → fits (2 ^ c) g ≡ true
+code-fits-wider g c l h = fits-wider (2 ^ width-code g) (2 ^ c) g (pow-le-pow-right {n = 2} (lit< tt) {i = width-code g} {j = c} l) (code-fits g h)
 
 -- ---- the greater of two, and the greatest of all references
 
-pub most-left : (a b : ℕ) → a ≤ most a b
-most-left a b = by-cases (λ t. a ≤ pick t b a) (leb a b) (leb-true a b) (λ _. omega arith)
+pub le-max-left : (a b : ℕ) → a ≤ max a b
+le-max-left a b = by-cases (λ t. a ≤ pick t b a) (leb a b) (leb-true a b) (λ _. omega arith)
 
-pub most-right : (a b : ℕ) → b ≤ most a b
-most-right a b = by-cases (λ t. b ≤ pick t b a) (leb a b) (λ _. omega arith) (λ e. omega (arith, leb-false a b e))
+pub le-max-right : (a b : ℕ) → b ≤ max a b
+le-max-right a b = by-cases (λ t. b ≤ pick t b a) (leb a b) (λ _. omega arith) (λ e. omega (arith, leb-false a b e))
 
-pub most-le : (a b k : ℕ) → a ≤ k → b ≤ k → most a b ≤ k
-most-le a b k p q = pick-either (λ x. x ≤ k) (leb a b) b a q p
+pub max-le : (a b k : ℕ) → a ≤ k → b ≤ k → max a b ≤ k
+max-le a b k p q = pick-either (λ x. x ≤ k) (leb a b) b a q p
 
-pub most-lt : (a b k : ℕ) → a < k → b < k → most a b < k
-most-lt a b k p q = pick-either (λ x. x < k) (leb a b) b a q p
+pub max-lt : (a b k : ℕ) → a < k → b < k → max a b < k
+max-lt a b k p q = pick-either (λ x. x < k) (leb a b) b a q p
 
-pub widest-lt : (m a : ℕ) (rs : List ℕ) → m < 4 → widest m a rs < 4
-unfolding widest
-widest-lt m a [] l = l
-widest-lt m a (r ∷ rs) l = widest-lt (most m (code (gap a r))) a rs (most-lt m (code (gap a r)) 4 l (code-lt (gap a r)))
+pub refs-code-lt : (m a : ℕ) (rs : List ℕ) → m < 4 → refs-code m a rs < 4
+unfolding refs-code
+refs-code-lt m a [] l = l
+refs-code-lt m a (r ∷ rs) l = refs-code-lt (max m (width-code (gap a r))) a rs (max-lt m (width-code (gap a r)) 4 l (code-lt (gap a r)))
 
-pub widest-first : (m a : ℕ) (rs : List ℕ) → m ≤ widest m a rs
-unfolding widest
-widest-first m a [] = omega arith
-widest-first m a (r ∷ rs) =
-    let n : ℕ = most m (code (gap a r)) in
-    let p : m ≤ n = most-left m (code (gap a r)) in
-    let q : n ≤ widest n a rs = widest-first n a rs in
+pub refs-code-ge : (m a : ℕ) (rs : List ℕ) → m ≤ refs-code m a rs
+unfolding refs-code
+refs-code-ge m a [] = omega arith
+refs-code-ge m a (r ∷ rs) =
+    let n : ℕ = max m (width-code (gap a r)) in
+    let p : m ≤ n = le-max-left m (width-code (gap a r)) in
+    let q : n ≤ refs-code n a rs = refs-code-ge n a rs in
     omega arith
 
 -- all references of a record at the address a fit w bytes
@@ -146,18 +146,18 @@ AllFit w a [] = Unit {0}
 AllFit w a (r ∷ rs) = (fits w (gap a r) ≡ true) × AllFit w a rs
 
 -- references that 8 bytes hold are held by the width of the greatest code
-pub widest-fits : (m a : ℕ) (rs : List ℕ) → AllFit 8 a rs → AllFit (2 ^ widest m a rs) a rs
-unfolding widest
-widest-fits m a [] h = tt
-widest-fits m a (r ∷ rs) h =
-    let c : ℕ = code (gap a r) in
-    let n : ℕ = most m c in
-    let p : c ≤ n = most-right m c in
-    let q : n ≤ widest n a rs = widest-first n a rs in
-    (code-more (gap a r) (widest n a rs) (omega arith) (h .0), widest-fits n a rs (h .1))
+pub refs-code-fits : (m a : ℕ) (rs : List ℕ) → AllFit 8 a rs → AllFit (2 ^ refs-code m a rs) a rs
+unfolding refs-code
+refs-code-fits m a [] h = tt
+refs-code-fits m a (r ∷ rs) h =
+    let c : ℕ = width-code (gap a r) in
+    let n : ℕ = max m c in
+    let p : c ≤ n = le-max-right m c in
+    let q : n ≤ refs-code n a rs = refs-code-ge n a rs in
+    (code-fits-wider (gap a r) (refs-code n a rs) (omega arith) (h .0), refs-code-fits n a rs (h .1))
 
 -- and no lesser one holds them
-pub widest-least : (k m a : ℕ) (rs : List ℕ) → m ≤ k → AllFit (2 ^ k) a rs → widest m a rs ≤ k
-unfolding widest
-widest-least k m a [] l h = l
-widest-least k m a (r ∷ rs) l h = widest-least k _ a rs (most-le m _ k l (code-least (gap a r) k (h .0))) (h .1)
+pub refs-code-least : (k m a : ℕ) (rs : List ℕ) → m ≤ k → AllFit (2 ^ k) a rs → refs-code m a rs ≤ k
+unfolding refs-code
+refs-code-least k m a [] l h = l
+refs-code-least k m a (r ∷ rs) l h = refs-code-least k _ a rs (max-le m _ k l (code-least (gap a r) k (h .0))) (h .1)

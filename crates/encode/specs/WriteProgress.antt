@@ -5,37 +5,37 @@ use mathlib.Core.List.{List, [], _∷_, _++_}
 use Prim.Native.Nat.{ℕ}
 use lib.ListN.{getD, drop}
 use Rattle.encode.specs.Encode.{join}
-use Rattle.encode.specs.Writes.{Puts, Room, room-first, Rest, rest-begins, rest-next, rest-room, rest-ends}
+use Rattle.encode.specs.Writes.{Writes, HasCapacity, capacity-first, Remaining, remaining-start, remaining-next, remaining-capacity, remaining-done}
 
 -- Halfway through putting `all` at the place at₀ of an output that was out₀ and has room for it: `parts` are still to be put,
 -- at the place `at` of what the output is by now.
-pub record Partly : Type 0 where
+pub record WriteProgress : Type 0 where
   pub out₀ : List ℕ
   pub at₀ : ℕ
   pub all : List ℕ
   pub out : List ℕ
   pub at : ℕ
   pub parts : List (List ℕ)
-  pub rest : Rest out₀ at₀ all out at (join parts)
-  pub room : Room out₀ at₀ all
+  pub rest : Remaining out₀ at₀ all out at (join parts)
+  pub capacity : HasCapacity out₀ at₀ all
 
 -- none is put yet
-abbrev pub begin : (out : List ℕ) (at : ℕ) {all : List ℕ} (parts : List (List ℕ)) → all ≡ join parts → Room out at all → Partly
-begin out at {all} parts e r =
-    record { out₀ = out; at₀ = at; all = all; out = out; at = at; parts = parts; rest = rw (← e) (rest-begins out at all); room = r }
+abbrev pub progress-start : (out : List ℕ) (at : ℕ) {all : List ℕ} (parts : List (List ℕ)) → all ≡ join parts → HasCapacity out at all → WriteProgress
+progress-start out at {all} parts e r =
+    record { out₀ = out; at₀ = at; all = all; out = out; at = at; parts = parts; rest = rw (← e) (remaining-start out at all); capacity = r }
 
 -- the next part and the others
-pub split : (parts : List (List ℕ)) → join parts ≡ getD parts 0 [] ++ join (drop 1 parts)
-split [] = refl
-split (x ∷ parts) = refl
+pub join-split : (parts : List (List ℕ)) → join parts ≡ getD parts 0 [] ++ join (drop 1 parts)
+join-split [] = refl
+join-split (x ∷ parts) = refl
 
 -- the next part has room
-pub fits : (p : Partly) → Room (p .out) (p .at) (getD (p .parts) 0 [])
-fits p = room-first (p .out) (p .at) (getD (p .parts) 0 []) (join (drop 1 (p .parts))) (rw (split (p .parts)) at (rest-room (p .rest) (p .room)))
+pub next-part-fits : (p : WriteProgress) → HasCapacity (p .out) (p .at) (getD (p .parts) 0 [])
+next-part-fits p = capacity-first (p .out) (p .at) (getD (p .parts) 0 []) (join (drop 1 (p .parts))) (rw (join-split (p .parts)) at (remaining-capacity (p .rest) (p .capacity)))
 
 -- it is put
-abbrev pub next : (p : Partly) {out₁ : List ℕ} {at₁ : ℕ} → Puts (p .out) (p .at) (getD (p .parts) 0 []) out₁ at₁ → Partly
-next p {out₁} {at₁} q =
+abbrev pub progress-next : (p : WriteProgress) {out₁ : List ℕ} {at₁ : ℕ} → Writes (p .out) (p .at) (getD (p .parts) 0 []) out₁ at₁ → WriteProgress
+progress-next p {out₁} {at₁} q =
     record {
       out₀ = p .out₀;
       at₀ = p .at₀;
@@ -43,14 +43,14 @@ next p {out₁} {at₁} q =
       out = out₁;
       at = at₁;
       parts = drop 1 (p .parts);
-      rest = rest-next (rw (split (p .parts)) at (p .rest)) q;
-      room = p .room;
+      rest = remaining-next (rw (join-split (p .parts)) at (p .rest)) q;
+      capacity = p .capacity;
     }
 
 -- what is put is the next part, by an equation
-abbrev pub next-as : (p : Partly) {xs out₁ : List ℕ} {at₁ : ℕ} → Puts (p .out) (p .at) xs out₁ at₁ → getD (p .parts) 0 [] ≡ xs → Partly
-next-as p {out₁ = out₁} {at₁ = at₁} q e = next p {out₁ = out₁} {at₁ = at₁} (rw e q)
+abbrev pub progress-next-eq : (p : WriteProgress) {xs out₁ : List ℕ} {at₁ : ℕ} → Writes (p .out) (p .at) xs out₁ at₁ → getD (p .parts) 0 [] ≡ xs → WriteProgress
+progress-next-eq p {out₁ = out₁} {at₁ = at₁} q e = progress-next p {out₁ = out₁} {at₁ = at₁} (rw e q)
 
 -- none is left
-pub ends : (p : Partly) → p .parts ≡ [] → Puts (p .out₀) (p .at₀) (p .all) (p .out) (p .at)
-ends p e = rest-ends (rw e at (p .rest))
+pub progress-done : (p : WriteProgress) → p .parts ≡ [] → Writes (p .out₀) (p .at₀) (p .all) (p .out) (p .at)
+progress-done p e = remaining-done (rw e at (p .rest))

@@ -8,24 +8,24 @@ ghost use lib.ListN.{length, take, drop};
 ghost use lib.IntN.{pos, negsuc};
 ghost use lib.Dec.{leb};
 ghost use Rattle.decode.specs.Numbers.{pick};
-ghost use Rattle.encode.specs.Writes.{Puts, Room};
-ghost use Rattle.encode.specs.Encode.{be, gap, complement, code, most, widest as widestOf, links};
+ghost use Rattle.encode.specs.Writes.{Writes, HasCapacity};
+ghost use Rattle.encode.specs.Encode.{be, gap, twos-complement, width-code, max, refs-code, encode-ref-list};
 use decode::choice;
 
 // Writes a byte.
-pub fn put_byte(out: &mut [u8], at: usize, b: u8) -> usize
-    requires { ⌜ Room (now out) at (b ∷ []) ⌝ }
-    ensures { λ r. ⌜ Puts (now (out .entry)) at (b ∷ []) (now (out .exit)) r ⌝ }
+pub fn encode_byte(out: &mut [u8], at: usize, b: u8) -> usize
+    requires { ⌜ HasCapacity (now out) at (b ∷ []) ⌝ }
+    ensures { λ r. ⌜ Writes (now (out .entry)) at (b ∷ []) (now (out .exit)) r ⌝ }
 {
     out[at] = b;
     at + 1
 }
 
 // Writes n bytes that are at an offset of others.
-pub fn put_bytes(out: &mut [u8], at: usize, bytes: &[u8], place: usize, n: usize) -> usize
+pub fn encode_slice(out: &mut [u8], at: usize, bytes: &[u8], place: usize, n: usize) -> usize
     requires { ⌜ place + n ≤ length (now bytes) ⌝ }
-    requires { ⌜ Room (now out) at (take n (drop place (now bytes))) ⌝ }
-    ensures { λ r. ⌜ Puts (now (out .entry)) at (take n (drop place (now (bytes .entry)))) (now (out .exit)) r ⌝ }
+    requires { ⌜ HasCapacity (now out) at (take n (drop place (now bytes))) ⌝ }
+    ensures { λ r. ⌜ Writes (now (out .entry)) at (take n (drop place (now (bytes .entry)))) (now (out .exit)) r ⌝ }
 {
     let mut i: usize = 0;
     while i < n {
@@ -36,17 +36,17 @@ pub fn put_bytes(out: &mut [u8], at: usize, bytes: &[u8], place: usize, n: usize
 }
 
 // Writes bytes.
-pub fn put_all(out: &mut [u8], at: usize, bytes: &[u8]) -> usize
-    requires { ⌜ Room (now out) at (now bytes) ⌝ }
-    ensures { λ r. ⌜ Puts (now (out .entry)) at (now (bytes .entry)) (now (out .exit)) r ⌝ }
+pub fn encode_bytes(out: &mut [u8], at: usize, bytes: &[u8]) -> usize
+    requires { ⌜ HasCapacity (now out) at (now bytes) ⌝ }
+    ensures { λ r. ⌜ Writes (now (out .entry)) at (now (bytes .entry)) (now (out .exit)) r ⌝ }
 {
-    put_bytes(out, at, bytes, 0, bytes.len())
+    encode_slice(out, at, bytes, 0, bytes.len())
 }
 
 // Writes the lowest n bytes of a number, whatever n is, one after another.
-fn put_each(out: &mut [u8], at: usize, n: usize, value: u64) -> usize
-    requires { ⌜ Room (now out) at (be n value) ⌝ }
-    ensures { λ r. ⌜ Puts (now (out .entry)) at (be n value) (now (out .exit)) r ⌝ }
+fn encode_any_width(out: &mut [u8], at: usize, n: usize, value: u64) -> usize
+    requires { ⌜ HasCapacity (now out) at (be n value) ⌝ }
+    ensures { λ r. ⌜ Writes (now (out .entry)) at (be n value) (now (out .exit)) r ⌝ }
 {
     let mut rest = value;
     let mut k = n;
@@ -59,60 +59,60 @@ fn put_each(out: &mut [u8], at: usize, n: usize, value: u64) -> usize
 }
 
 // Write the lowest byte, the lowest two and the lowest four.
-fn put1(out: &mut [u8], at: usize, value: u64) -> usize
-    requires { ⌜ Room (now out) at (be 1 value) ⌝ }
-    ensures { λ r. ⌜ Puts (now (out .entry)) at (be 1 value) (now (out .exit)) r ⌝ }
+fn encode_be1(out: &mut [u8], at: usize, value: u64) -> usize
+    requires { ⌜ HasCapacity (now out) at (be 1 value) ⌝ }
+    ensures { λ r. ⌜ Writes (now (out .entry)) at (be 1 value) (now (out .exit)) r ⌝ }
 {
     out[at] = (value % 256) as u8;
     at + 1
 }
 
-fn put2(out: &mut [u8], at: usize, value: u64) -> usize
-    requires { ⌜ Room (now out) at (be 2 value) ⌝ }
-    ensures { λ r. ⌜ Puts (now (out .entry)) at (be 2 value) (now (out .exit)) r ⌝ }
+fn encode_be2(out: &mut [u8], at: usize, value: u64) -> usize
+    requires { ⌜ HasCapacity (now out) at (be 2 value) ⌝ }
+    ensures { λ r. ⌜ Writes (now (out .entry)) at (be 2 value) (now (out .exit)) r ⌝ }
 {
-    let low = put1(out, at, value / 256);
-    put1(out, low, value)
+    let low = encode_be1(out, at, value / 256);
+    encode_be1(out, low, value)
 }
 
-fn put4(out: &mut [u8], at: usize, value: u64) -> usize
-    requires { ⌜ Room (now out) at (be 4 value) ⌝ }
-    ensures { λ r. ⌜ Puts (now (out .entry)) at (be 4 value) (now (out .exit)) r ⌝ }
+fn encode_be4(out: &mut [u8], at: usize, value: u64) -> usize
+    requires { ⌜ HasCapacity (now out) at (be 4 value) ⌝ }
+    ensures { λ r. ⌜ Writes (now (out .entry)) at (be 4 value) (now (out .exit)) r ⌝ }
 {
-    let low = put2(out, at, value / 0x1_0000);
-    put2(out, low, value)
+    let low = encode_be2(out, at, value / 0x1_0000);
+    encode_be2(out, low, value)
 }
 
 // Writes the lowest n bytes of a number, by the width: fields of 1, 2, 4 and 8 bytes at once.
-fn put_width(out: &mut [u8], at: usize, n: usize, value: u64) -> usize
-    requires { ⌜ Room (now out) at (be n value) ⌝ }
-    ensures { λ r. ⌜ Puts (now (out .entry)) at (be n value) (now (out .exit)) r ⌝ }
+fn encode_by_width(out: &mut [u8], at: usize, n: usize, value: u64) -> usize
+    requires { ⌜ HasCapacity (now out) at (be n value) ⌝ }
+    ensures { λ r. ⌜ Writes (now (out .entry)) at (be n value) (now (out .exit)) r ⌝ }
 {
     if n < 2 {
         if n == 1 {
-            return put1(out, at, value);
+            return encode_be1(out, at, value);
         }
         return at;
     }
     if n == 2 {
-        return put2(out, at, value);
+        return encode_be2(out, at, value);
     }
     if n == 4 {
-        return put4(out, at, value);
+        return encode_be4(out, at, value);
     }
     if n == 8 {
-        let low = put4(out, at, value / 0x1_0000_0000);
-        return put4(out, low, value);
+        let low = encode_be4(out, at, value / 0x1_0000_0000);
+        return encode_be4(out, low, value);
     }
-    put_each(out, at, n, value)
+    encode_any_width(out, at, n, value)
 }
 
 // Writes the lowest n bytes of a number, the highest first. The next offset is worked out apart from the branches on the width.
-pub fn put(out: &mut [u8], at: usize, n: usize, value: u64) -> usize
-    requires { ⌜ Room (now out) at (be n value) ⌝ }
-    ensures { λ r. ⌜ Puts (now (out .entry)) at (be n value) (now (out .exit)) r ⌝ }
+pub fn encode_be(out: &mut [u8], at: usize, n: usize, value: u64) -> usize
+    requires { ⌜ HasCapacity (now out) at (be n value) ⌝ }
+    ensures { λ r. ⌜ Writes (now (out .entry)) at (be n value) (now (out .exit)) r ⌝ }
 {
-    put_width(out, at, n, value);
+    encode_by_width(out, at, n, value);
     at + n
 }
 
@@ -127,8 +127,8 @@ fn distance(from: u64, to: u64) -> u64
 }
 
 // A distance up, or down, in two's complement.
-fn directed(up: bool, distance: u64) -> u64
-    ensures { λ r. ⌜ r ≡ complement (pick up (pos distance) (negsuc distance)) ⌝ }
+fn complement_of(up: bool, distance: u64) -> u64
+    ensures { λ r. ⌜ r ≡ twos-complement (pick up (pos distance) (negsuc distance)) ⌝ }
 {
     if up {
         return distance;
@@ -138,28 +138,28 @@ fn directed(up: bool, distance: u64) -> u64
 
 // The gap from one address to another, as the bytes of a field hold it.
 pub fn raw_gap(from: u64, to: u64) -> u64
-    ensures { λ r. ⌜ r ≡ complement (gap from to) ⌝ }
+    ensures { λ r. ⌜ r ≡ twos-complement (gap from to) ⌝ }
 {
-    directed(from <= to, distance(from, to))
+    complement_of(from <= to, distance(from, to))
 }
 
 // The least width code that holds a number, or as far a negative one, from -1 down.
-pub fn code_of(m: u64) -> u64
-    ensures { λ r. ⌜ r ≡ code (pos m) ⌝ }
+pub fn number_code(m: u64) -> u64
+    ensures { λ r. ⌜ r ≡ width-code (pos m) ⌝ }
 {
     choice(0x80 <= m, 1, 0) + choice(0x8000 <= m, 1, 0) + choice(0x8000_0000 <= m, 1, 0)
 }
 
 // The least width code that holds the gap from one address to another.
 pub fn gap_code(from: u64, to: u64) -> u64
-    ensures { λ r. ⌜ r ≡ code (gap from to) ⌝ }
+    ensures { λ r. ⌜ r ≡ width-code (gap from to) ⌝ }
 {
-    code_of(distance(from, to))
+    number_code(distance(from, to))
 }
 
 // The greater of two.
-pub fn greater(a: u64, b: u64) -> u64
-    ensures { λ r. ⌜ r ≡ most a b ⌝ }
+pub fn max(a: u64, b: u64) -> u64
+    ensures { λ r. ⌜ r ≡ max a b ⌝ }
 {
     if a <= b {
         return b;
@@ -168,22 +168,22 @@ pub fn greater(a: u64, b: u64) -> u64
 }
 
 // The least width code that holds count references from a place of the table on, of a record at the address a.
-pub fn widest(refs: &[u64], first: usize, count: usize, a: u64) -> u64
+pub fn refs_code(refs: &[u64], first: usize, count: usize, a: u64) -> u64
     requires { ⌜ first + count ≤ length (now refs) ⌝ }
-    ensures { λ r. ⌜ r ≡ widestOf 0 a (take count (drop first (now (refs .entry)))) ⌝ }
+    ensures { λ r. ⌜ r ≡ refs-code 0 a (take count (drop first (now (refs .entry)))) ⌝ }
 {
     let mut m: u64 = 0;
     let mut i: usize = 0;
     while i < count {
         let to = refs[first + i];
-        m = greater(m, distance(a, to));
+        m = max(m, distance(a, to));
         i += 1;
     }
-    code_of(m)
+    number_code(m)
 }
 
 // Writes count references from a place of the table on, w bytes each, of a record at the address a.
-pub fn put_links(
+pub fn encode_ref_list(
     out: &mut [u8],
     at: usize,
     w: usize,
@@ -193,14 +193,14 @@ pub fn put_links(
     count: usize,
 ) -> usize
     requires { ⌜ first + count ≤ length (now refs) ⌝ }
-    requires { ⌜ Room (now out) at (links w a (take count (drop first (now refs)))) ⌝ }
-    ensures { λ r. ⌜ Puts (now (out .entry)) at (links w a (take count (drop first (now (refs .entry))))) (now (out .exit)) r ⌝ }
+    requires { ⌜ HasCapacity (now out) at (encode-ref-list w a (take count (drop first (now refs)))) ⌝ }
+    ensures { λ r. ⌜ Writes (now (out .entry)) at (encode-ref-list w a (take count (drop first (now (refs .entry))))) (now (out .exit)) r ⌝ }
 {
     let mut to = at;
     let mut i: usize = 0;
     while i < count {
         let r = refs[first + i];
-        to = put(out, to, w, raw_gap(a, r));
+        to = encode_be(out, to, w, raw_gap(a, r));
         i += 1;
     }
     to

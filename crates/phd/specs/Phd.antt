@@ -8,19 +8,19 @@ use lib.ListN.{length, getD, set}
 use lib.Dec.{leb, ltb, eqb}
 use Rattle.decode.specs.Numbers.{pick, both, either}
 use Rattle.decode.specs.Layout.{Layout, yield, refuse, _>>=_, _>>_, position, raw, field, check, need}
-use Rattle.decode.specs.Fields.{exactly, below, address, reference, count, string, no-text}
-use Rattle.decode.specs.declared.Text.{Text}
+use Rattle.decode.specs.Fields.{exactly, below, address, ref-field, count, string, no-string}
+use Rattle.decode.specs.declared.StringSpan.{StringSpan}
 use Rattle.decode.specs.declared.Maybe.{Maybe}
 use Rattle.decode.specs.declared.Maybe.the-variants.{Just, Nothing}
 use Rattle.reader.specs.Reader
 unfoldable pub use Rattle.reader.specs.Reader.{limit, ended}
-pub use Rattle.reader.specs.Reader.{capacity, over, item, go, halt}
+pub use Rattle.reader.specs.Reader.{capacity, end-item, item, go, halt}
 use Rattle.phd.specs.declared.cache.Cache.{Cache}
-use Rattle.phd.specs.declared.Facts.{Facts}
+use Rattle.phd.specs.declared.Header.{Header}
 use Rattle.phd.specs.declared.Form.{Form}
 use Rattle.phd.specs.declared.Form.the-variants.{Short, Medium, Long, Class, ObjectArray, Primitive, LongPrimitive}
-use Rattle.phd.specs.declared.Tagged.{Tagged}
-use Rattle.phd.specs.declared.Tagged.the-variants.{Begins, Other}
+use Rattle.phd.specs.declared.TagForm.{TagForm}
+use Rattle.phd.specs.declared.TagForm.the-variants.{Begins, Other}
 use Rattle.phd.specs.declared.Origin.{Origin}
 use Rattle.phd.specs.declared.Shape.{Shape}
 use Rattle.phd.specs.declared.Front.{Front}
@@ -33,34 +33,34 @@ unfoldable pub bit : ℕ → ℕ → Bool
 bit m x = eqb (x / m % 2) 1
 
 -- addresses, class words and references lie in 0 to 2^W - 1
-unfoldable pub highest : ℕ → ℕ
-highest word = 2 ^ word - 1
+unfoldable pub max-address : ℕ → ℕ
+max-address bits = 2 ^ bits - 1
 
 -- ---- the header
 
-unfoldable pub same : List ℕ → List ℕ → Bool
-same [] [] = true
-same [] (y ∷ ys) = false
-same (x ∷ xs) [] = false
-same (x ∷ xs) (y ∷ ys) = both (eqb x y) (same xs ys)
+unfoldable pub bytes-equal : List ℕ → List ℕ → Bool
+bytes-equal [] [] = true
+bytes-equal [] (y ∷ ys) = false
+bytes-equal (x ∷ xs) [] = false
+bytes-equal (x ∷ xs) (y ∷ ys) = both (eqb x y) (bytes-equal xs ys)
 
 -- `portable heap dump`
-unfoldable pub opening : List ℕ
-opening =
+unfoldable pub magic : List ℕ
+magic =
     0x70 ∷ 0x6F ∷ 0x72 ∷ 0x74 ∷ 0x61 ∷ 0x62 ∷ 0x6C ∷ 0x65 ∷ 0x20 ∷ 0x68 ∷ 0x65 ∷ 0x61 ∷ 0x70 ∷ 0x20 ∷ 0x64 ∷ 0x75 ∷ 0x6D ∷ 0x70 ∷ []
 
 -- its bytes, without the length before them
-unfoldable pub opening-bytes : Layout (Unit {0})
-opening-bytes = do
+unfoldable pub magic-bytes : Layout (Unit {0})
+magic-bytes = do
   text ← raw 18
-  check 3 (same text opening)
+  check 3 (bytes-equal text magic)
 
 -- The opening string, the version, the flags and the byte 1; the flags are what is handed on. (`exactly n v r` is a field of
 -- n bytes that must be v, else the reply r; of `below n v r` it must be below v.)
 unfoldable pub preamble : Layout ℕ
 preamble = do
   exactly 2 18 3
-  opening-bytes
+  magic-bytes
   exactly 4 6 4
   flags ← below 4 8 5
   exactly 1 1 6
@@ -74,51 +74,51 @@ after-vm = do
   check 6 (eqb tag 2)
 
 -- the header records and the byte 2 that ends them: none, or one VM string
-unfoldable pub header-records : Layout Text
+unfoldable pub header-records : Layout StringSpan
 header-records = do
   tag ← field 1
-  pick (eqb tag 2) (yield no-text) (pick (eqb tag 4) (do
+  pick (eqb tag 2) (yield no-string) (pick (eqb tag 4) (do
     vm ← string 0x20 0
     after-vm
     yield vm) (refuse 6))
 
-unfoldable pub header-facts : ℕ → Text → Facts
-header-facts flags vm = record { word = pick (bit 1 flags) 64 32; hashed = bit 2 flags; openj9 = bit 4 flags; vm = vm }
+unfoldable pub make-header : ℕ → StringSpan → Header
+make-header flags vm = record { bits = pick (bit 1 flags) 64 32; hashed = bit 2 flags; openj9 = bit 4 flags; vm = vm }
 
-unfoldable pub header : Layout Facts
+unfoldable pub header : Layout Header
 header = do
   flags ← preamble
   vm ← header-records
   exactly 1 2 6
-  yield (header-facts flags vm)
+  yield (make-header flags vm)
 
 -- the facts before both bytes 2 are read
-unfoldable pub no-facts : Facts
-no-facts = record { word = 0; hashed = false; openj9 = false; vm = no-text }
+unfoldable pub empty-header : Header
+empty-header = record { bits = 0; hashed = false; openj9 = false; vm = no-string }
 
 -- ---- the cache of classes: four slots, filled in turn, 0, 1, 2, 3, 0 and on
 
 -- What slot i holds after the class words ws were put, the last of them first: the last whose number, from 0, is i modulo 4, if there is
--- one. So it is of the cache that follows (`ClassCache.slot-in-turn`), in every reading (phd_read, `ReadTheorems.slots-in-turn`).
-unfoldable pub in-turn : List ℕ → ℕ → Maybe
-in-turn [] i = Nothing
-in-turn (w ∷ ws) i = pick (eqb (length ws % 4) i) (Just w) (in-turn ws i)
+-- one. So it is of the cache that follows (`ClassCache.slot-push-all`), in every reading (phd_read, `ReadTheorems.slots-before-row`).
+unfoldable pub slot-after : List ℕ → ℕ → Maybe
+slot-after [] i = Nothing
+slot-after (w ∷ ws) i = pick (eqb (length ws % 4) i) (Just w) (slot-after ws i)
 
-unfoldable pub empty : Cache
-empty = record { words = 0 ∷ 0 ∷ 0 ∷ 0 ∷ []; puts = 0 }
+unfoldable pub empty-cache : Cache
+empty-cache = record { classes = 0 ∷ 0 ∷ 0 ∷ 0 ∷ []; pushes = 0 }
 
 -- `puts` counts what was put, up to 7 and then 4 to 7 over and over: the next slot is puts % 4.
-unfoldable pub put : Cache → ℕ → Cache
-put c w = record { words = set (c .words) (c .puts % 4) w; puts = pick (ltb (c .puts) 7) (c .puts + 1) 4 }
+unfoldable pub push : Cache → ℕ → Cache
+push c w = record { classes = set (c .classes) (c .pushes % 4) w; pushes = pick (ltb (c .pushes) 7) (c .pushes + 1) 4 }
 
 -- the class word in a slot, if it was filled
 unfoldable pub slot : Cache → ℕ → Maybe
-slot c i = pick (ltb i (c .puts)) (Just (getD (c .words) i 0)) Nothing
+slot c i = pick (ltb i (c .pushes)) (Just (getD (c .classes) i 0)) Nothing
 
 -- ---- tags and flag bytes
 
-unfoldable pub tagged : ℕ → Tagged
-tagged t =
+unfoldable pub tag-form : ℕ → TagForm
+tag-form t =
     pick (leb 0x80 t) (Begins Short)
     (pick (leb 0x40 t) (Begins Medium)
     (pick (leb 0x20 t) (Begins Primitive)
@@ -128,13 +128,13 @@ tagged t =
     (pick (eqb t 8) (Begins ObjectArray) Other))))))
 
 -- a tag that begins no record is refused
-unfoldable pub formed : Tagged → Layout Form
-formed (Begins fm) = yield fm
-formed Other = refuse 6
+unfoldable pub need-form : TagForm → Layout Form
+need-form (Begins fm) = yield fm
+need-form Other = refuse 6
 
 -- the class of a short record, out of the slot that its tag names; other forms ask for none
-unfoldable pub known-class : Cache → ℕ → Maybe
-known-class c t = pick (leb 0x80 t) (slot c (t / 0x20 % 4)) (Just 0)
+unfoldable pub slot-class : Cache → ℕ → Maybe
+slot-class c t = pick (leb 0x80 t) (slot c (t / 0x20 % 4)) (Just 0)
 
 -- The moved bit is 0x02, in a class record 0x08; the hashed bit is 0x01, and a class record has none.
 unfoldable pub moved-bit : ℕ → ℕ → Bool
@@ -144,14 +144,14 @@ unfoldable pub hashed-bit : ℕ → ℕ → Bool
 hashed-bit t f = pick (eqb t 6) false (bit 0x01 f)
 
 -- the flag byte, where the form has one, else 0: in an all-hashed dump its bits for hashing are clear
-unfoldable pub flag-byte : Facts → ℕ → Layout ℕ
+unfoldable pub flag-byte : Header → ℕ → Layout ℕ
 flag-byte h t = do
   f ← field (pick (ltb t 0x20) 1 0)
   check 11 (not (both (h .hashed) (either (moved-bit t f) (hashed-bit t f))))
   yield f
 
 -- hash kinds: 0 none, 1 hashed with no stored hash, 2 a stored 32-bit hash, 3 a 16-bit hash
-unfoldable pub hash-kind : Facts → ℕ → ℕ → ℕ
+unfoldable pub hash-kind : Header → ℕ → ℕ → ℕ
 hash-kind h t f = pick (h .hashed) 3 (pick (moved-bit t f) 2 (pick (hashed-bit t f) 1 0))
 
 unfoldable pub hash-bytes : ℕ → ℕ
@@ -164,18 +164,18 @@ unfoldable pub width : ℕ → ℕ
 width c = 2 ^ c
 
 -- the numbers of a shape in their order, for the table below
-abbrev pub shaped : ℕ → ℕ → ℕ → ℕ → ℕ → ℕ → ℕ → ℕ → ℕ → ℕ → ℕ → ℕ → Bool → ℕ → Shape
-shaped kind gap word len inst superclass name counted count link size truelen cached prim = record {
+abbrev pub make-shape : ℕ → ℕ → ℕ → ℕ → ℕ → ℕ → ℕ → ℕ → ℕ → ℕ → ℕ → ℕ → Bool → ℕ → Shape
+make-shape kind gap class len inst superclass name countwidth count refwidth size truelen cached prim = record {
   kind = kind;
   gap = gap;
-  word = word;
+  class = class;
   len = len;
   inst = inst;
   superclass = superclass;
   name = name;
-  counted = counted;
+  countwidth = countwidth;
   count = count;
-  link = link;
+  refwidth = refwidth;
   size = size;
   truelen = truelen;
   cached = cached;
@@ -186,14 +186,14 @@ shaped kind gap word len inst superclass name counted count link size truelen ca
 -- t / 0x20 % 4 is the two bits 0x60. The columns: kind; bytes of gap, class word, array length, instance size,
 -- superclass word, name length, count; the count in the tag; bytes of a reference, of size and true length; cached; type.
 unfoldable pub shape : ℕ → Form → ℕ → ℕ → Shape
-shape w Short t f = shaped 2 (width (t / 0x04 % 2)) 0 0 0 0 0 0 (t / 0x08 % 4) (width (t % 4)) 0 0 false 0
-shape w Medium t f = shaped 2 (width (t / 0x04 % 2)) w 0 0 0 0 0 (t / 0x08 % 8) (width (t % 4)) 0 0 true 0
-shape w Long t f = shaped 2 (width (f / 0x40 % 4)) w 0 0 0 0 4 0 (width (f / 0x10 % 4)) 0 0 true 0
-shape w Class t f = shaped 1 (width (f / 0x40 % 4)) 0 0 4 w 2 4 0 (width (f / 0x10 % 4)) 0 0 false 0
-shape w ObjectArray t f = shaped 3 (width (f / 0x40 % 4)) w 0 0 0 0 4 0 (width (f / 0x10 % 4)) 4 4 false 0
-shape w Primitive t f = shaped 4 (width (t % 4)) 0 (width (t % 4)) 0 0 0 0 0 0 4 0 false (t / 0x04 % 8)
+shape w Short t f = make-shape 2 (width (t / 0x04 % 2)) 0 0 0 0 0 0 (t / 0x08 % 4) (width (t % 4)) 0 0 false 0
+shape w Medium t f = make-shape 2 (width (t / 0x04 % 2)) w 0 0 0 0 0 (t / 0x08 % 8) (width (t % 4)) 0 0 true 0
+shape w Long t f = make-shape 2 (width (f / 0x40 % 4)) w 0 0 0 0 4 0 (width (f / 0x10 % 4)) 0 0 true 0
+shape w Class t f = make-shape 1 (width (f / 0x40 % 4)) 0 0 4 w 2 4 0 (width (f / 0x10 % 4)) 0 0 false 0
+shape w ObjectArray t f = make-shape 3 (width (f / 0x40 % 4)) w 0 0 0 0 4 0 (width (f / 0x10 % 4)) 4 4 false 0
+shape w Primitive t f = make-shape 4 (width (t % 4)) 0 (width (t % 4)) 0 0 0 0 0 0 4 0 false (t / 0x04 % 8)
 shape w LongPrimitive t f =
-    shaped 4 (pick (bit 0x10 f) w 1) 0 (pick (bit 0x10 f) w 1) 0 0 0 0 0 0 4 0 false (f / 0x20 % 8)
+    make-shape 4 (pick (bit 0x10 f) w 1) 0 (pick (bit 0x10 f) w 1) 0 0 0 0 0 0 4 0 false (f / 0x20 % 8)
 
 -- ---- one record
 
@@ -201,9 +201,9 @@ shape w LongPrimitive t f =
 unfoldable pub front : ℕ → ℕ → Shape → Layout Front
 front top before sh = do
   a ← address (sh .gap) before top
-  word ← field (sh .word)
+  class ← field (sh .class)
   len ← count (sh .len)
-  yield (record { address = a; word = word; len = len })
+  yield (record { address = a; class = class; len = len })
 
 -- a class's instance size, the hash of hb bytes and the superclass word
 unfoldable pub middle : Shape → ℕ → Layout Middle
@@ -214,30 +214,30 @@ middle sh hb = do
   yield (record { inst = inst; hash = hash; superclass = superclass })
 
 -- a class's name, 1 to 65,535 bytes, each 0x21 to 0x7E
-unfoldable pub class-name : ℕ → Layout Text
-class-name n = pick (eqb n 0) (yield no-text) (string 0x21 1)
+unfoldable pub class-name : ℕ → Layout StringSpan
+class-name n = pick (eqb n 0) (yield no-string) (string 0x21 1)
 
 -- how many references: in the tag, or counted in a field of its own
-unfoldable pub link-count : ℕ → ℕ → Layout ℕ
-link-count n known = pick (eqb n 0) (yield known) (count n)
+unfoldable pub ref-count : ℕ → ℕ → Layout ℕ
+ref-count n tagcount = pick (eqb n 0) (yield tagcount) (count n)
 
 -- n references of w bytes each, of a record at the address a
-unfoldable pub references : ℕ → ℕ → ℕ → ℕ → Layout (List ℕ)
-references w a top zero = yield []
-references w a top (suc n) = do
-  r ← reference w a top
-  rs ← references w a top n
+unfoldable pub ref-list : ℕ → ℕ → ℕ → ℕ → Layout (List ℕ)
+ref-list w a top zero = yield []
+ref-list w a top (suc n) = do
+  r ← ref-field w a top
+  rs ← ref-list w a top n
   yield (r ∷ rs)
 
 -- references with where they stand
-pub record Links : Type 0 where
+pub record SpannedRefs : Type 0 where
   pub span : Span
   pub list : List ℕ
 
-unfoldable pub links : ℕ → ℕ → ℕ → ℕ → Layout Links
-links w a top n = do
+unfoldable pub spanned-refs : ℕ → ℕ → ℕ → ℕ → Layout SpannedRefs
+spanned-refs w a top n = do
   p ← position
-  rs ← references w a top n
+  rs ← ref-list w a top n
   yield (record { span = record { place = p; width = w; count = n }; list = rs })
 
 -- a true length is at least the count of references
@@ -254,36 +254,36 @@ tail size truelen n = do
   yield (record { size = z; truelen = t })
 
 -- the value of a field of w bytes, where there is one, else the other
-unfoldable pub there : ℕ → ℕ → ℕ → ℕ
-there w v other = pick (eqb w 0) other v
+unfoldable pub field-or : ℕ → ℕ → ℕ → ℕ
+field-or w v other = pick (eqb w 0) other v
 
 -- The row: kind, address, class word, hash kind, hash, first reference's index, reference count, size, length, name
 -- place, name length, primitive type, offset of the record. `known` is the class of a short record.
-unfoldable pub row : Origin → ℕ → ℕ → Shape → Front → Middle → Text → ℕ → Tail → List ℕ
+unfoldable pub row : Origin → ℕ → ℕ → Shape → Front → Middle → StringSpan → ℕ → Tail → List ℕ
 row origin hk known sh v m name n t =
-    sh .kind ∷ v .address ∷ there (sh .word) (v .word) (there (sh .superclass) (m .superclass) known) ∷ hk ∷ m .hash
-    ∷ origin .index ∷ n ∷ there (sh .inst) (m .inst) (t .size) ∷ there (sh .truelen) (t .truelen) (v .len)
+    sh .kind ∷ v .address ∷ field-or (sh .class) (v .class) (field-or (sh .superclass) (m .superclass) known) ∷ hk ∷ m .hash
+    ∷ origin .index ∷ n ∷ field-or (sh .inst) (m .inst) (t .size) ∷ field-or (sh .truelen) (t .truelen) (v .len)
     ∷ name .place ∷ name .len ∷ sh .prim ∷ origin .offset ∷ []
 
 -- What is carried from record to record: the address of the record before, and the cache.
-pub record Before : Type 0 where
+pub record RecordContext : Type 0 where
   pub address : ℕ
   pub cache : Cache
 
-abbrev pub carried : ℕ → Cache → Before
-carried a c = record { address = a; cache = c }
+abbrev pub make-context : ℕ → Cache → RecordContext
+make-context a c = record { address = a; cache = c }
 
 -- What comes next: the end tag, or a record with its row, its references, where they are, and its address and the cache after it.
 abbrev pub Item : Type 0
-Item = Reader.Item Span Before
+Item = Reader.Item Span RecordContext
 
 -- the fields from the reference count on, and the record whole
-unfoldable pub linked : ℕ → Cache → Origin → ℕ → ℕ → Shape → Front → Middle → Text → Layout Item
-linked top c origin known hk sh v m name = do
-  n ← link-count (sh .counted) (sh .count)
-  ls ← links (sh .link) (v .address) top n
+unfoldable pub from-ref-count : ℕ → Cache → Origin → ℕ → ℕ → Shape → Front → Middle → StringSpan → Layout Item
+from-ref-count top c origin known hk sh v m name = do
+  n ← ref-count (sh .countwidth) (sh .count)
+  ls ← spanned-refs (sh .refwidth) (v .address) top n
   t ← tail (sh .size) (sh .truelen) n
-  yield (item (row origin hk known sh v m name n t) (ls .list) (ls .span) (carried (v .address) (pick (sh .cached) (put c (v .word)) c)))
+  yield (item (row origin hk known sh v m name n t) (ls .list) (ls .span) (make-context (v .address) (pick (sh .cached) (push c (v .class)) c)))
 
 -- the fields after the tag and the flag byte, in file order
 unfoldable pub fields : ℕ → ℕ → Cache → Origin → ℕ → ℕ → Shape → Layout Item
@@ -291,42 +291,42 @@ fields top before c origin known hk sh = do
   v ← front top before sh
   m ← middle sh (hash-bytes hk)
   name ← class-name (sh .name)
-  linked top c origin known hk sh v m name
+  from-ref-count top c origin known hk sh v m name
 
 -- a record behind its tag t
-unfoldable pub record-of : Facts → ℕ → Cache → Origin → ℕ → Layout Item
-record-of h before c origin t = do
-  fm ← formed (tagged t)
-  known ← need 10 (known-class c t)
+unfoldable pub record-body : Header → ℕ → Cache → Origin → ℕ → Layout Item
+record-body h before c origin t = do
+  fm ← need-form (tag-form t)
+  known ← need 10 (slot-class c t)
   f ← flag-byte h t
-  fields (highest (h .word)) before c origin known (hash-kind h t f) (shape (h .word / 8) fm t f)
+  fields (max-address (h .bits)) before c origin known (hash-kind h t f) (shape (h .bits / 8) fm t f)
 
 -- the end tag, or a record whole
-unfoldable pub from-tag : Facts → ℕ → Cache → Origin → Layout Item
+unfoldable pub from-tag : Header → ℕ → Cache → Origin → Layout Item
 from-tag h before c origin = do
   t ← field 1
-  pick (eqb t 3) (yield over) (record-of h before c origin t)
+  pick (eqb t 3) (yield end-item) (record-body h before c origin t)
 
 -- what stands at the place reached, with `index` references before it
-unfoldable pub entry : Facts → ℕ → Cache → ℕ → Layout Item
+unfoldable pub entry : Header → ℕ → Cache → ℕ → Layout Item
 entry h before c index = do
   offset ← position
   from-tag h before c (record { offset = offset; index = index })
 
 -- ---- a reading
 
--- The format: the reading of its dumps, and what holds of any format's, are those of `reader`.
-abbrev pub beginning : Before
-beginning = carried 0 empty
+-- The format: the reading of its dumps, and what holds of any format's, are those of `read-result`.
+abbrev pub initial-context : RecordContext
+initial-context = make-context 0 empty-cache
 
 abbrev pub phd : Reader.Format
 phd = record {
-  Facts = Facts;
-  Context = Before;
+  Header = Header;
+  Context = RecordContext;
   Note = Span;
   header = header;
-  no-facts = no-facts;
-  start = λ _. beginning;
+  empty-header = empty-header;
+  start = λ _. initial-context;
   entry = λ h k. entry h (k .address) (k .cache);
 }
 
@@ -337,22 +337,22 @@ State = Reader.State phd
 abbrev pub Result : Type 0
 Result = Reader.Result phd
 
-abbrev pub Next : Type 0
-Next = Reader.Next phd
+abbrev pub Transition : Type 0
+Transition = Reader.Transition phd
 
 -- one record of a dump; record after record; the state before the first record; a reading that stops before the records
-abbrev pub step : Facts → List ℕ → ℕ → ℕ → State → Next
+abbrev pub step : Header → List ℕ → ℕ → ℕ → State → Transition
 step h s R F = Reader.step phd h s (Reader.capacity R F)
 
-abbrev pub records : ℕ → Facts → List ℕ → ℕ → ℕ → State → Result
+abbrev pub records : ℕ → Header → List ℕ → ℕ → ℕ → State → Result
 records f h s R F = Reader.records phd f h s (Reader.capacity R F)
 
-abbrev pub first : ℕ → State
-first = Reader.first phd beginning
+abbrev pub initial-state : ℕ → State
+initial-state = Reader.initial-state phd initial-context
 
-abbrev pub nothing : ℕ → ℕ → Result
-nothing = Reader.nothing phd
+abbrev pub no-records : ℕ → ℕ → Result
+no-records = Reader.no-records phd
 
 -- What reading the bytes s gives, with R numbers of room for rows and F for references.
-abbrev pub reading : List ℕ → ℕ → ℕ → Result
-reading s R F = Reader.reading phd s (Reader.capacity R F)
+abbrev pub read-result : List ℕ → ℕ → ℕ → Result
+read-result s R F = Reader.read-result phd s (Reader.capacity R F)

@@ -8,44 +8,44 @@ use native.Mathlib.Nat.{pow-le-pow-right, one-le-pow, mul-le-mul-left, mul-one}
 use native.Mathlib.Omega.{arith}
 use lib.Dec.{leb, ltb, eqb}
 use Rattle.decode.specs.Numbers.{pick}
-use Rattle.decode.specs.Values.{one-most}
+use Rattle.decode.specs.Values.{bit-le-one}
 use Rattle.table.specs.declared.Row.{Row}
-use Rattle.phd.specs.Phd.{bit, tagged, width, shape, hash-bytes}
+use Rattle.phd.specs.Phd.{bit, tag-form, width, shape, hash-bytes}
 use Rattle.phd.specs.declared.Shape.{Shape}
 use Rattle.phd.specs.declared.Form.{Form}
 use Rattle.phd.specs.declared.Form.the-variants.{Short, Medium, Long, Class, ObjectArray, Primitive, LongPrimitive}
-use Rattle.phd.specs.declared.Tagged.the-variants.{Begins, Other}
+use Rattle.phd.specs.declared.TagForm.the-variants.{Begins, Other}
 
 -- W is 32 or 64
-abbrev pub Word : ℕ → Type 0
-Word w = (w ≡ 32) ⊎ (w ≡ 64)
+abbrev pub ValidBits : ℕ → Type 0
+ValidBits w = (w ≡ 32) ⊎ (w ≡ 64)
 
 -- a word has a byte at least
-pub word-some : (w : ℕ) → Word w → eqb (w / 8) 0 ≡ false
-word-some w (inl e) = rw e
-word-some w (inr e) = rw e
+pub bits-bytes-nonzero : (w : ℕ) → ValidBits w → eqb (w / 8) 0 ≡ false
+bits-bytes-nonzero w (inl e) = rw e
+bits-bytes-nonzero w (inr e) = rw e
 
 -- the tests by which a tag begins a record of a form
-abbrev pub TagOf : Form → ℕ → Type 0
-TagOf Short t = leb 0x80 t ≡ true
-TagOf Medium t = (leb 0x80 t ≡ false) × (leb 0x40 t ≡ true)
-TagOf Primitive t = (leb 0x80 t ≡ false) × (leb 0x20 t ≡ true)
-TagOf Long t = (leb 0x80 t ≡ false) × (eqb t 4 ≡ true)
-TagOf Class t = (leb 0x80 t ≡ false) × (eqb t 6 ≡ true)
-TagOf LongPrimitive t = (leb 0x80 t ≡ false) × (eqb t 7 ≡ true)
-TagOf ObjectArray t = (leb 0x80 t ≡ false) × (eqb t 8 ≡ true)
+abbrev pub TagMatches : Form → ℕ → Type 0
+TagMatches Short t = leb 0x80 t ≡ true
+TagMatches Medium t = (leb 0x80 t ≡ false) × (leb 0x40 t ≡ true)
+TagMatches Primitive t = (leb 0x80 t ≡ false) × (leb 0x20 t ≡ true)
+TagMatches Long t = (leb 0x80 t ≡ false) × (eqb t 4 ≡ true)
+TagMatches Class t = (leb 0x80 t ≡ false) × (eqb t 6 ≡ true)
+TagMatches LongPrimitive t = (leb 0x80 t ≡ false) × (eqb t 7 ≡ true)
+TagMatches ObjectArray t = (leb 0x80 t ≡ false) × (eqb t 8 ≡ true)
 
-pub tag-of-form : (t : ℕ) (fm : Form) → tagged t ≡ Begins fm → TagOf fm t
-unfolding tagged
-tag-of-form t fm e = by _ _ _ _ _ _ _ refl refl refl refl refl refl refl e
+pub tag-matches : (t : ℕ) (fm : Form) → tag-form t ≡ Begins fm → TagMatches fm t
+unfolding tag-form
+tag-matches t fm e = by _ _ _ _ _ _ _ refl refl refl refl refl refl refl e
   where
-    is : {a : Form} → TagOf a t → Begins a ≡ Begins fm → TagOf fm t
-    is {a} p d = let z : a ≡ fm = cc in subst (λ (x : Form). TagOf x t) z p
+    is : {a : Form} → TagMatches a t → Begins a ≡ Begins fm → TagMatches fm t
+    is {a} p d = let z : a ≡ fm = cc in subst (λ (x : Form). TagMatches x t) z p
 
     by : (a b c d e f g : Bool) → leb 0x80 t ≡ a → leb 0x40 t ≡ b → leb 0x20 t ≡ c → eqb t 4 ≡ d → eqb t 6 ≡ e → eqb t 7 ≡ f → eqb t 8 ≡ g
         → pick a (Begins Short) (pick b (Begins Medium) (pick c (Begins Primitive) (pick d (Begins Long) (pick e (Begins Class)
         (pick f (Begins LongPrimitive) (pick g (Begins ObjectArray) Other)))))) ≡ Begins fm
-        → TagOf fm t
+        → TagMatches fm t
     by true b c d e f g p q r s u v w x = is {a = Short} p x
     by false true c d e f g p q r s u v w x = is {a = Medium} (p, q) x
     by false false true d e f g p q r s u v w x = is {a = Primitive} (p, r) x
@@ -56,66 +56,66 @@ tag-of-form t fm e = by _ _ _ _ _ _ _ refl refl refl refl refl refl refl e
     by false false false false false false false p q r s u v w x = let z : _≡_ {A = ℕ} 0 1 = cc in absurd (omega arith)
 
 -- every field that is read as a number has at most 8 bytes
-pub record Narrow (sh : Shape) : Type 0 where
+pub record WidthsLe8 (sh : Shape) : Type 0 where
   pub gap : sh .gap ≤ 8
-  pub word : sh .word ≤ 8
+  pub class : sh .class ≤ 8
   pub len : sh .len ≤ 8
   pub inst : sh .inst ≤ 8
   pub superclass : sh .superclass ≤ 8
   pub name : sh .name ≤ 8
-  pub counted : sh .counted ≤ 8
-  pub link : sh .link ≤ 8
+  pub countwidth : sh .countwidth ≤ 8
+  pub refwidth : sh .refwidth ≤ 8
   pub size : sh .size ≤ 8
   pub truelen : sh .truelen ≤ 8
 
 -- a greater width code stands for no fewer bytes, and the greatest for 8
-pub width-grows : (c k : ℕ) → c ≤ k → width c ≤ width k
+pub width-mono : (c k : ℕ) → c ≤ k → width c ≤ width k
 unfolding width
-width-grows c k h = pow-le-pow-right {n = 2} (omega arith) {i = c} {j = k} h
+width-mono c k h = pow-le-pow-right {n = 2} (omega arith) {i = c} {j = k} h
 
-pub width-le : (c : ℕ) → c < 4 → width c ≤ 8
+pub width-le-8 : (c : ℕ) → c < 4 → width c ≤ 8
 unfolding width
-width-le c h = width-grows c 3 (omega arith)
+width-le-8 c h = width-mono c 3 (omega arith)
 
 pick-le : (b : Bool) (w : ℕ) → w ≤ 8 → pick b w 1 ≤ 8
 pick-le true w h = h
 pick-le false w h = omega arith
 
-pub shape-narrow : (w : ℕ) (fm : Form) (t f : ℕ) → w ≤ 8 → Narrow (shape w fm t f)
+pub shape-widths-le-8 : (w : ℕ) (fm : Form) (t f : ℕ) → w ≤ 8 → WidthsLe8 (shape w fm t f)
 unfolding shape
-shape-narrow w Short t f h =
-    let g : width (t / 0x04 % 2) ≤ 8 = width-le _ (omega arith) in
-    let l : width (t % 4) ≤ 8 = width-le _ (omega arith) in
+shape-widths-le-8 w Short t f h =
+    let g : width (t / 0x04 % 2) ≤ 8 = width-le-8 _ (omega arith) in
+    let l : width (t % 4) ≤ 8 = width-le-8 _ (omega arith) in
     omega arith
-shape-narrow w Medium t f h =
-    let g : width (t / 0x04 % 2) ≤ 8 = width-le _ (omega arith) in
-    let l : width (t % 4) ≤ 8 = width-le _ (omega arith) in
+shape-widths-le-8 w Medium t f h =
+    let g : width (t / 0x04 % 2) ≤ 8 = width-le-8 _ (omega arith) in
+    let l : width (t % 4) ≤ 8 = width-le-8 _ (omega arith) in
     omega arith
-shape-narrow w Long t f h =
-    let g : width (f / 0x40 % 4) ≤ 8 = width-le _ (omega arith) in
-    let l : width (f / 0x10 % 4) ≤ 8 = width-le _ (omega arith) in
+shape-widths-le-8 w Long t f h =
+    let g : width (f / 0x40 % 4) ≤ 8 = width-le-8 _ (omega arith) in
+    let l : width (f / 0x10 % 4) ≤ 8 = width-le-8 _ (omega arith) in
     omega arith
-shape-narrow w Class t f h =
-    let g : width (f / 0x40 % 4) ≤ 8 = width-le _ (omega arith) in
-    let l : width (f / 0x10 % 4) ≤ 8 = width-le _ (omega arith) in
+shape-widths-le-8 w Class t f h =
+    let g : width (f / 0x40 % 4) ≤ 8 = width-le-8 _ (omega arith) in
+    let l : width (f / 0x10 % 4) ≤ 8 = width-le-8 _ (omega arith) in
     omega arith
-shape-narrow w ObjectArray t f h =
-    let g : width (f / 0x40 % 4) ≤ 8 = width-le _ (omega arith) in
-    let l : width (f / 0x10 % 4) ≤ 8 = width-le _ (omega arith) in
+shape-widths-le-8 w ObjectArray t f h =
+    let g : width (f / 0x40 % 4) ≤ 8 = width-le-8 _ (omega arith) in
+    let l : width (f / 0x10 % 4) ≤ 8 = width-le-8 _ (omega arith) in
     omega arith
-shape-narrow w Primitive t f h = let g : width (t % 4) ≤ 8 = width-le _ (omega arith) in omega arith
-shape-narrow w LongPrimitive t f h = let g : pick (bit 0x10 f) w 1 ≤ 8 = pick-le (bit 0x10 f) w h in omega arith
+shape-widths-le-8 w Primitive t f h = let g : width (t % 4) ≤ 8 = width-le-8 _ (omega arith) in omega arith
+shape-widths-le-8 w LongPrimitive t f h = let g : pick (bit 0x10 f) w 1 ≤ 8 = pick-le (bit 0x10 f) w h in omega arith
 
 -- a reference has at most 8 bytes, whatever W is
-pub link-narrow : (w : ℕ) (fm : Form) (t f : ℕ) → shape w fm t f .link ≤ 8
+pub ref-width-le-8 : (w : ℕ) (fm : Form) (t f : ℕ) → shape w fm t f .refwidth ≤ 8
 unfolding shape
-link-narrow w Short t f = width-le _ (omega arith)
-link-narrow w Medium t f = width-le _ (omega arith)
-link-narrow w Long t f = width-le _ (omega arith)
-link-narrow w Class t f = width-le _ (omega arith)
-link-narrow w ObjectArray t f = width-le _ (omega arith)
-link-narrow w Primitive t f = omega arith
-link-narrow w LongPrimitive t f = omega arith
+ref-width-le-8 w Short t f = width-le-8 _ (omega arith)
+ref-width-le-8 w Medium t f = width-le-8 _ (omega arith)
+ref-width-le-8 w Long t f = width-le-8 _ (omega arith)
+ref-width-le-8 w Class t f = width-le-8 _ (omega arith)
+ref-width-le-8 w ObjectArray t f = width-le-8 _ (omega arith)
+ref-width-le-8 w Primitive t f = omega arith
+ref-width-le-8 w LongPrimitive t f = omega arith
 
 pick-hash : (a b : Bool) → pick a 4 (pick b 2 0) ≤ 4
 pick-hash true b = omega arith
@@ -123,12 +123,12 @@ pick-hash false true = omega arith
 pick-hash false false = omega arith
 
 -- a hash has four bytes at most
-hash-most : (k : ℕ) → hash-bytes k ≤ 4
+hash-bytes-le-4 : (k : ℕ) → hash-bytes k ≤ 4
 unfolding hash-bytes
-hash-most k = pick-hash (eqb k 2) (eqb k 3)
+hash-bytes-le-4 k = pick-hash (eqb k 2) (eqb k 3)
 
-pub hash-narrow : (k : ℕ) → hash-bytes k ≤ 8
-hash-narrow k = omega (arith, hash-most k)
+pub hash-bytes-le-8 : (k : ℕ) → hash-bytes k ≤ 8
+hash-bytes-le-8 k = omega (arith, hash-bytes-le-4 k)
 
 -- ---- the bytes of a record
 
@@ -137,49 +137,49 @@ hash-narrow k = omega (arith, hash-most k)
 unfoldable pub record-bytes : ℕ → Shape → Row → ℕ
 record-bytes t sh r =
     1 + pick (ltb t 0x20) 1 0
-    + (sh .gap + sh .word + sh .len)
+    + (sh .gap + sh .class + sh .len)
     + (sh .inst + hash-bytes (r .hashkind) + sh .superclass)
     + (sh .name + r .namelen)
-    + (sh .counted + r .count * sh .link)
+    + (sh .countwidth + r .count * sh .refwidth)
     + (sh .size + sh .truelen)
 
 -- a width has a byte at least
-width-some : (c : ℕ) → 1 ≤ width c
+width-positive : (c : ℕ) → 1 ≤ width c
 unfolding width
-width-some c = one-le-pow c 2 (omega arith)
+width-positive c = one-le-pow c 2 (omega arith)
 
 -- references of a width, one byte at least for each and eight at most
-refs-bytes : (c k : ℕ) → c < 4 → (k ≤ k * width c) × (k * width c ≤ k * 8)
-refs-bytes c k l = (let p = mul-le-mul-left k (width-some c) in omega (arith, mul-one k), mul-le-mul-left k (width-le c l))
+refs-bytes-bounds : (c k : ℕ) → c < 4 → (k ≤ k * width c) × (k * width c ≤ k * 8)
+refs-bytes-bounds c k l = (let p = mul-le-mul-left k (width-positive c) in omega (arith, mul-one k), mul-le-mul-left k (width-le-8 c l))
 
 -- A record has two bytes at least, its tag and its gap, and one for each reference. (Its count is in a field, or else in the shape.)
-pub record-least : (w : ℕ) (fm : Form) (t f : ℕ) (r : Row) → (shape w fm t f .counted ≡ 0 → r .count ≡ shape w fm t f .count)
+pub record-bytes-ge : (w : ℕ) (fm : Form) (t f : ℕ) (r : Row) → (shape w fm t f .countwidth ≡ 0 → r .count ≡ shape w fm t f .count)
     → 2 + r .count ≤ record-bytes t (shape w fm t f) r
 unfolding shape record-bytes
-record-least w Short t f r e = omega (arith, width-some (t / 0x04 % 2), refs-bytes (t % 4) (r .count) (omega arith) .0)
-record-least w Medium t f r e = omega (arith, width-some (t / 0x04 % 2), refs-bytes (t % 4) (r .count) (omega arith) .0)
-record-least w Long t f r e = omega (arith, refs-bytes (f / 0x10 % 4) (r .count) (omega arith) .0)
-record-least w Class t f r e = omega (arith, refs-bytes (f / 0x10 % 4) (r .count) (omega arith) .0)
-record-least w ObjectArray t f r e = omega (arith, refs-bytes (f / 0x10 % 4) (r .count) (omega arith) .0)
-record-least w Primitive t f r e = omega (arith, e refl)
-record-least w LongPrimitive t f r e = omega (arith, e refl)
+record-bytes-ge w Short t f r e = omega (arith, width-positive (t / 0x04 % 2), refs-bytes-bounds (t % 4) (r .count) (omega arith) .0)
+record-bytes-ge w Medium t f r e = omega (arith, width-positive (t / 0x04 % 2), refs-bytes-bounds (t % 4) (r .count) (omega arith) .0)
+record-bytes-ge w Long t f r e = omega (arith, refs-bytes-bounds (f / 0x10 % 4) (r .count) (omega arith) .0)
+record-bytes-ge w Class t f r e = omega (arith, refs-bytes-bounds (f / 0x10 % 4) (r .count) (omega arith) .0)
+record-bytes-ge w ObjectArray t f r e = omega (arith, refs-bytes-bounds (f / 0x10 % 4) (r .count) (omega arith) .0)
+record-bytes-ge w Primitive t f r e = omega (arith, e refl)
+record-bytes-ge w LongPrimitive t f r e = omega (arith, e refl)
 
 -- And it has 34 at most beside its name, and eight for each reference: an object array with a long gap, a long word and an int hash.
-pub record-most : (w : ℕ) (fm : Form) (t f : ℕ) (r : Row) → w ≤ 8 → record-bytes t (shape w fm t f) r ≤ 34 + r .namelen + r .count * 8
+pub record-bytes-le : (w : ℕ) (fm : Form) (t f : ℕ) (r : Row) → w ≤ 8 → record-bytes t (shape w fm t f) r ≤ 34 + r .namelen + r .count * 8
 unfolding shape record-bytes
-record-most w fm t f r h = by fm
+record-bytes-le w fm t f r h = by fm
   where
     flag : pick (ltb t 0x20) 1 0 ≤ 1
-    flag = one-most (ltb t 0x20)
+    flag = bit-le-one (ltb t 0x20)
 
     hash : hash-bytes (r .hashkind) ≤ 4
-    hash = hash-most (r .hashkind)
+    hash = hash-bytes-le-4 (r .hashkind)
 
     by : (fm : Form) → record-bytes t (shape w fm t f) r ≤ 34 + r .namelen + r .count * 8
-    by Short = omega (arith, flag, hash, width-le (t / 0x04 % 2) (omega arith), refs-bytes (t % 4) (r .count) (omega arith) .1)
-    by Medium = omega (arith, flag, hash, width-le (t / 0x04 % 2) (omega arith), refs-bytes (t % 4) (r .count) (omega arith) .1)
-    by Long = omega (arith, flag, hash, width-le (f / 0x40 % 4) (omega arith), refs-bytes (f / 0x10 % 4) (r .count) (omega arith) .1)
-    by Class = omega (arith, flag, hash, width-le (f / 0x40 % 4) (omega arith), refs-bytes (f / 0x10 % 4) (r .count) (omega arith) .1)
-    by ObjectArray = omega (arith, flag, hash, width-le (f / 0x40 % 4) (omega arith), refs-bytes (f / 0x10 % 4) (r .count) (omega arith) .1)
-    by Primitive = omega (arith, flag, hash, width-le (t % 4) (omega arith))
+    by Short = omega (arith, flag, hash, width-le-8 (t / 0x04 % 2) (omega arith), refs-bytes-bounds (t % 4) (r .count) (omega arith) .1)
+    by Medium = omega (arith, flag, hash, width-le-8 (t / 0x04 % 2) (omega arith), refs-bytes-bounds (t % 4) (r .count) (omega arith) .1)
+    by Long = omega (arith, flag, hash, width-le-8 (f / 0x40 % 4) (omega arith), refs-bytes-bounds (f / 0x10 % 4) (r .count) (omega arith) .1)
+    by Class = omega (arith, flag, hash, width-le-8 (f / 0x40 % 4) (omega arith), refs-bytes-bounds (f / 0x10 % 4) (r .count) (omega arith) .1)
+    by ObjectArray = omega (arith, flag, hash, width-le-8 (f / 0x40 % 4) (omega arith), refs-bytes-bounds (f / 0x10 % 4) (r .count) (omega arith) .1)
+    by Primitive = omega (arith, flag, hash, width-le-8 (t % 4) (omega arith))
     by LongPrimitive = omega (arith, flag, hash, pick-le (bit 0x10 f) w h)

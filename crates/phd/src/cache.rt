@@ -2,52 +2,52 @@
 ghost use mathlib.Core.Path.{_≡_};
 ghost use Prim.Native.Nat.{_<_};
 ghost use Rattle.decode.specs.Numbers.{pick};
-ghost use Rattle.phd.specs.Phd.{empty, put as putIn, slot as slotOf};
+ghost use Rattle.phd.specs.Phd.{empty-cache, push as pushOf, slot as slotOf};
 use decode::Maybe;
 
 // The last four class words, and how many were put: 0 to 7, where 4 to 7 stand for any count that is as much above a
 // multiple of 4.
 pub struct Cache {
-    pub words: [u64; 4],
-    pub puts: usize,
+    pub classes: [u64; 4],
+    pub pushes: usize,
 }
 
 impl Cache {
     pub fn new() -> Self
-        ensures { λ r. ⌜ r ≡ empty ⌝ }
+        ensures { λ r. ⌜ r ≡ empty-cache ⌝ }
     {
         Cache {
-            words: [0; 4],
-            puts: 0,
+            classes: [0; 4],
+            pushes: 0,
         }
     }
 
     // A class word in the next slot.
-    pub fn put(self, word: u64) -> Self
-        ensures { λ r. ⌜ r ≡ putIn self word ⌝ }
+    pub fn push(self, class: u64) -> Self
+        ensures { λ r. ⌜ r ≡ pushOf self class ⌝ }
     {
-        let puts = self.puts;
-        let at = puts % 4;
-        let mut words = self.words;
-        words[at] = word;
-        if puts < 7 {
+        let pushes = self.pushes;
+        let at = pushes % 4;
+        let mut classes = self.classes;
+        classes[at] = class;
+        if pushes < 7 {
             return Cache {
-                words: words,
-                puts: puts + 1,
+                classes: classes,
+                pushes: pushes + 1,
             };
         }
         Cache {
-            words: words,
-            puts: 4,
+            classes: classes,
+            pushes: 4,
         }
     }
 
     // The cache after a record, which puts its class word or does not.
-    pub fn after(self, puts: bool, word: u64) -> Self
-        ensures { λ r. ⌜ r ≡ pick puts (putIn self word) self ⌝ }
+    pub fn push_if(self, cached: bool, class: u64) -> Self
+        ensures { λ r. ⌜ r ≡ pick cached (pushOf self class) self ⌝ }
     {
-        if puts {
-            return self.put(word);
+        if cached {
+            return self.push(class);
         }
         self
     }
@@ -57,9 +57,9 @@ impl Cache {
         requires { ⌜ i < 4 ⌝ }
         ensures { λ r. ⌜ r ≡ slotOf self i ⌝ }
     {
-        if i < self.puts {
-            let words = self.words;
-            Maybe::Just(words[i])
+        if i < self.pushes {
+            let classes = self.classes;
+            Maybe::Just(classes[i])
         } else {
             Maybe::Nothing
         }

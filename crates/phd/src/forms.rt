@@ -4,16 +4,16 @@ ghost use Prim.Native.Nat.{_<_, _≤_};
 ghost use lib.ListN.{length};
 ghost use Rattle.decode.specs.Layout.{run};
 ghost use Rattle.decode.specs.Fields.{outcome};
-ghost use Rattle.phd.specs.Phd.{bit as bitOf, width, highest, tagged as taggedOf, known-class, moved-bit, hashed-bit, flag-byte, hash-kind, hash-bytes, shaped as shapedOf, shape, there as thereOf};
+ghost use Rattle.phd.specs.Phd.{bit as bitOf, width, max-address, tag-form, slot-class, moved-bit, hashed-bit, flag-byte, hash-kind, hash-bytes, make-shape, shape, field-or};
 ghost use Rattle.decode.specs.Numbers.{pick};
-ghost use Rattle.phd.specs.Shapes.{Word};
+ghost use Rattle.phd.specs.Shapes.{ValidBits};
 use super::Cache;
-use super::Facts;
 use super::Form;
+use super::Header;
 use super::Shape;
-use super::Tagged;
+use super::TagForm;
 use decode::Maybe;
-use decode::Piece;
+use decode::NumberRead;
 use decode::Stop;
 
 // Whether the bit of the value m is set.
@@ -33,47 +33,47 @@ pub fn width_of(code: u64) -> usize
 }
 
 // The highest address, by W.
-pub fn highest_of(word: u64) -> u64
-    requires { ⌜ Word word ⌝ }
-    ensures { λ r. ⌜ r ≡ highest word ⌝ }
+pub fn max_address_of(bits: u64) -> u64
+    requires { ⌜ ValidBits bits ⌝ }
+    ensures { λ r. ⌜ r ≡ max-address bits ⌝ }
 {
-    if word == 64 {
+    if bits == 64 {
         return 0xFFFF_FFFF_FFFF_FFFF;
     }
     0xFFFF_FFFF
 }
 
 // The form that a tag begins.
-pub fn tagged(tag: u64) -> Tagged
-    ensures { λ r. ⌜ r ≡ taggedOf tag ⌝ }
+pub fn tag_form(tag: u64) -> TagForm
+    ensures { λ r. ⌜ r ≡ tag-form tag ⌝ }
 {
     if 0x80 <= tag {
-        return Tagged::Begins(Form::Short);
+        return TagForm::Begins(Form::Short);
     }
     if 0x40 <= tag {
-        return Tagged::Begins(Form::Medium);
+        return TagForm::Begins(Form::Medium);
     }
     if 0x20 <= tag {
-        return Tagged::Begins(Form::Primitive);
+        return TagForm::Begins(Form::Primitive);
     }
     if tag == 4 {
-        return Tagged::Begins(Form::Long);
+        return TagForm::Begins(Form::Long);
     }
     if tag == 6 {
-        return Tagged::Begins(Form::Class);
+        return TagForm::Begins(Form::Class);
     }
     if tag == 7 {
-        return Tagged::Begins(Form::LongPrimitive);
+        return TagForm::Begins(Form::LongPrimitive);
     }
     if tag == 8 {
-        return Tagged::Begins(Form::ObjectArray);
+        return TagForm::Begins(Form::ObjectArray);
     }
-    Tagged::Other
+    TagForm::Other
 }
 
 // The class of a short record, out of the slot that its tag names.
-pub fn known(cache: Cache, tag: u64) -> Maybe
-    ensures { λ r. ⌜ r ≡ known-class cache tag ⌝ }
+pub fn slot_class_of(cache: Cache, tag: u64) -> Maybe
+    ensures { λ r. ⌜ r ≡ slot-class cache tag ⌝ }
 {
     if 0x80 <= tag {
         let i = (tag / 0x20 % 4) as usize;
@@ -103,34 +103,34 @@ fn is_hashed(tag: u64, flags: u64) -> bool
 }
 
 // The flag byte, where the tag's form has one.
-pub fn flags(s: &[u8], at: usize, facts: Facts, tag: u64) -> Piece
+pub fn read_flag_byte(s: &[u8], at: usize, header: Header, tag: u64) -> NumberRead
     requires { ⌜ at ≤ length (now s) ⌝ }
-    ensures { λ r. ⌜ outcome r ≡ run (flag-byte facts tag) (now (s .entry)) at ⌝ }
+    ensures { λ r. ⌜ outcome r ≡ run (flag-byte header tag) (now (s .entry)) at ⌝ }
 {
     if 0x20 <= tag {
-        return Piece::Is(0, at);
+        return NumberRead::Is(0, at);
     }
     match decode::field(s, at, 1) {
-        Piece::Is(f, next) => {
-            if facts.hashed {
+        NumberRead::Is(f, next) => {
+            if header.hashed {
                 if is_moved(tag, f) {
-                    return Piece::Stops(Stop::Refused(11));
+                    return NumberRead::Stops(Stop::Refused(11));
                 }
                 if is_hashed(tag, f) {
-                    return Piece::Stops(Stop::Refused(11));
+                    return NumberRead::Stops(Stop::Refused(11));
                 }
             }
-            Piece::Is(f, next)
+            NumberRead::Is(f, next)
         }
-        Piece::Stops(w) => Piece::Stops(w),
+        NumberRead::Stops(w) => NumberRead::Stops(w),
     }
 }
 
 // The hash kind of a record.
-pub fn hash_kind_of(facts: Facts, tag: u64, flags: u64) -> u64
-    ensures { λ r. ⌜ r ≡ hash-kind facts tag flags ⌝ }
+pub fn hash_kind_of(header: Header, tag: u64, flags: u64) -> u64
+    ensures { λ r. ⌜ r ≡ hash-kind header tag flags ⌝ }
 {
-    if facts.hashed {
+    if header.hashed {
         return 3;
     }
     if is_moved(tag, flags) {
@@ -156,8 +156,8 @@ pub fn hash_bytes_of(kind: u64) -> usize
 }
 
 // The value of a field of w bytes, where there is one, else the other.
-pub fn there(w: usize, v: u64, other: u64) -> u64
-    ensures { λ r. ⌜ r ≡ thereOf w v other ⌝ }
+pub fn field_or(w: usize, v: u64, other: u64) -> u64
+    ensures { λ r. ⌜ r ≡ field-or w v other ⌝ }
 {
     if w == 0 {
         return other;
@@ -166,35 +166,35 @@ pub fn there(w: usize, v: u64, other: u64) -> u64
 }
 
 // A shape by its numbers, in the order of the table `shape`.
-fn shaped(
+fn make_shape(
     kind: u64,
     gap: usize,
-    word: usize,
+    class: usize,
     len: usize,
     inst: usize,
     superclass: usize,
     name: usize,
-    counted: usize,
-    count: u64,
-    link: usize,
+    countwidth: usize,
+    tagcount: u64,
+    refwidth: usize,
     size: usize,
     truelen: usize,
     cached: bool,
     prim: u64,
 ) -> Shape
-    ensures { λ r. ⌜ r ≡ shapedOf kind gap word len inst superclass name counted count link size truelen cached prim ⌝ }
+    ensures { λ r. ⌜ r ≡ make-shape kind gap class len inst superclass name countwidth tagcount refwidth size truelen cached prim ⌝ }
 {
     Shape {
         kind: kind,
         gap: gap,
-        word: word,
+        class: class,
         len: len,
         inst: inst,
         superclass: superclass,
         name: name,
-        counted: counted,
-        count: count,
-        link: link,
+        countwidth: countwidth,
+        count: tagcount,
+        refwidth: refwidth,
         size: size,
         truelen: truelen,
         cached: cached,
@@ -203,35 +203,35 @@ fn shaped(
 }
 
 // The bytes of a long primitive array's gap and length: words, or bytes.
-fn long_width(word: usize, flags: u64) -> usize
-    ensures { λ r. ⌜ r ≡ pick (bitOf 0x10 flags) word 1 ⌝ }
+fn long_width(bytes: usize, flags: u64) -> usize
+    ensures { λ r. ⌜ r ≡ pick (bitOf 0x10 flags) bytes 1 ⌝ }
 {
     if bit(0x10, flags) {
-        return word;
+        return bytes;
     }
     1
 }
 
 // How a record is laid out: W in bytes, the form, the tag and the flag byte.
-pub fn shape_of(word: usize, form: Form, tag: u64, flags: u64) -> Shape
-    ensures { λ r. ⌜ r ≡ shape word form tag flags ⌝ }
+pub fn shape_of(bytes: usize, form: Form, tag: u64, flags: u64) -> Shape
+    ensures { λ r. ⌜ r ≡ shape bytes form tag flags ⌝ }
 {
     let gap = width_of(flags / 0x40 % 4);
-    let link = width_of(flags / 0x10 % 4);
+    let refwidth = width_of(flags / 0x10 % 4);
     let low = width_of(tag % 4);
     let near = width_of(tag / 4 % 2);
     let few = tag / 8 % 4;
     let many = tag / 8 % 8;
     match form {
-        Form::Short => shaped(2, near, 0, 0, 0, 0, 0, 0, few, low, 0, 0, false, 0),
-        Form::Medium => shaped(2, near, word, 0, 0, 0, 0, 0, many, low, 0, 0, true, 0),
-        Form::Long => shaped(2, gap, word, 0, 0, 0, 0, 4, 0, link, 0, 0, true, 0),
-        Form::Class => shaped(1, gap, 0, 0, 4, word, 2, 4, 0, link, 0, 0, false, 0),
-        Form::ObjectArray => shaped(3, gap, word, 0, 0, 0, 0, 4, 0, link, 4, 4, false, 0),
-        Form::Primitive => shaped(4, low, 0, low, 0, 0, 0, 0, 0, 0, 4, 0, false, tag / 4 % 8),
+        Form::Short => make_shape(2, near, 0, 0, 0, 0, 0, 0, few, low, 0, 0, false, 0),
+        Form::Medium => make_shape(2, near, bytes, 0, 0, 0, 0, 0, many, low, 0, 0, true, 0),
+        Form::Long => make_shape(2, gap, bytes, 0, 0, 0, 0, 4, 0, refwidth, 0, 0, true, 0),
+        Form::Class => make_shape(1, gap, 0, 0, 4, bytes, 2, 4, 0, refwidth, 0, 0, false, 0),
+        Form::ObjectArray => make_shape(3, gap, bytes, 0, 0, 0, 0, 4, 0, refwidth, 4, 4, false, 0),
+        Form::Primitive => make_shape(4, low, 0, low, 0, 0, 0, 0, 0, 0, 4, 0, false, tag / 4 % 8),
         Form::LongPrimitive => {
-            let w = long_width(word, flags);
-            shaped(4, w, 0, w, 0, 0, 0, 0, 0, 0, 4, 0, false, flags / 0x20 % 8)
+            let w = long_width(bytes, flags);
+            make_shape(4, w, 0, w, 0, 0, 0, 0, 0, 0, 4, 0, false, flags / 0x20 % 8)
         }
     }
 }

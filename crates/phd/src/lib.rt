@@ -1,6 +1,6 @@
 // The portable heap dump: the types that its header and its records are read into, the class cache, tags, flag bytes and
 // shapes. The definition of the format is specs/Phd.antt; the functions here are proved equal to its parts.
-use decode::Text;
+use decode::StringSpan;
 
 pub mod cache;
 pub mod forms;
@@ -9,11 +9,11 @@ pub mod magic;
 pub use cache::Cache;
 
 // What the header says: W (32 or 64), all objects hashed, from OpenJ9, and the VM string.
-pub struct Facts {
-    pub word: u64,
+pub struct Header {
+    pub bits: u64,
     pub hashed: bool,
     pub openj9: bool,
-    pub vm: Text,
+    pub vm: StringSpan,
 }
 
 // The seven forms of a record.
@@ -28,7 +28,7 @@ pub enum Form {
 }
 
 // What a tag begins.
-pub enum Tagged {
+pub enum TagForm {
     Begins(Form),
     Other,
 }
@@ -39,15 +39,15 @@ pub struct Shape {
     pub kind: u64,
     // bytes of the gap, the class word, the array length, the class's instance size, the superclass word
     pub gap: usize,
-    pub word: usize,
+    pub class: usize,
     pub len: usize,
     pub inst: usize,
     pub superclass: usize,
     // bytes of the name's length and of the reference count; the count where the tag has it; bytes of each reference
     pub name: usize,
-    pub counted: usize,
+    pub countwidth: usize,
     pub count: u64,
-    pub link: usize,
+    pub refwidth: usize,
     // bytes of the array's size and of its true length
     pub size: usize,
     pub truelen: usize,
@@ -65,7 +65,7 @@ pub struct Origin {
 // The first numbers of a record: its address, class word and array length.
 pub struct Front {
     pub address: u64,
-    pub word: u64,
+    pub class: u64,
     pub len: u64,
 }
 

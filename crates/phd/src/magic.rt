@@ -2,14 +2,14 @@
 ghost use mathlib.Core.Path.{_≡_};
 ghost use Prim.Native.Nat.{_<_};
 ghost use lib.ListN.{getD};
-ghost use Rattle.phd.specs.Phd.{opening};
+ghost use Rattle.phd.specs.Phd.{magic};
 
-pub const OPENING: [u8; 18] = *b"portable heap dump";
+pub const MAGIC: [u8; 18] = *b"portable heap dump";
 
 // Returns a byte of the opening string.
-pub fn opening_byte(i: usize) -> u8
+pub fn magic_byte(i: usize) -> u8
     requires { ⌜ i < 18 ⌝ }
-    ensures { λ r. ⌜ r ≡ getD opening i 0 ⌝ }
+    ensures { λ r. ⌜ r ≡ getD magic i 0 ⌝ }
 {
-    OPENING[i]
+    MAGIC[i]
 }

@@ -3,15 +3,15 @@
 // with the answer as numbers (specs/Boundary.antt).
 ghost use mathlib.Core.Path.{_≡_};
 ghost use lib.ListN.{length};
-ghost use Rattle.table.specs.Buffer.{stored};
-ghost use Rattle.phd.specs.Phd.{reading};
-ghost use Rattle.phd_read.specs.ReadContract.{answer};
-ghost use Rattle.phd_write.specs.Write.{writing, write-sizing};
-ghost use Rattle.classic.specs.ClassicText.{texting, text-sizing};
-ghost use Rattle.phd_c.specs.Boundary.{flag as flagOf, header as headerOf, read-facts, written-facts};
-use decode::Text;
-use phd_check::Header;
-use phd_read::Reading;
+ghost use Rattle.table.specs.Buffer.{overwrite};
+ghost use Rattle.phd.specs.Phd.{read-result};
+ghost use Rattle.phd_read.specs.ReadContract.{read-answer};
+ghost use Rattle.phd_write.specs.Write.{write-result, write-size-result};
+ghost use Rattle.classic.specs.ClassicText.{text-result, text-size-result};
+ghost use Rattle.phd_c.specs.Boundary.{flag as flagOf, header-from, read-answer-numbers, answer-numbers};
+use decode::StringSpan;
+use phd::Header;
+use phd_read::ReadAnswer;
 use table::Answer;
 
 // A flag as a number.
@@ -25,15 +25,15 @@ fn flag(set: bool) -> u64
 }
 
 // The header that a caller lends as numbers.
-fn header_of(h: &[u64; 6]) -> Header
-    ensures { λ r. ⌜ r ≡ headerOf (now (h .entry)) ⌝ }
+fn header_from(h: &[u64; 6]) -> Header
+    ensures { λ r. ⌜ r ≡ header-from (now (h .entry)) ⌝ }
 {
     Header {
-        word: h[0],
+        bits: h[0],
         hashed: h[1] != 0,
         openj9: h[2] != 0,
-        vm: Text {
-            there: h[3] != 0,
+        vm: StringSpan {
+            present: h[3] != 0,
             place: h[4] as usize,
             len: h[5] as usize,
         },
@@ -41,20 +41,20 @@ fn header_of(h: &[u64; 6]) -> Header
 }
 
 // A reading's answer as numbers.
-fn of_reading(r: Reading) -> [u64; 16]
-    ensures { λ x. ⌜ x ≡ read-facts r ⌝ }
+fn read_answer_numbers(r: ReadAnswer) -> [u64; 16]
+    ensures { λ x. ⌜ x ≡ read-answer-numbers r ⌝ }
 {
-    let f = r.facts;
+    let f = r.header;
     let vm = f.vm;
     [
         r.reply,
         r.place as u64,
         r.rows as u64,
         r.refs as u64,
-        f.word,
+        f.bits,
         flag(f.hashed),
         flag(f.openj9),
-        flag(vm.there),
+        flag(vm.present),
         vm.place as u64,
         vm.len as u64,
         r.missing as u64,
@@ -67,8 +67,8 @@ fn of_reading(r: Reading) -> [u64; 16]
 }
 
 // The answer of a writing, or of asking for its size, as numbers.
-fn of_written(w: Answer) -> [u64; 16]
-    ensures { λ x. ⌜ x ≡ written-facts w ⌝ }
+fn answer_numbers(w: Answer) -> [u64; 16]
+    ensures { λ x. ⌜ x ≡ answer-numbers w ⌝ }
 {
     [
         w.reply,
@@ -96,15 +96,15 @@ pub extern "C" fn phd_read(
     dump: &[u8],
     rows: &mut [u64],
     refs: &mut [u64],
-    facts: &mut [u64; 16],
+    answer: &mut [u64; 16],
 ) -> u64
-    ensures is { λ r. ⌜ r ≡ reading (now (dump .entry)) (length (now (rows .entry))) (length (now (refs .entry))) .reply ⌝ }
-    ensures rows { λ _. ⌜ now (rows .exit) ≡ stored (now (rows .entry)) (reading (now (dump .entry)) (length (now (rows .entry))) (length (now (refs .entry))) .rows) ⌝ }
-    ensures refs { λ _. ⌜ now (refs .exit) ≡ stored (now (refs .entry)) (reading (now (dump .entry)) (length (now (rows .entry))) (length (now (refs .entry))) .refs) ⌝ }
-    ensures facts { λ _. ⌜ now (facts .exit) ≡ read-facts (answer (reading (now (dump .entry)) (length (now (rows .entry))) (length (now (refs .entry))))) ⌝ }
+    ensures is { λ r. ⌜ r ≡ read-result (now (dump .entry)) (length (now (rows .entry))) (length (now (refs .entry))) .reply ⌝ }
+    ensures rows { λ _. ⌜ now (rows .exit) ≡ overwrite (now (rows .entry)) (read-result (now (dump .entry)) (length (now (rows .entry))) (length (now (refs .entry))) .rows) ⌝ }
+    ensures refs { λ _. ⌜ now (refs .exit) ≡ overwrite (now (refs .entry)) (read-result (now (dump .entry)) (length (now (rows .entry))) (length (now (refs .entry))) .refs) ⌝ }
+    ensures answer { λ _. ⌜ now (answer .exit) ≡ read-answer-numbers (read-answer (read-result (now (dump .entry)) (length (now (rows .entry))) (length (now (refs .entry))))) ⌝ }
 {
     let r = phd_read::read(dump, rows, refs);
-    *facts = of_reading(r);
+    *answer = read_answer_numbers(r);
     r.reply
 }
 
@@ -115,13 +115,13 @@ pub extern "C" fn phd_write_size(
     rows: &[u64],
     refs: &[u64],
     names: &[u8],
-    facts: &mut [u64; 16],
+    answer: &mut [u64; 16],
 ) -> u64
-    ensures is { λ r. ⌜ r ≡ write-sizing (headerOf (now (header .entry))) (now (names .entry)) (now (refs .entry)) (now (rows .entry)) .reply ⌝ }
-    ensures facts { λ _. ⌜ now (facts .exit) ≡ written-facts (write-sizing (headerOf (now (header .entry))) (now (names .entry)) (now (refs .entry)) (now (rows .entry))) ⌝ }
+    ensures is { λ r. ⌜ r ≡ write-size-result (header-from (now (header .entry))) (now (names .entry)) (now (refs .entry)) (now (rows .entry)) .reply ⌝ }
+    ensures answer { λ _. ⌜ now (answer .exit) ≡ answer-numbers (write-size-result (header-from (now (header .entry))) (now (names .entry)) (now (refs .entry)) (now (rows .entry))) ⌝ }
 {
-    let w = phd_write::write_size(header_of(header), rows, refs, names);
-    *facts = of_written(w);
+    let w = phd_write::write_size(header_from(header), rows, refs, names);
+    *answer = answer_numbers(w);
     w.reply
 }
 
@@ -133,14 +133,14 @@ pub extern "C" fn phd_write(
     refs: &[u64],
     names: &[u8],
     out: &mut [u8],
-    facts: &mut [u64; 16],
+    answer: &mut [u64; 16],
 ) -> u64
-    ensures is { λ r. ⌜ r ≡ writing (headerOf (now (header .entry))) (now (names .entry)) (now (refs .entry)) (now (rows .entry)) (length (now (out .entry))) .answer .reply ⌝ }
-    ensures out { λ _. ⌜ now (out .exit) ≡ stored (now (out .entry)) (writing (headerOf (now (header .entry))) (now (names .entry)) (now (refs .entry)) (now (rows .entry)) (length (now (out .entry))) .bytes) ⌝ }
-    ensures facts { λ _. ⌜ now (facts .exit) ≡ written-facts (writing (headerOf (now (header .entry))) (now (names .entry)) (now (refs .entry)) (now (rows .entry)) (length (now (out .entry))) .answer) ⌝ }
+    ensures is { λ r. ⌜ r ≡ write-result (header-from (now (header .entry))) (now (names .entry)) (now (refs .entry)) (now (rows .entry)) (length (now (out .entry))) .answer .reply ⌝ }
+    ensures out { λ _. ⌜ now (out .exit) ≡ overwrite (now (out .entry)) (write-result (header-from (now (header .entry))) (now (names .entry)) (now (refs .entry)) (now (rows .entry)) (length (now (out .entry))) .bytes) ⌝ }
+    ensures answer { λ _. ⌜ now (answer .exit) ≡ answer-numbers (write-result (header-from (now (header .entry))) (now (names .entry)) (now (refs .entry)) (now (rows .entry)) (length (now (out .entry))) .answer) ⌝ }
 {
-    let w = phd_write::write(header_of(header), rows, refs, names, out);
-    *facts = of_written(w);
+    let w = phd_write::write(header_from(header), rows, refs, names, out);
+    *answer = answer_numbers(w);
     w.reply
 }
 
@@ -151,13 +151,13 @@ pub extern "C" fn phd_text_size(
     rows: &[u64],
     refs: &[u64],
     names: &[u8],
-    facts: &mut [u64; 16],
+    answer: &mut [u64; 16],
 ) -> u64
-    ensures is { λ r. ⌜ r ≡ text-sizing (headerOf (now (header .entry))) (now (names .entry)) (now (refs .entry)) (now (rows .entry)) .reply ⌝ }
-    ensures facts { λ _. ⌜ now (facts .exit) ≡ written-facts (text-sizing (headerOf (now (header .entry))) (now (names .entry)) (now (refs .entry)) (now (rows .entry))) ⌝ }
+    ensures is { λ r. ⌜ r ≡ text-size-result (header-from (now (header .entry))) (now (names .entry)) (now (refs .entry)) (now (rows .entry)) .reply ⌝ }
+    ensures answer { λ _. ⌜ now (answer .exit) ≡ answer-numbers (text-size-result (header-from (now (header .entry))) (now (names .entry)) (now (refs .entry)) (now (rows .entry))) ⌝ }
 {
-    let w = classic_write::text_size(header_of(header), rows, refs, names);
-    *facts = of_written(w);
+    let w = classic_write::text_size(header_from(header), rows, refs, names);
+    *answer = answer_numbers(w);
     w.reply
 }
 
@@ -169,13 +169,13 @@ pub extern "C" fn phd_text(
     refs: &[u64],
     names: &[u8],
     out: &mut [u8],
-    facts: &mut [u64; 16],
+    answer: &mut [u64; 16],
 ) -> u64
-    ensures is { λ r. ⌜ r ≡ texting (headerOf (now (header .entry))) (now (names .entry)) (now (refs .entry)) (now (rows .entry)) (length (now (out .entry))) .answer .reply ⌝ }
-    ensures out { λ _. ⌜ now (out .exit) ≡ stored (now (out .entry)) (texting (headerOf (now (header .entry))) (now (names .entry)) (now (refs .entry)) (now (rows .entry)) (length (now (out .entry))) .bytes) ⌝ }
-    ensures facts { λ _. ⌜ now (facts .exit) ≡ written-facts (texting (headerOf (now (header .entry))) (now (names .entry)) (now (refs .entry)) (now (rows .entry)) (length (now (out .entry))) .answer) ⌝ }
+    ensures is { λ r. ⌜ r ≡ text-result (header-from (now (header .entry))) (now (names .entry)) (now (refs .entry)) (now (rows .entry)) (length (now (out .entry))) .answer .reply ⌝ }
+    ensures out { λ _. ⌜ now (out .exit) ≡ overwrite (now (out .entry)) (text-result (header-from (now (header .entry))) (now (names .entry)) (now (refs .entry)) (now (rows .entry)) (length (now (out .entry))) .bytes) ⌝ }
+    ensures answer { λ _. ⌜ now (answer .exit) ≡ answer-numbers (text-result (header-from (now (header .entry))) (now (names .entry)) (now (refs .entry)) (now (rows .entry)) (length (now (out .entry))) .answer) ⌝ }
 {
-    let w = classic_write::text(header_of(header), rows, refs, names, out);
-    *facts = of_written(w);
+    let w = classic_write::text(header_from(header), rows, refs, names, out);
+    *answer = answer_numbers(w);
     w.reply
 }

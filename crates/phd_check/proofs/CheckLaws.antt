@@ -9,14 +9,14 @@ use lib.ListN.{length, getD, take, drop}
 use native.Mathlib.Numerals.{add-one}
 use lib.Dec.{leb, ltb, eqb}
 use borrow.Author.Tests.{ltb-true, ltb-false, leb-true, leb-false, eqb-true, eqb-false, lt-ltb, le-ltb, le-leb, lt-leb, ne-eqb}
-use Rattle.decode.specs.Numbers.{pick, both, either, within}
-use Rattle.decode.specs.declared.Text.{Text}
+use Rattle.decode.specs.Numbers.{pick, both, either, all-within}
+use Rattle.decode.specs.declared.StringSpan.{StringSpan}
 use Rattle.table.specs.Table.{row-count}
-use Rattle.phd.specs.Phd.{highest, hash-bytes}
-use Rattle.phd.specs.declared.Facts.{Facts}
-use Rattle.decode.specs.Slices.{part-until}
-use Rattle.table.specs.Rows.{row-at, refs-of, name-of, rows-left, left-next, left-none}
-use Rattle.phd_check.specs.GoodRows.{every, good-vm, good-numbers, good-ref, good-refs, good-row, first-bad}
+use Rattle.phd.specs.Phd.{max-address, hash-bytes}
+use Rattle.phd.specs.declared.Header.{Header}
+use Rattle.decode.specs.Slices.{slice-until}
+use Rattle.table.specs.Rows.{row-at, refs-of, name-of, rows-left, rows-left-next, rows-left-none}
+use Rattle.phd_check.specs.GoodRows.{all-true, good-vm, good-numbers, good-ref, good-refs, good-row, first-bad-from}
 use Rattle.table.specs.declared.Row.{Row}
 use Rattle.table.specs.declared.Search.the-variants.{At, NotFound}
 
@@ -27,25 +27,25 @@ abbrev pub all-of : Bool → List Bool → Bool
 all-of a [] = a
 all-of a (b ∷ bs) = all-of (a && b) bs
 
-none-of : (bs : List Bool) → all-of false bs ≡ false
-none-of [] = refl
-none-of (b ∷ bs) = none-of bs
+all-of-false : (bs : List Bool) → all-of false bs ≡ false
+all-of-false [] = refl
+all-of-false (b ∷ bs) = all-of-false bs
 
-pub joined : (a : Bool) (bs : List Bool) → all-of a bs ≡ every (a ∷ bs)
-unfolding every
-joined true [] = refl
-joined false [] = refl
-joined true (b ∷ bs) = joined b bs
-joined false (b ∷ bs) = none-of bs
+pub all-of-all-true : (a : Bool) (bs : List Bool) → all-of a bs ≡ all-true (a ∷ bs)
+unfolding all-true
+all-of-all-true true [] = refl
+all-of-all-true false [] = refl
+all-of-all-true true (b ∷ bs) = all-of-all-true b bs
+all-of-all-true false (b ∷ bs) = all-of-false bs
 
 -- one of the tests fails
-pub fails-at : (bs : List Bool) (i : ℕ) → getD bs i true ≡ false → every bs ≡ false
-unfolding every
-fails-at [] i e = e
-fails-at (true ∷ bs) zero e = let z : _≡_ {A = ℕ} 0 1 = cc in absurd (omega arith)
-fails-at (false ∷ bs) zero e = refl
-fails-at (true ∷ bs) (suc i) e = fails-at bs i e
-fails-at (false ∷ bs) (suc i) e = refl
+pub all-true-false : (bs : List Bool) (i : ℕ) → getD bs i true ≡ false → all-true bs ≡ false
+unfolding all-true
+all-true-false [] i e = e
+all-true-false (true ∷ bs) zero e = let z : _≡_ {A = ℕ} 0 1 = cc in absurd (omega arith)
+all-true-false (false ∷ bs) zero e = refl
+all-true-false (true ∷ bs) (suc i) e = all-true-false bs i e
+all-true-false (false ∷ bs) (suc i) e = refl
 
 both-true : (b : Bool) → b ≡ both b true
 both-true true = refl
@@ -102,34 +102,34 @@ hash-none k v n = by (ltb k 2) refl
 
 -- ---- the VM string, where there is one
 
-module _ (names : List ℕ) (t : Text) (there : t .there ≡ true) where
-  pub vm-long : 65536 ≤ t .len → false ≡ good-vm names t
+module _ (names : List ℕ) (t : StringSpan) (there : t .present ≡ true) where
+  pub vm-too-long : 65536 ≤ t .len → false ≡ good-vm names t
   unfolding good-vm
-  vm-long h = rw there (sym (fails-at _ 0 (le-ltb _ _ h)))
+  vm-too-long h = rw there (sym (all-true-false _ 0 (le-ltb _ _ h)))
 
-  pub vm-out : length names < t .place + t .len → false ≡ good-vm names t
+  pub vm-out-of-bounds : length names < t .place + t .len → false ≡ good-vm names t
   unfolding good-vm
-  vm-out h = rw there (sym (fails-at _ 1 (lt-leb _ _ h)))
+  vm-out-of-bounds h = rw there (sym (all-true-false _ 1 (lt-leb _ _ h)))
 
-  pub vm-bytes : t .len < 65536 → t .place + t .len ≤ length names → within 0x20 0x7E (take (t .len) (drop (t .place) names)) ≡ good-vm names t
-  unfolding good-vm every
-  vm-bytes h k = rw (there, lt-ltb _ _ h, le-leb _ _ k) (both-true _)
+  pub vm-by-bytes : t .len < 65536 → t .place + t .len ≤ length names → all-within 0x20 0x7E (take (t .len) (drop (t .place) names)) ≡ good-vm names t
+  unfolding good-vm all-true
+  vm-by-bytes h k = rw (there, lt-ltb _ _ h, le-leb _ _ k) (both-true _)
 
 -- ---- the first bad row
 
 -- a reference of a row, taken off
-ref-step : (refs : List ℕ) (top j last : ℕ) → j < last → last ≤ length refs
+good-refs-step : (refs : List ℕ) (top j last : ℕ) → j < last → last ≤ length refs
     → good-refs top (take (last - j) (drop j refs)) ≡ both (good-ref top (getD refs j 0)) (good-refs top (take (last - (j + 1)) (drop (j + 1) refs)))
 unfolding good-refs
-ref-step refs top j last h room = rw (part-until refs j last h room)
+good-refs-step refs top j last h in-bounds = rw (slice-until refs j last h in-bounds)
 
-pub ref-bad : (refs : List ℕ) (top j last : ℕ) → j < last → last ≤ length refs → good-ref top (getD refs j 0) ≡ false
+pub good-refs-false : (refs : List ℕ) (top j last : ℕ) → j < last → last ≤ length refs → good-ref top (getD refs j 0) ≡ false
     → good-refs top (take (last - j) (drop j refs)) ≡ false
-ref-bad refs top j last h room e = rw (ref-step refs top j last h room, e)
+good-refs-false refs top j last h in-bounds e = rw (good-refs-step refs top j last h in-bounds, e)
 
-pub ref-good : (refs : List ℕ) (top j last : ℕ) → j < last → last ≤ length refs → good-ref top (getD refs j 0) ≡ true
+pub good-refs-next : (refs : List ℕ) (top j last : ℕ) → j < last → last ≤ length refs → good-ref top (getD refs j 0) ≡ true
     → good-refs top (take (last - j) (drop j refs)) ≡ good-refs top (take (last - (j + 1)) (drop (j + 1) refs))
-ref-good refs top j last h room e = rw (ref-step refs top j last h room, e)
+good-refs-next refs top j last h in-bounds e = rw (good-refs-step refs top j last h in-bounds, e)
 
 -- a byte of a name, as the code tests it
 pub byte-test : (b : ℕ) → both (leb 0x21 b) (leb b 0x7E) ≡ not (ltb b 0x21 || ltb 0x7E b)
@@ -146,50 +146,50 @@ byte-test b = by (ltb b 0x21) (ltb 0x7E b) refl refl
         let m : b ≤ 0x7E = ltb-false _ _ f in
         rw (le-leb 0x21 b l, le-leb b 0x7E m)
 
-byte-step : (names : List ℕ) (k end : ℕ) → k < end → end ≤ length names
-    → within 0x21 0x7E (take (end - k) (drop k names))
-    ≡ both (not (ltb (getD names k 0) 0x21 || ltb 0x7E (getD names k 0))) (within 0x21 0x7E (take (end - (k + 1)) (drop (k + 1) names)))
-unfolding within
-byte-step names k end h room = rw (part-until names k end h room, ← byte-test (getD names k 0))
+name-bytes-step : (names : List ℕ) (k end : ℕ) → k < end → end ≤ length names
+    → all-within 0x21 0x7E (take (end - k) (drop k names))
+    ≡ both (not (ltb (getD names k 0) 0x21 || ltb 0x7E (getD names k 0))) (all-within 0x21 0x7E (take (end - (k + 1)) (drop (k + 1) names)))
+unfolding all-within
+name-bytes-step names k end h in-bounds = rw (slice-until names k end h in-bounds, ← byte-test (getD names k 0))
 
-pub byte-bad : (names : List ℕ) (k end : ℕ) → k < end → end ≤ length names → ltb (getD names k 0) 0x21 || ltb 0x7E (getD names k 0) ≡ true
-    → within 0x21 0x7E (take (end - k) (drop k names)) ≡ false
-byte-bad names k end h room e = rw (byte-step names k end h room, e)
+pub name-bytes-false : (names : List ℕ) (k end : ℕ) → k < end → end ≤ length names → ltb (getD names k 0) 0x21 || ltb 0x7E (getD names k 0) ≡ true
+    → all-within 0x21 0x7E (take (end - k) (drop k names)) ≡ false
+name-bytes-false names k end h in-bounds e = rw (name-bytes-step names k end h in-bounds, e)
 
-pub byte-good : (names : List ℕ) (k end : ℕ) → k < end → end ≤ length names → ltb (getD names k 0) 0x21 || ltb 0x7E (getD names k 0) ≡ false
-    → within 0x21 0x7E (take (end - k) (drop k names)) ≡ within 0x21 0x7E (take (end - (k + 1)) (drop (k + 1) names))
-byte-good names k end h room e = rw (byte-step names k end h room, e)
+pub name-bytes-next : (names : List ℕ) (k end : ℕ) → k < end → end ≤ length names → ltb (getD names k 0) 0x21 || ltb 0x7E (getD names k 0) ≡ false
+    → all-within 0x21 0x7E (take (end - k) (drop k names)) ≡ all-within 0x21 0x7E (take (end - (k + 1)) (drop (k + 1) names))
+name-bytes-next names k end h in-bounds e = rw (name-bytes-step names k end h in-bounds, e)
 
 -- the rows from number i on, of a table: the next one is bad, or good
-module _ (h : Facts) (names refs rows : List ℕ) (i index : ℕ) (l : i < row-count rows) where
-  row-step : first-bad h names refs i index (rows-left rows i)
-      ≡ pick (good-row h names refs index (row-at rows i)) (first-bad h names refs (i + 1) (index + row-at rows i .count) (rows-left rows (i + 1))) (At i)
-  unfolding first-bad
-  row-step = rw (left-next rows i l, add-one)
+module _ (h : Header) (names refs rows : List ℕ) (i index : ℕ) (l : i < row-count rows) where
+  first-bad-step : first-bad-from h names refs i index (rows-left rows i)
+      ≡ pick (good-row h names refs index (row-at rows i)) (first-bad-from h names refs (i + 1) (index + row-at rows i .count) (rows-left rows (i + 1))) (At i)
+  unfolding first-bad-from
+  first-bad-step = rw (rows-left-next rows i l, add-one)
 
-  pub bad-here : good-row h names refs index (row-at rows i) ≡ false → first-bad h names refs i index (rows-left rows i) ≡ At i
-  bad-here e = rw (row-step, e)
+  pub first-bad-here : good-row h names refs index (row-at rows i) ≡ false → first-bad-from h names refs i index (rows-left rows i) ≡ At i
+  first-bad-here e = rw (first-bad-step, e)
 
-  pub bad-later : good-row h names refs index (row-at rows i) ≡ true
-      → first-bad h names refs i index (rows-left rows i) ≡ first-bad h names refs (i + 1) (index + row-at rows i .count) (rows-left rows (i + 1))
-  bad-later e = rw (row-step, e)
+  pub first-bad-later : good-row h names refs index (row-at rows i) ≡ true
+      → first-bad-from h names refs i index (rows-left rows i) ≡ first-bad-from h names refs (i + 1) (index + row-at rows i .count) (rows-left rows (i + 1))
+  first-bad-later e = rw (first-bad-step, e)
 
 -- no row is left
-pub bad-none : (h : Facts) (names refs rows : List ℕ) (i index : ℕ) → row-count rows ≤ i → first-bad h names refs i index (rows-left rows i) ≡ NotFound
-unfolding first-bad
-bad-none h names refs rows i index l = rw (left-none rows i l)
+pub first-bad-end : (h : Header) (names refs rows : List ℕ) (i index : ℕ) → row-count rows ≤ i → first-bad-from h names refs i index (rows-left rows i) ≡ NotFound
+unfolding first-bad-from
+first-bad-end h names refs rows i index l = rw (rows-left-none rows i l)
 
 -- a row is good by its three parts
-pub row-good : (h : Facts) (names refs : List ℕ) (index : ℕ) (r : Row) → good-numbers h index (length refs) (length names) r ≡ true
-    → good-refs (highest (h .word)) (refs-of refs r) ≡ true → within 0x21 0x7E (name-of names r) ≡ true → good-row h names refs index r ≡ true
-unfolding good-row every
-row-good h names refs index r e f g = rw (e, f, g)
+pub good-row-by-parts : (h : Header) (names refs : List ℕ) (index : ℕ) (r : Row) → good-numbers h index (length refs) (length names) r ≡ true
+    → good-refs (max-address (h .bits)) (refs-of refs r) ≡ true → all-within 0x21 0x7E (name-of names r) ≡ true → good-row h names refs index r ≡ true
+unfolding good-row all-true
+good-row-by-parts h names refs index r e f g = rw (e, f, g)
 
 -- what a row's loops begin with
-pub whole-refs : (refs : List ℕ) (r : Row) → take (r .first + r .count - r .first) (drop (r .first) refs) ≡ refs-of refs r
+pub refs-of-slice : (refs : List ℕ) (r : Row) → take (r .first + r .count - r .first) (drop (r .first) refs) ≡ refs-of refs r
 unfolding refs-of
-whole-refs refs r = let e : r .first + r .count - r .first ≡ r .count = omega arith in rw e
+refs-of-slice refs r = let e : r .first + r .count - r .first ≡ r .count = omega arith in rw e
 
-pub whole-name : (names : List ℕ) (r : Row) → take (r .place + r .namelen - r .place) (drop (r .place) names) ≡ name-of names r
+pub name-of-slice : (names : List ℕ) (r : Row) → take (r .place + r .namelen - r .place) (drop (r .place) names) ≡ name-of names r
 unfolding name-of
-whole-name names r = let e : r .place + r .namelen - r .place ≡ r .namelen = omega arith in rw e
+name-of-slice names r = let e : r .place + r .namelen - r .place ≡ r .namelen = omega arith in rw e

@@ -9,22 +9,22 @@ use mathlib.Core.List.{List, [], _∷_}
 use lib.Dec.{ltb, eqb}
 use lib.ListN.{length, getD}
 use borrow.Author.Tests.{leb-true, ltb-true, eqb-true, eqb-false, not-true}
-use Rattle.decode.specs.Numbers.{pick, within}
-use Rattle.decode.specs.Slices.{length-part}
+use Rattle.decode.specs.Numbers.{pick, all-within}
+use Rattle.decode.specs.Slices.{length-slice}
 use Rattle.decode.specs.Values.{both-left, both-right}
-use Rattle.decode.specs.declared.Text.{Text}
-use Rattle.phd.specs.Phd.{highest, hash-bytes}
-use Rattle.phd.specs.Shapes.{Word}
-use Rattle.phd.specs.declared.Facts.{Facts}
+use Rattle.decode.specs.declared.StringSpan.{StringSpan}
+use Rattle.phd.specs.Phd.{max-address, hash-bytes}
+use Rattle.phd.specs.Shapes.{ValidBits}
+use Rattle.phd.specs.declared.Header.{Header}
 use Rattle.table.specs.Table.{row-count}
-use Rattle.table.specs.Rows.{rows-of, length-rows, All, Rec, refs-of, name-of, bare, rec-of}
-use Rattle.phd_check.specs.GoodRows.{every, good-vm, good-header, good-hash, good-class, no-name, good-object, good-array, good-primitive, good-kind, good-place, good-span, good-numbers, good-ref, good-refs, good-row, first-bad, bad-of, vm-text}
+use Rattle.table.specs.Rows.{rows-of, length-rows, All, Rec, refs-of, name-of, without-place, rec-of}
+use Rattle.phd_check.specs.GoodRows.{all-true, good-vm, good-header, good-hash, good-class, no-name, good-object, good-array, good-primitive, good-kind, good-addresses, good-span, good-numbers, good-ref, good-refs, good-row, first-bad-from, first-bad, vm-text}
 use Rattle.table.specs.declared.Row.{Row}
 use Rattle.table.specs.declared.Search.the-variants.{At, NotFound}
 use Rattle.table.specs.declared.Search.{Search}
 
 pub record GoodRef (top a : ℕ) : Type 0 where
-  pub fours : a % 4 ≡ 0
+  pub aligned : a % 4 ≡ 0
   pub some : 1 ≤ a
   pub most : a ≤ top
 
@@ -33,44 +33,44 @@ GoodRefs top [] = Unit {0}
 GoodRefs top (a ∷ rest) = GoodRef top a × GoodRefs top rest
 
 -- what each kind uses, and what it leaves 0
-pub data Kinded (r : Row) (name : List ℕ) : Type 0 where
+pub data GoodKind (r : Row) (name : List ℕ) : Type 0 where
   a-class : r .kind ≡ 1 → (r .hashkind ≡ 1 → ⊥) → r .size < 2 ^ 31 → r .len ≡ 0 → r .prim ≡ 0 → 1 ≤ r .namelen → r .namelen < 65536
-      → within 0x21 0x7E name ≡ true → Kinded r name
-  an-object : r .kind ≡ 2 → r .size ≡ 0 → r .len ≡ 0 → r .prim ≡ 0 → r .namelen ≡ 0 → Kinded r name
-  an-array : r .kind ≡ 3 → r .size < 2 ^ 32 → r .len < 2 ^ 31 → r .count ≤ r .len → r .prim ≡ 0 → r .namelen ≡ 0 → Kinded r name
-  a-primitive : r .kind ≡ 4 → r .word ≡ 0 → r .count ≡ 0 → r .size < 2 ^ 32 → r .len < 2 ^ 31 → r .prim < 8 → r .namelen ≡ 0 → Kinded r name
+      → all-within 0x21 0x7E name ≡ true → GoodKind r name
+  an-object : r .kind ≡ 2 → r .size ≡ 0 → r .len ≡ 0 → r .prim ≡ 0 → r .namelen ≡ 0 → GoodKind r name
+  an-array : r .kind ≡ 3 → r .size < 2 ^ 32 → r .len < 2 ^ 31 → r .count ≤ r .len → r .prim ≡ 0 → r .namelen ≡ 0 → GoodKind r name
+  a-primitive : r .kind ≡ 4 → r .class ≡ 0 → r .count ≡ 0 → r .size < 2 ^ 32 → r .len < 2 ^ 31 → r .prim < 8 → r .namelen ≡ 0 → GoodKind r name
 
 -- a good record, of which the references begin at `index`
-pub record Good (h : Facts) (index : ℕ) (r : Rec) : Type 0 where
-  pub fours : r .row .address % 4 ≡ 0
-  pub most : r .row .address ≤ highest (h .word)
-  pub word : r .row .word ≤ highest (h .word)
+pub record GoodRec (h : Header) (index : ℕ) (r : Rec) : Type 0 where
+  pub aligned : r .row .address % 4 ≡ 0
+  pub most : r .row .address ≤ max-address (h .bits)
+  pub class : r .row .class ≤ max-address (h .bits)
   pub first : r .row .first ≡ index
   pub count : length (r .refs) ≡ r .row .count
   pub few : r .row .count < 2 ^ 31
-  pub refs : GoodRefs (highest (h .word)) (r .refs)
+  pub refs : GoodRefs (max-address (h .bits)) (r .refs)
   pub namelen : length (r .name) ≡ r .row .namelen
   -- hash kind 3 exactly in all-hashed dumps
   pub all-hashed : h .hashed ≡ true → r .row .hashkind ≡ 3
-  pub not-all : h .hashed ≡ false → r .row .hashkind < 3
+  pub not-all-hashed : h .hashed ≡ false → r .row .hashkind < 3
   pub hash : r .row .hash < 256 ^ hash-bytes (r .row .hashkind)
-  pub kinded : Kinded (r .row) (r .name)
+  pub kind-good : GoodKind (r .row) (r .name)
 
 -- where the references and the name of a good row stand, in the tables that are lent
-pub record Lent (names refs : List ℕ) (r : Row) : Type 0 where
+pub record SpansInBounds (names refs : List ℕ) (r : Row) : Type 0 where
   pub span : r .first + r .count ≤ length refs
-  pub named : r .place + r .namelen ≤ length names
+  pub name-in-bounds : r .place + r .namelen ≤ length names
   pub few : r .count < 2 ^ 31
   pub short : r .namelen < 65536
 
 -- ---- tests that hold
 
 -- each test of a list of which every one holds
-pub every-at : (bs : List Bool) → every bs ≡ true → (i : ℕ) → getD bs i true ≡ true
-unfolding every
-every-at [] e i = refl
-every-at (b ∷ bs) e zero = both-left b (every bs) e
-every-at (b ∷ bs) e (suc i) = every-at bs (both-right b (every bs) e) i
+pub all-true-at : (bs : List Bool) → all-true bs ≡ true → (i : ℕ) → getD bs i true ≡ true
+unfolding all-true
+all-true-at [] e i = refl
+all-true-at (b ∷ bs) e zero = both-left b (all-true bs) e
+all-true-at (b ∷ bs) e (suc i) = all-true-at bs (both-right b (all-true bs) e) i
 
 -- a test that goes by another test
 by-test {ℓ} : {P : Type ℓ} (b x y : Bool) → pick b x y ≡ true → (b ≡ true → x ≡ true → P) → (b ≡ false → y ≡ true → P) → P
@@ -79,47 +79,47 @@ by-test false x y e f g = g refl e
 
 -- ---- a good row
 
-unnamed-of : (r : Row) → no-name r ≡ true → (r .place ≡ 0) × (r .namelen ≡ 0)
+no-name-numbers : (r : Row) → no-name r ≡ true → (r .place ≡ 0) × (r .namelen ≡ 0)
 unfolding no-name
-unnamed-of r e =
+no-name-numbers r e =
     (eqb-true _ _ (both-left (eqb (r .place) 0) (eqb (r .namelen) 0) e), eqb-true _ _ (both-right (eqb (r .place) 0) (eqb (r .namelen) 0) e))
 
-module _ (lent : ℕ) (r : Row) where
+module _ (available : ℕ) (r : Row) where
   -- A row is of its kind, whatever good bytes its name has, and its name lies within the name bytes.
   abbrev Kind : Type 0
-  Kind = ((name : List ℕ) → within 0x21 0x7E name ≡ true → Kinded (bare r) name) × (r .place + r .namelen ≤ lent) × (r .namelen < 65536)
+  Kind = ((name : List ℕ) → all-within 0x21 0x7E name ≡ true → GoodKind (without-place r) name) × (r .place + r .namelen ≤ available) × (r .namelen < 65536)
 
-  class-of : eqb (r .kind) 1 ≡ true → good-class lent r ≡ true → Kind
-  unfolding good-class bare
+  class-of : eqb (r .kind) 1 ≡ true → good-class available r ≡ true → Kind
+  unfolding good-class without-place
   class-of k e =
-      let t = every-at _ e in (
+      let t = all-true-at _ e in (
         λ _. a-class (eqb-true _ _ k) (eqb-false _ _ (not-true _ (t 0))) (ltb-true _ _ (t 1)) (eqb-true _ _ (t 2)) (eqb-true _ _ (t 6)) (leb-true _ _ (t 3)) (ltb-true _ _ (t 4)),
         leb-true _ _ (t 5),
         ltb-true _ _ (t 4),
       )
 
   object-of : eqb (r .kind) 2 ≡ true → good-object r ≡ true → Kind
-  unfolding good-object bare
+  unfolding good-object without-place
   object-of k e =
-      let t = every-at _ e in
-      let n = unnamed-of r (t 2) in
+      let t = all-true-at _ e in
+      let n = no-name-numbers r (t 2) in
       (λ _ _. an-object (eqb-true _ _ k) (eqb-true _ _ (t 0)) (eqb-true _ _ (t 1)) (eqb-true _ _ (t 3)) (n .1), omega arith, omega arith)
 
   array-of : eqb (r .kind) 3 ≡ true → good-array r ≡ true → Kind
-  unfolding good-array bare
+  unfolding good-array without-place
   array-of k e =
-      let t = every-at _ e in
-      let n = unnamed-of r (t 3) in
+      let t = all-true-at _ e in
+      let n = no-name-numbers r (t 3) in
       (λ _ _. an-array (eqb-true _ _ k) (ltb-true _ _ (t 0)) (ltb-true _ _ (t 1)) (leb-true _ _ (t 2)) (eqb-true _ _ (t 4)) (n .1), omega arith, omega arith)
 
   primitive-of : eqb (r .kind) 4 ≡ true → good-primitive r ≡ true → Kind
-  unfolding good-primitive bare
+  unfolding good-primitive without-place
   primitive-of k e =
-      let t = every-at _ e in
-      let n = unnamed-of r (t 4) in
+      let t = all-true-at _ e in
+      let n = no-name-numbers r (t 4) in
       (λ _ _. a-primitive (eqb-true _ _ k) (eqb-true _ _ (t 0)) (eqb-true _ _ (t 1)) (ltb-true _ _ (t 2)) (ltb-true _ _ (t 3)) (ltb-true _ _ (t 5)) (n .1), omega arith, omega arith)
 
-  kind-of : good-kind lent r ≡ true → Kind
+  kind-of : good-kind available r ≡ true → Kind
   unfolding good-kind
   kind-of g =
       by-test (eqb (r .kind) 1) _ _ g class-of
@@ -127,133 +127,133 @@ module _ (lent : ℕ) (r : Row) where
       (λ _ g₃. by-test (eqb (r .kind) 3) _ _ g₃ array-of
       (λ _ g₄. by-test (eqb (r .kind) 4) _ _ g₄ primitive-of (λ _ e. let z : _≡_ {A = ℕ} 0 1 = cc in absurd (omega arith)))))
 
-refs-good : (top : ℕ) (rs : List ℕ) → good-refs top rs ≡ true → GoodRefs top rs
+good-refs-each : (top : ℕ) (rs : List ℕ) → good-refs top rs ≡ true → GoodRefs top rs
 unfolding good-refs good-ref
-refs-good top [] e = tt
-refs-good top (a ∷ rest) e =
+good-refs-each top [] e = tt
+good-refs-each top (a ∷ rest) e =
     let x : Bool = good-ref top a in
-    let t = every-at _ (both-left x (good-refs top rest) e) in
-    (record { fours = eqb-true _ _ (t 0); some = leb-true _ _ (t 1); most = leb-true _ _ (t 2) }, refs-good top rest (both-right x (good-refs top rest) e))
+    let t = all-true-at _ (both-left x (good-refs top rest) e) in
+    (record { aligned = eqb-true _ _ (t 0); some = leb-true _ _ (t 1); most = leb-true _ _ (t 2) }, good-refs-each top rest (both-right x (good-refs top rest) e))
 
 -- a row of which the numbers are good
-module _ (h : Facts) (names refs : List ℕ) (index : ℕ) (r : Row) (g : good-numbers h index (length refs) (length names) r ≡ true) where
+module _ (h : Header) (names refs : List ℕ) (index : ℕ) (r : Row) (g : good-numbers h index (length refs) (length names) r ≡ true) where
   kind-at : Kind (length names) r
   unfolding good-numbers
-  kind-at = kind-of (length names) r (every-at _ g 3)
+  kind-at = kind-of (length names) r (all-true-at _ g 3)
 
-  pub first-by : r .first ≡ index
+  pub row-first : r .first ≡ index
   unfolding good-numbers good-span
-  first-by = eqb-true _ _ (every-at _ (every-at _ g 1) 0)
+  row-first = eqb-true _ _ (all-true-at _ (all-true-at _ g 1) 0)
 
-  pub lent-by : Lent names refs r
+  pub numbers-in-bounds : SpansInBounds names refs r
   unfolding good-numbers good-span
-  lent-by =
-      let t = every-at _ (every-at _ g 1) in
-      record { span = leb-true _ _ (t 1); named = kind-at .1; few = ltb-true _ _ (t 2); short = kind-at .2 }
+  numbers-in-bounds =
+      let t = all-true-at _ (all-true-at _ g 1) in
+      record { span = leb-true _ _ (t 1); name-in-bounds = kind-at .1; few = ltb-true _ _ (t 2); short = kind-at .2 }
 
 -- a good row
-module _ (h : Facts) (names refs : List ℕ) (index : ℕ) (r : Row) (g : good-row h names refs index r ≡ true) where
-  numbers-at : good-numbers h index (length refs) (length names) r ≡ true
+module _ (h : Header) (names refs : List ℕ) (index : ℕ) (r : Row) (g : good-row h names refs index r ≡ true) where
+  row-numbers-good : good-numbers h index (length refs) (length names) r ≡ true
   unfolding good-row
-  numbers-at = every-at _ g 0
+  row-numbers-good = all-true-at _ g 0
 
-  pub lent-of : Lent names refs r
-  lent-of = lent-by h names refs index r numbers-at
+  pub spans-in-bounds : SpansInBounds names refs r
+  spans-in-bounds = numbers-in-bounds h names refs index r row-numbers-good
 
-  pub good-of : Good h index (rec-of names refs r)
-  unfolding good-row good-numbers good-place good-hash rec-of bare refs-of name-of
-  good-of =
-      let n = every-at _ numbers-at in
-      let p = every-at _ (n 0) in
-      let l : Lent names refs r = lent-of in
+  pub good-rec : GoodRec h index (rec-of names refs r)
+  unfolding good-row good-numbers good-addresses good-hash rec-of without-place refs-of name-of
+  good-rec =
+      let n = all-true-at _ row-numbers-good in
+      let p = all-true-at _ (n 0) in
+      let l : SpansInBounds names refs r = spans-in-bounds in
       let k : Bool = pick (h .hashed) (eqb (r .hashkind) 3) (ltb (r .hashkind) 3) in
       let b : Bool = ltb (r .hash) (256 ^ hash-bytes (r .hashkind)) in
       let hk = both-left k b (n 2) in
       record {
-        fours = eqb-true _ _ (p 0);
+        aligned = eqb-true _ _ (p 0);
         most = leb-true _ _ (p 1);
-        word = leb-true _ _ (p 2);
-        first = first-by h names refs index r numbers-at;
-        count = length-part refs (r .first) (r .count) (l .span);
+        class = leb-true _ _ (p 2);
+        first = row-first h names refs index r row-numbers-good;
+        count = length-slice refs (r .first) (r .count) (l .span);
         few = l .few;
-        refs = refs-good _ _ (every-at _ g 1);
-        namelen = length-part names (r .place) (r .namelen) (l .named);
+        refs = good-refs-each _ _ (all-true-at _ g 1);
+        namelen = length-slice names (r .place) (r .namelen) (l .name-in-bounds);
         all-hashed = λ e. eqb-true _ _ (rw e at hk);
-        not-all = λ e. ltb-true _ _ (rw e at hk);
+        not-all-hashed = λ e. ltb-true _ _ (rw e at hk);
         hash = ltb-true _ _ (both-right k b (n 2));
-        kinded = kind-at h names refs index r numbers-at .0 _ (every-at _ g 2);
+        kind-good = kind-at h names refs index r row-numbers-good .0 _ (all-true-at _ g 2);
       }
 
 -- ---- no bad row
 
-by-none : (b : Bool) (x : Search) (i : ℕ) → pick b x (At i) ≡ NotFound → (b ≡ true) × (x ≡ NotFound)
-by-none true x i e = (refl, e)
-by-none false x i e = let z : _≡_ {A = ℕ} 0 1 = cc in absurd (omega arith)
+none-found : (b : Bool) (x : Search) (i : ℕ) → pick b x (At i) ≡ NotFound → (b ≡ true) × (x ≡ NotFound)
+none-found true x i e = (refl, e)
+none-found false x i e = let z : _≡_ {A = ℕ} 0 1 = cc in absurd (omega arith)
 
 -- the first of the rows is good, and none of the others is bad
-pub none-bad : (h : Facts) (names refs : List ℕ) (i index : ℕ) (r : Row) (rows : List Row) → first-bad h names refs i index (r ∷ rows) ≡ NotFound
-    → (good-row h names refs index r ≡ true) × (first-bad h names refs (suc i) (index + r .count) rows ≡ NotFound)
-unfolding first-bad
-none-bad h names refs i index r rows e = by-none (good-row h names refs index r) _ i e
+pub none-bad : (h : Header) (names refs : List ℕ) (i index : ℕ) (r : Row) (rows : List Row) → first-bad-from h names refs i index (r ∷ rows) ≡ NotFound
+    → (good-row h names refs index r ≡ true) × (first-bad-from h names refs (suc i) (index + r .count) rows ≡ NotFound)
+unfolding first-bad-from
+none-bad h names refs i index r rows e = none-found (good-row h names refs index r) _ i e
 
 -- what good rows are, every row is where none is bad
-module _ (h : Facts) (names refs : List ℕ) (P : Row → Type 0) (f : (index : ℕ) (r : Row) → good-row h names refs index r ≡ true → P r) where
-  each-from : (rows : List Row) (i index : ℕ) → first-bad h names refs i index rows ≡ NotFound → All P rows
+module _ (h : Header) (names refs : List ℕ) (P : Row → Type 0) (f : (index : ℕ) (r : Row) → good-row h names refs index r ≡ true → P r) where
+  each-from : (rows : List Row) (i index : ℕ) → first-bad-from h names refs i index rows ≡ NotFound → All P rows
   each-from [] i index e = tt
   each-from (r ∷ rows) i index e =
       let b = none-bad h names refs i index r rows e in
       (f index r (b .0), each-from rows (suc i) (index + r .count) (b .1))
 
-  pub each-row : (rows : List Row) → bad-of h names refs rows ≡ NotFound → All P rows
+  pub each-row : (rows : List Row) → first-bad h names refs rows ≡ NotFound → All P rows
   each-row rows e = each-from rows 0 0 e
 
 -- ---- a good header
 
-module _ (h : Facts) (names : List ℕ) (rows : List Row) (refs : List ℕ) (g : good-header h names rows refs ≡ true) where
-  pub word-of : Word (h .word)
+module _ (h : Header) (names : List ℕ) (rows : List Row) (refs : List ℕ) (g : good-header h names rows refs ≡ true) where
+  pub header-bits-good : ValidBits (h .bits)
   unfolding good-header
-  word-of = by-test (eqb (h .word) 32) true (eqb (h .word) 64) (every-at _ g 0) (λ e _. inl (eqb-true _ _ e)) (λ _ e. inr (eqb-true _ _ e))
+  header-bits-good = by-test (eqb (h .bits) 32) true (eqb (h .bits) 64) (all-true-at _ g 0) (λ e _. inl (eqb-true _ _ e)) (λ _ e. inr (eqb-true _ _ e))
 
-  pub few-rows : length rows ≤ 2 ^ 30
+  pub row-count-bound : length rows ≤ 2 ^ 30
   unfolding good-header
-  few-rows = leb-true _ _ (every-at _ g 1)
+  row-count-bound = leb-true _ _ (all-true-at _ g 1)
 
-  pub few-refs : length refs ≤ 2 ^ 30
+  pub ref-count-bound : length refs ≤ 2 ^ 30
   unfolding good-header
-  few-refs = leb-true _ _ (every-at _ g 2)
+  ref-count-bound = leb-true _ _ (all-true-at _ g 2)
 
-  pub vm-of : good-vm names (h .vm) ≡ true
+  pub header-vm-good : good-vm names (h .vm) ≡ true
   unfolding good-header
-  vm-of = every-at _ g 3
+  header-vm-good = all-true-at _ g 3
 
 -- of a table's rows
-pub few-whole : (h : Facts) (names table refs : List ℕ) → good-header h names (rows-of table) refs ≡ true → row-count table ≤ 2 ^ 30
-few-whole h names table refs g = rw (length-rows table) at (few-rows h names (rows-of table) refs g)
+pub table-rows-bound : (h : Header) (names table refs : List ℕ) → good-header h names (rows-of table) refs ≡ true → row-count table ≤ 2 ^ 30
+table-rows-bound h names table refs g = rw (length-rows table) at (row-count-bound h names (rows-of table) refs g)
 
 -- A good VM string, if there is one, is short, lies within the name bytes, and has good bytes.
-pub record Vm (names : List ℕ) (t : Text) : Type 0 where
-  pub short : t .there ≡ true → t .len < 65536
-  pub inside : t .there ≡ true → t .place + t .len ≤ length names
-  pub seen : t .there ≡ true → within 0x20 0x7E (vm-text names t) ≡ true
+pub record VmInBounds (names : List ℕ) (t : StringSpan) : Type 0 where
+  pub short : t .present ≡ true → t .len < 65536
+  pub inside : t .present ≡ true → t .place + t .len ≤ length names
+  pub printable : t .present ≡ true → all-within 0x20 0x7E (vm-text names t) ≡ true
 
-pub vm-lent : (names : List ℕ) (t : Text) → good-vm names t ≡ true → Vm names t
+pub vm-in-bounds : (names : List ℕ) (t : StringSpan) → good-vm names t ≡ true → VmInBounds names t
 unfolding good-vm
-vm-lent names t g = record {
-  short = λ e. ltb-true _ _ (every-at _ (rw e at g) 0);
-  inside = λ e. leb-true _ _ (every-at _ (rw e at g) 1);
-  seen = λ e. every-at _ (rw e at g) 2;
+vm-in-bounds names t g = record {
+  short = λ e. ltb-true _ _ (all-true-at _ (rw e at g) 0);
+  inside = λ e. leb-true _ _ (all-true-at _ (rw e at g) 1);
+  printable = λ e. all-true-at _ (rw e at g) 2;
 }
 
 -- ---- how many bytes and references
 
-pub length-text : (names : List ℕ) (t : Text) → Vm names t → t .there ≡ true → length (vm-text names t) ≡ t .len
-length-text names t v e = length-part names (t .place) (t .len) (v .inside e)
+pub length-vm-text : (names : List ℕ) (t : StringSpan) → VmInBounds names t → t .present ≡ true → length (vm-text names t) ≡ t .len
+length-vm-text names t v e = length-slice names (t .place) (t .len) (v .inside e)
 
 -- a row's references and its name, which lie within what is lent, are as long as the row says
 pub length-refs-of : (refs : List ℕ) (r : Row) → r .first + r .count ≤ length refs → length (refs-of refs r) ≡ r .count
 unfolding refs-of
-length-refs-of refs r h = length-part refs (r .first) (r .count) h
+length-refs-of refs r h = length-slice refs (r .first) (r .count) h
 
 pub length-name-of : (names : List ℕ) (r : Row) → r .place + r .namelen ≤ length names → length (name-of names r) ≡ r .namelen
 unfolding name-of
-length-name-of names r h = length-part names (r .place) (r .namelen) h
+length-name-of names r h = length-slice names (r .place) (r .namelen) h

@@ -1,26 +1,22 @@
 // Whether the rows of a table and a header may be written: 01's "Writing", first paragraph.
 // Each function's contract is an equation with a definition of specs/Good.antt.
 ghost use mathlib.Core.Path.{_≡_};
-ghost use Rattle.phd.specs.Shapes.{Word};
+ghost use Rattle.phd.specs.Shapes.{ValidBits};
 ghost use Rattle.table.specs.Rows.{rows-of};
-ghost use Rattle.phd_check.specs.GoodRows.{good-vm, good-header, bad-of};
-ghost use Rattle.table.specs.CheckOrder.{checked};
-use decode::Text;
-use phd::Facts;
+ghost use Rattle.phd_check.specs.GoodRows.{good-vm, good-header, first-bad};
+ghost use Rattle.table.specs.CheckOrder.{checked-input};
+use decode::StringSpan;
+use phd::Header;
 use table::Answer;
 use table::Search;
 
 mod numbers;
 
-// A header to write: W, all objects hashed, from OpenJ9, and where the VM string stands in the name bytes, if one does. It
-// is what a reading hands out, with the dump as the name bytes.
-pub type Header = Facts;
-
 // Whether a VM string may be written, or none is there.
-fn vm_good(names: &[u8], vm: Text) -> bool
+fn vm_good(names: &[u8], vm: StringSpan) -> bool
     ensures { λ r. ⌜ r ≡ good-vm (now (names .entry)) vm ⌝ }
 {
-    if vm.there {
+    if vm.present {
         if 0xFFFF < vm.len {
             return false;
         }
@@ -36,33 +32,33 @@ fn vm_good(names: &[u8], vm: Text) -> bool
 }
 
 // Whether a header may be written, and not too many rows and reference numbers are lent.
-fn header_good(facts: Facts, names: &[u8], rows: &[u64], refs: &[u64]) -> bool
-    ensures { λ r. ⌜ r ≡ good-header facts (now (names .entry)) (rows-of (now (rows .entry))) (now (refs .entry)) ⌝ }
+fn header_good(header: Header, names: &[u8], rows: &[u64], refs: &[u64]) -> bool
+    ensures { λ r. ⌜ r ≡ good-header header (now (names .entry)) (rows-of (now (rows .entry))) (now (refs .entry)) ⌝ }
 {
-    ((facts.word == 32) | (facts.word == 64))
-        & (rows.len() / table::ROW <= 0x4000_0000)
+    ((header.bits == 32) | (header.bits == 64))
+        & (rows.len() / table::ROW_WIDTH <= 0x4000_0000)
         & (refs.len() <= 0x4000_0000)
-        & vm_good(names, facts.vm)
+        & vm_good(names, header.vm)
 }
 
 // The first bad row.
-fn find_bad(facts: Facts, names: &[u8], refs: &[u64], rows: &[u64]) -> Search
-    requires { ⌜ Word (facts .word) ⌝ }
-    ensures { λ r. ⌜ r ≡ bad-of facts (now (names .entry)) (now (refs .entry)) (rows-of (now (rows .entry))) ⌝ }
+fn find_bad(header: Header, names: &[u8], refs: &[u64], rows: &[u64]) -> Search
+    requires { ⌜ ValidBits (header .bits) ⌝ }
+    ensures { λ r. ⌜ r ≡ first-bad header (now (names .entry)) (now (refs .entry)) (rows-of (now (rows .entry))) ⌝ }
 {
-    let n = rows.len() / table::ROW;
-    let top = phd::forms::highest_of(facts.word);
+    let n = rows.len() / table::ROW_WIDTH;
+    let top = phd::forms::max_address_of(header.bits);
     let mut index: u64 = 0;
     let mut i: usize = 0;
     'rows: while i < n {
         let row = table::row_at(rows, i);
-        if !numbers::all(facts, index, refs.len(), names.len(), row) {
+        if !numbers::numbers_good(header, index, refs.len(), names.len(), row) {
             break 'rows;
         }
         let last = (row.first + row.count) as usize;
         let mut j = row.first as usize;
         while j < last {
-            if !numbers::reference(top, refs[j]) {
+            if !numbers::ref_good(top, refs[j]) {
                 break 'rows;
             }
             j += 1;
@@ -86,7 +82,7 @@ fn find_bad(facts: Facts, names: &[u8], refs: &[u64], rows: &[u64]) -> Search
 
 // What the writer and the text ask first: 15 for a bad header, 16 with the first bad row, else 0.
 pub fn check(header: Header, names: &[u8], refs: &[u64], rows: &[u64]) -> Answer
-    ensures { λ r. ⌜ r ≡ checked (good-header header (now (names .entry)) (rows-of (now (rows .entry))) (now (refs .entry))) (bad-of header (now (names .entry)) (now (refs .entry)) (rows-of (now (rows .entry)))) ⌝ }
+    ensures { λ r. ⌜ r ≡ checked-input (good-header header (now (names .entry)) (rows-of (now (rows .entry))) (now (refs .entry))) (first-bad header (now (names .entry)) (now (refs .entry)) (rows-of (now (rows .entry)))) ⌝ }
 {
     if header_good(header, names, rows, refs) {
         let bad = find_bad(header, names, refs, rows);

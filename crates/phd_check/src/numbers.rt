@@ -1,12 +1,12 @@
 // The numbers of a row, part by part: whether they may be written.
 ghost use mathlib.Core.Path.{_≡_};
-ghost use Rattle.phd.specs.Shapes.{Word};
-ghost use Rattle.phd_check.specs.GoodRows.{good-hash, good-class, no-name, good-object, good-array, good-primitive, good-kind, good-place, good-span, good-numbers, good-ref};
-use phd::Facts;
+ghost use Rattle.phd.specs.Shapes.{ValidBits};
+ghost use Rattle.phd_check.specs.GoodRows.{good-hash, good-class, no-name, good-object, good-array, good-primitive, good-kind, good-addresses, good-span, good-numbers, good-ref};
+use phd::Header;
 use table::Row;
 
 // The hash kind and the hash.
-fn hash(hashed: bool, r: Row) -> bool
+fn hash_good(hashed: bool, r: Row) -> bool
     ensures { λ x. ⌜ x ≡ good-hash hashed r ⌝ }
 {
     if hashed {
@@ -19,10 +19,10 @@ fn hash(hashed: bool, r: Row) -> bool
 }
 
 // What each kind asks; `lent` is how many name bytes there are.
-fn class(lent: usize, r: Row) -> bool
-    ensures { λ x. ⌜ x ≡ good-class lent r ⌝ }
+fn class_good(available: usize, r: Row) -> bool
+    ensures { λ x. ⌜ x ≡ good-class available r ⌝ }
 {
-    let n = lent as u64;
+    let n = available as u64;
     if n < r.namelen {
         return false;
     }
@@ -35,69 +35,69 @@ fn class(lent: usize, r: Row) -> bool
         & (r.prim == 0)
 }
 
-fn unnamed(r: Row) -> bool
+fn name_absent(r: Row) -> bool
     ensures { λ x. ⌜ x ≡ no-name r ⌝ }
 {
     (r.place == 0) & (r.namelen == 0)
 }
 
-fn object(r: Row) -> bool
+fn object_good(r: Row) -> bool
     ensures { λ x. ⌜ x ≡ good-object r ⌝ }
 {
-    (r.size == 0) & (r.len == 0) & unnamed(r) & (r.prim == 0)
+    (r.size == 0) & (r.len == 0) & name_absent(r) & (r.prim == 0)
 }
 
-fn array(r: Row) -> bool
+fn array_good(r: Row) -> bool
     ensures { λ x. ⌜ x ≡ good-array r ⌝ }
 {
     (r.size < 0x1_0000_0000)
         & (r.len < 0x8000_0000)
         & (r.count <= r.len)
-        & unnamed(r)
+        & name_absent(r)
         & (r.prim == 0)
 }
 
-fn primitive(r: Row) -> bool
+fn primitive_good(r: Row) -> bool
     ensures { λ x. ⌜ x ≡ good-primitive r ⌝ }
 {
-    (r.word == 0)
+    (r.class == 0)
         & (r.count == 0)
         & (r.size < 0x1_0000_0000)
         & (r.len < 0x8000_0000)
-        & unnamed(r)
+        & name_absent(r)
         & (r.prim < 8)
 }
 
-fn kind(lent: usize, r: Row) -> bool
-    ensures { λ x. ⌜ x ≡ good-kind lent r ⌝ }
+fn kind_good(available: usize, r: Row) -> bool
+    ensures { λ x. ⌜ x ≡ good-kind available r ⌝ }
 {
     if r.kind == 1 {
-        return class(lent, r);
+        return class_good(available, r);
     }
     if r.kind == 2 {
-        return object(r);
+        return object_good(r);
     }
     if r.kind == 3 {
-        return array(r);
+        return array_good(r);
     }
     if r.kind == 4 {
-        return primitive(r);
+        return primitive_good(r);
     }
     false
 }
 
 // The address and the class word.
-fn place(top: u64, r: Row) -> bool
-    ensures { λ x. ⌜ x ≡ good-place top r ⌝ }
+fn addresses_good(top: u64, r: Row) -> bool
+    ensures { λ x. ⌜ x ≡ good-addresses top r ⌝ }
 {
-    (r.address % 4 == 0) & (r.address <= top) & (r.word <= top)
+    (r.address % 4 == 0) & (r.address <= top) & (r.class <= top)
 }
 
 // Where the references stand; `lent` is how many reference numbers there are.
-fn span(index: u64, lent: usize, r: Row) -> bool
-    ensures { λ x. ⌜ x ≡ good-span index lent r ⌝ }
+fn span_good(index: u64, available: usize, r: Row) -> bool
+    ensures { λ x. ⌜ x ≡ good-span index available r ⌝ }
 {
-    let n = lent as u64;
+    let n = available as u64;
     if n < r.count {
         return false;
     }
@@ -105,16 +105,19 @@ fn span(index: u64, lent: usize, r: Row) -> bool
 }
 
 // All numbers of a row.
-pub fn all(facts: Facts, index: u64, refs: usize, names: usize, r: Row) -> bool
-    requires { ⌜ Word (facts .word) ⌝ }
-    ensures { λ x. ⌜ x ≡ good-numbers facts index refs names r ⌝ }
+pub fn numbers_good(header: Header, index: u64, refs: usize, names: usize, r: Row) -> bool
+    requires { ⌜ ValidBits (header .bits) ⌝ }
+    ensures { λ x. ⌜ x ≡ good-numbers header index refs names r ⌝ }
 {
-    let top = phd::forms::highest_of(facts.word);
-    place(top, r) & span(index, refs, r) & hash(facts.hashed, r) & kind(names, r)
+    let top = phd::forms::max_address_of(header.bits);
+    addresses_good(top, r)
+        & span_good(index, refs, r)
+        & hash_good(header.hashed, r)
+        & kind_good(names, r)
 }
 
 // A reference.
-pub fn reference(top: u64, a: u64) -> bool
+pub fn ref_good(top: u64, a: u64) -> bool
     ensures { λ x. ⌜ x ≡ good-ref top a ⌝ }
 {
     (a % 4 == 0) & (1 <= a) & (a <= top)

@@ -11,30 +11,30 @@ use lib.Dec.{leb, eqb}
 use lib.ListN.{length, take, drop, length-append}
 use lib.Seq.{take-all, drop-at}
 use borrow.Author.Tests.{le-leb, lt-ltb, eq-eqb, ne-eqb}
-use Rattle.decode.specs.Numbers.{pick, within}
+use Rattle.decode.specs.Numbers.{pick, all-within}
 use Rattle.decode.specs.Values.{pick-either}
 use Rattle.decode.specs.declared.Maybe.the-variants.{Just}
 use Rattle.table.specs.Rows.{refs-of, name-of}
 use Rattle.table.specs.declared.Row.{Row}
-use Rattle.phd.specs.Phd.{bit, highest, tagged, known-class, moved-bit, hashed-bit, hash-kind, hash-bytes, shape}
-use Rattle.phd.specs.Shapes.{Word, word-some, tag-of-form}
+use Rattle.phd.specs.Phd.{bit, max-address, tag-form, slot-class, moved-bit, hashed-bit, hash-kind, hash-bytes, shape}
+use Rattle.phd.specs.Shapes.{ValidBits, bits-bytes-nonzero, tag-matches}
 use Rattle.phd.specs.declared.cache.Cache.{Cache}
-use Rattle.phd.specs.declared.Facts.{Facts}
+use Rattle.phd.specs.declared.Header.{Header}
 use Rattle.phd.specs.declared.Form.{Form}
 use Rattle.phd.specs.declared.Form.the-variants.{Short, Medium, Long, Class, ObjectArray, Primitive, LongPrimitive}
-use Rattle.phd.specs.declared.Tagged.the-variants.{Begins}
-use Rattle.phd_check.specs.GoodRows.{every, good-hash, good-class, no-name, good-object, good-array, good-primitive, good-kind, good-place, good-span, good-numbers, good-ref, good-refs, good-row}
+use Rattle.phd.specs.declared.TagForm.the-variants.{Begins}
+use Rattle.phd_check.specs.GoodRows.{all-true, good-hash, good-class, no-name, good-object, good-array, good-primitive, good-kind, good-addresses, good-span, good-numbers, good-ref, good-refs, good-row}
 use Rattle.phd_check.specs.WellFormed.{GoodRefs}
-use Rattle.phd_copy.specs.ReadRows.{RowOk}
+use Rattle.phd_copy.specs.ReadRows.{RowBounds}
 
 -- ---- the tests of a row
 
-place-good : (top : ℕ) (r : Row) → r .address % 4 ≡ 0 → r .address ≤ top → r .word ≤ top → good-place top r ≡ true
-unfolding good-place every
-place-good top r a b c = rw (eq-eqb _ _ a, le-leb _ _ b, le-leb _ _ c)
+addresses-good : (top : ℕ) (r : Row) → r .address % 4 ≡ 0 → r .address ≤ top → r .class ≤ top → good-addresses top r ≡ true
+unfolding good-addresses all-true
+addresses-good top r a b c = rw (eq-eqb _ _ a, le-leb _ _ b, le-leb _ _ c)
 
 pub span-good : (index given : ℕ) (r : Row) → r .first ≡ index → r .first + r .count ≤ given → r .count < 2 ^ 31 → good-span index given r ≡ true
-unfolding good-span every
+unfolding good-span all-true
 span-good index given r a b c = rw (eq-eqb _ _ a, le-leb _ _ b, lt-ltb _ _ c)
 
 hash-good : (hashed : Bool) (r : Row) → (hashed ≡ true → r .hashkind ≡ 3) → (hashed ≡ false → r .hashkind < 3) → r .hash < 256 ^ hash-bytes (r .hashkind)
@@ -49,31 +49,31 @@ unnamed-good r e = rw (eq-eqb _ _ (e .0), eq-eqb _ _ (e .1))
 
 class-good : (given : ℕ) (r : Row) → r .kind ≡ 1 → (r .hashkind ≡ 1 → ⊥) → r .size < 2 ^ 31 → r .len ≡ 0 → 1 ≤ r .namelen → r .namelen < 65536
     → r .place + r .namelen ≤ given → r .prim ≡ 0 → good-kind given r ≡ true
-unfolding good-kind good-class every
+unfolding good-kind good-class all-true
 class-good given r k a b c d e f g =
     rw (eq-eqb _ _ k, ne-eqb _ _ a, lt-ltb _ _ b, eq-eqb _ _ c, le-leb _ _ d, lt-ltb _ _ e, le-leb _ _ f, eq-eqb _ _ g)
 
 object-good : (given : ℕ) (r : Row) → r .kind ≡ 2 → r .size ≡ 0 → r .len ≡ 0 → (r .place ≡ 0) × (r .namelen ≡ 0) → r .prim ≡ 0 → good-kind given r ≡ true
-unfolding good-kind good-object every
+unfolding good-kind good-object all-true
 object-good given r k a b c d =
     rw (ne-eqb (r .kind) 1 (λ z. omega arith), eq-eqb _ _ k, eq-eqb (r .size) 0 a, eq-eqb (r .len) 0 b, unnamed-good r c, eq-eqb (r .prim) 0 d)
 
 array-good : (given : ℕ) (r : Row) → r .kind ≡ 3 → r .size < 2 ^ 32 → r .len < 2 ^ 31 → r .count ≤ r .len → (r .place ≡ 0) × (r .namelen ≡ 0) → r .prim ≡ 0
     → good-kind given r ≡ true
-unfolding good-kind good-array every
+unfolding good-kind good-array all-true
 array-good given r k a b c d e =
     rw (ne-eqb (r .kind) 1 (λ z. omega arith), ne-eqb (r .kind) 2 (λ z. omega arith), eq-eqb _ _ k, lt-ltb _ _ a, lt-ltb _ _ b, le-leb _ _ c, unnamed-good r d, eq-eqb (r .prim) 0 e)
 
-primitive-good : (given : ℕ) (r : Row) → r .kind ≡ 4 → r .word ≡ 0 → r .count ≡ 0 → r .size < 2 ^ 32 → r .len < 2 ^ 31 → (r .place ≡ 0) × (r .namelen ≡ 0)
+primitive-good : (given : ℕ) (r : Row) → r .kind ≡ 4 → r .class ≡ 0 → r .count ≡ 0 → r .size < 2 ^ 32 → r .len < 2 ^ 31 → (r .place ≡ 0) × (r .namelen ≡ 0)
     → r .prim < 8 → good-kind given r ≡ true
-unfolding good-kind good-primitive every
+unfolding good-kind good-primitive all-true
 primitive-good given r k a b c d e f =
     rw (
       ne-eqb (r .kind) 1 (λ z. omega arith),
       ne-eqb (r .kind) 2 (λ z. omega arith),
       ne-eqb (r .kind) 3 (λ z. omega arith),
       eq-eqb _ _ k,
-      eq-eqb (r .word) 0 a,
+      eq-eqb (r .class) 0 a,
       eq-eqb (r .count) 0 b,
       lt-ltb _ _ c,
       lt-ltb _ _ d,
@@ -82,9 +82,9 @@ primitive-good given r k a b c d e f =
     )
 
 refs-good : (top : ℕ) (rs : List ℕ) → GoodRefs top rs → good-refs top rs ≡ true
-unfolding good-refs good-ref every
+unfolding good-refs good-ref all-true
 refs-good top [] g = refl
-refs-good top (a ∷ rs) g = rw (eq-eqb _ _ (g .0 .fours), le-leb _ _ (g .0 .some), le-leb _ _ (g .0 .most), refs-good top rs (g .1))
+refs-good top (a ∷ rs) g = rw (eq-eqb _ _ (g .0 .aligned), le-leb _ _ (g .0 .some), le-leb _ _ (g .0 .most), refs-good top rs (g .1))
 
 -- ---- its references and its name, among those of all
 
@@ -92,24 +92,24 @@ refs-good top (a ∷ rs) g = rw (eq-eqb _ _ (g .0 .fours), le-leb _ _ (g .0 .som
 last-refs : (refs rs : List ℕ) (first count : ℕ) → first ≡ length refs → length rs ≡ count → take count (drop first (refs ++ rs)) ≡ rs
 last-refs refs rs first count a b = rw (drop-at refs rs first (sym a)) (take-all count rs (omega arith))
 
-no-bytes : (s : List ℕ) (place len : ℕ) → len ≡ 0 → within 0x21 0x7E (take len (drop place s)) ≡ true
-unfolding within
+no-bytes : (s : List ℕ) (place len : ℕ) → len ≡ 0 → all-within 0x21 0x7E (take len (drop place s)) ≡ true
+unfolding all-within
 no-bytes s place len e = rw e
 
 -- ---- hash kinds
 
-all-hashed : (h : Facts) (t f : ℕ) → h .hashed ≡ true → hash-kind h t f ≡ 3
+hash-kind-all-hashed : (h : Header) (t f : ℕ) → h .hashed ≡ true → hash-kind h t f ≡ 3
 unfolding hash-kind
-all-hashed h t f e = rw e
+hash-kind-all-hashed h t f e = rw e
 
-not-all : (h : Facts) (t f : ℕ) → h .hashed ≡ false → hash-kind h t f < 3
+hash-kind-not-all-hashed : (h : Header) (t f : ℕ) → h .hashed ≡ false → hash-kind h t f < 3
 unfolding hash-kind
-not-all h t f e = rw e (pick-either (λ k. k < 3) (moved-bit t f) 2 _ (omega arith) (pick-either (λ k. k < 3) (hashed-bit t f) 1 0 (omega arith) (omega arith)))
+hash-kind-not-all-hashed h t f e = rw e (pick-either (λ k. k < 3) (moved-bit t f) 2 _ (omega arith) (pick-either (λ k. k < 3) (hashed-bit t f) 1 0 (omega arith) (omega arith)))
 
 -- a class is never hashed without a hash
-class-hash : (h : Facts) (t f : ℕ) → eqb t 6 ≡ true → hash-kind h t f ≡ 1 → ⊥
+class-hash-kind : (h : Header) (t f : ℕ) → eqb t 6 ≡ true → hash-kind h t f ≡ 1 → ⊥
 unfolding hash-kind moved-bit hashed-bit
-class-hash h t f e = rw e (by (h .hashed) (bit 0x08 f))
+class-hash-kind h t f e = rw e (by (h .hashed) (bit 0x08 f))
   where
     by : (x y : Bool) → _≡_ {A = ℕ} (pick x 3 (pick y 2 0)) 1 → ⊥
     by true y z = omega arith
@@ -119,93 +119,93 @@ class-hash h t f e = rw e (by (h .hashed) (bit 0x08 f))
 -- ---- by the form
 
 -- a number of W bits is at most the highest
-word-most : (W x : ℕ) → Word W → x < 256 ^ (W / 8) → x ≤ highest W
-unfolding highest
-word-most W x (inl e) l = let k : x < 256 ^ 4 = rw e at l in rw e (omega arith)
-word-most W x (inr e) l = let k : x < 256 ^ 8 = rw e at l in rw e (omega arith)
+class-le-max : (W x : ℕ) → ValidBits W → x < 256 ^ (W / 8) → x ≤ max-address W
+unfolding max-address
+class-le-max W x (inl e) l = let k : x < 256 ^ 4 = rw e at l in rw e (omega arith)
+class-le-max W x (inr e) l = let k : x < 256 ^ 8 = rw e at l in rw e (omega arith)
 
-known-none : (c : Cache) (t known : ℕ) → leb 0x80 t ≡ false → known-class c t ≡ Just known → known ≡ 0
-unfolding known-class
-known-none c t known x e = let z : Just 0 ≡ Just known = rw x at e in cc
+known-zero : (c : Cache) (t known : ℕ) → leb 0x80 t ≡ false → slot-class c t ≡ Just known → known ≡ 0
+unfolding slot-class
+known-zero c t known x e = let z : Just 0 ≡ Just known = rw x at e in cc
 
 -- what is left to show of a row, beside its address, its span and its hash
-record FormGood (top : ℕ) (s : List ℕ) (r : Row) : Type 0 where
-  pub word : r .word ≤ top
+record GoodInForm (top : ℕ) (s : List ℕ) (r : Row) : Type 0 where
+  pub class : r .class ≤ top
   pub few : r .count < 2 ^ 31
   pub kind : good-kind (length s) r ≡ true
-  pub name : within 0x21 0x7E (name-of s r) ≡ true
+  pub name : all-within 0x21 0x7E (name-of s r) ≡ true
 
 module _ (top : ℕ) (s : List ℕ) (r : Row) where
-  object-form : r .kind ≡ 2 → r .size < 1 → r .len ≡ 0 → (r .place ≡ 0) × (r .namelen ≡ 0) → r .prim ≡ 0 → r .word ≤ top → r .count < 2 ^ 31 → FormGood top s r
+  object-in-form : r .kind ≡ 2 → r .size < 1 → r .len ≡ 0 → (r .place ≡ 0) × (r .namelen ≡ 0) → r .prim ≡ 0 → r .class ≤ top → r .count < 2 ^ 31 → GoodInForm top s r
   unfolding name-of
-  object-form k z l n p w c =
-      record { word = w; few = c; kind = object-good (length s) r k (omega arith) l n p; name = no-bytes s (r .place) (r .namelen) (n .1) }
+  object-in-form k z l n p w c =
+      record { class = w; few = c; kind = object-good (length s) r k (omega arith) l n p; name = no-bytes s (r .place) (r .namelen) (n .1) }
 
-  primitive-form : r .kind ≡ 4 → r .word ≡ 0 → r .count ≡ 0 → r .size < 2 ^ 32 → r .len < 2 ^ 31 → (r .place ≡ 0) × (r .namelen ≡ 0) → r .prim < 8 → FormGood top s r
+  primitive-in-form : r .kind ≡ 4 → r .class ≡ 0 → r .count ≡ 0 → r .size < 2 ^ 32 → r .len < 2 ^ 31 → (r .place ≡ 0) × (r .namelen ≡ 0) → r .prim < 8 → GoodInForm top s r
   unfolding name-of
-  primitive-form k w c z l n p =
-      record { word = omega arith; few = omega arith; kind = primitive-good (length s) r k w c z l n p; name = no-bytes s (r .place) (r .namelen) (n .1) }
+  primitive-in-form k w c z l n p =
+      record { class = omega arith; few = omega arith; kind = primitive-good (length s) r k w c z l n p; name = no-bytes s (r .place) (r .namelen) (n .1) }
 
-module _ (h : Facts) (w : Word (h .word)) (s : List ℕ) (c : Cache) (t f known index : ℕ) (r : Row) (rs : List ℕ)
-    (d : known-class c t ≡ Just known) (k : known ≤ highest (h .word)) where
+module _ (h : Header) (w : ValidBits (h .bits)) (s : List ℕ) (c : Cache) (t f known index : ℕ) (r : Row) (rs : List ℕ)
+    (d : slot-class c t ≡ Just known) (k : known ≤ max-address (h .bits)) where
   abbrev top : ℕ
-  top = highest (h .word)
+  top = max-address (h .bits)
 
-  abbrev Ok : Form → Type 0
-  Ok fm = RowOk top known (hash-kind h t f) index s (shape (h .word / 8) fm t f) r rs
+  abbrev ShapeBounds : Form → Type 0
+  ShapeBounds fm = RowBounds top known (hash-kind h t f) index s (shape (h .bits / 8) fm t f) r rs
 
-  some : eqb (h .word / 8) 0 ≡ false
-  some = word-some (h .word) w
+  address-size-nonzero : eqb (h .bits / 8) 0 ≡ false
+  address-size-nonzero = bits-bytes-nonzero (h .bits) w
 
-  worded : r .word < 256 ^ (h .word / 8) → r .word ≤ top
-  worded = word-most (h .word) (r .word) w
+  class-in-range : r .class < 256 ^ (h .bits / 8) → r .class ≤ top
+  class-in-range = class-le-max (h .bits) (r .class) w
 
-  form-good : (fm : Form) → tagged t ≡ Begins fm → Ok fm → FormGood top s r
+  row-good-in-form : (fm : Form) → tag-form t ≡ Begins fm → ShapeBounds fm → GoodInForm top s r
   unfolding shape name-of
-  form-good Short g o =
-      object-form top s r (o .kind) (o .size refl) (o .len refl .1 refl) (o .name .none refl) (o .prim) (omega (arith, o .wordless refl refl)) (omega (arith, o .count .fixed refl))
-  form-good Medium g o =
-      object-form top s r (o .kind) (o .size refl) (o .len refl .1 refl) (o .name .none refl) (o .prim) (worded (o .worded some)) (omega (arith, o .count .fixed refl))
-  form-good Long g o =
-      object-form top s r (o .kind) (o .size refl) (o .len refl .1 refl) (o .name .none refl) (o .prim) (worded (o .worded some)) (o .count .counted refl)
-  form-good Class g o =
+  row-good-in-form Short g o =
+      object-in-form top s r (o .kind) (o .size refl) (o .len refl .1 refl) (o .name .none refl) (o .prim) (omega (arith, o .class-known refl refl)) (omega (arith, o .count .fixed refl))
+  row-good-in-form Medium g o =
+      object-in-form top s r (o .kind) (o .size refl) (o .len refl .1 refl) (o .name .none refl) (o .prim) (class-in-range (o .class-in-field address-size-nonzero)) (omega (arith, o .count .fixed refl))
+  row-good-in-form Long g o =
+      object-in-form top s r (o .kind) (o .size refl) (o .len refl .1 refl) (o .name .none refl) (o .prim) (class-in-range (o .class-in-field address-size-nonzero)) (o .count .countwidth refl)
+  row-good-in-form Class g o =
       let n = o .name .some refl in
       record {
-        word = worded (o .superclass refl some);
-        few = o .count .counted refl;
+        class = class-in-range (o .superclass refl address-size-nonzero);
+        few = o .count .countwidth refl;
         kind =
-            class-good (length s) r (o .kind) (λ z. class-hash h t f (tag-of-form t Class g .1) (sym (o .hashkind) ∙ z)) (o .inst refl) (o .len refl .1 refl) (n .enough) (n .short)
+            class-good (length s) r (o .kind) (λ z. class-hash-kind h t f (tag-matches t Class g .1) (sym (o .hashkind) ∙ z)) (o .inst refl) (o .len refl .1 refl) (n .enough) (n .short)
             (n .inside) (o .prim);
         name = n .bytes;
       }
-  form-good ObjectArray g o = record {
-    word = worded (o .worded some);
-    few = o .count .counted refl;
+  row-good-in-form ObjectArray g o = record {
+    class = class-in-range (o .class-in-field address-size-nonzero);
+    few = o .count .countwidth refl;
     kind = array-good (length s) r (o .kind) (o .size refl) (o .long refl .0) (o .long refl .1) (o .name .none refl) (o .prim);
     name = no-bytes s (r .place) (r .namelen) (o .name .none refl .1);
   }
-  form-good Primitive g o =
-      let z : known ≡ 0 = known-none c t known (tag-of-form t Primitive g .0) d in
-      primitive-form top s r (o .kind) (o .wordless refl refl ∙ z) (o .count .fixed refl) (o .size refl) (o .len refl .0) (o .name .none refl) (omega (arith, o .prim))
-  form-good LongPrimitive g o =
-      let z : known ≡ 0 = known-none c t known (tag-of-form t LongPrimitive g .0) d in
-      primitive-form top s r (o .kind) (o .wordless refl refl ∙ z) (o .count .fixed refl) (o .size refl) (o .len refl .0) (o .name .none refl) (omega (arith, o .prim))
+  row-good-in-form Primitive g o =
+      let z : known ≡ 0 = known-zero c t known (tag-matches t Primitive g .0) d in
+      primitive-in-form top s r (o .kind) (o .class-known refl refl ∙ z) (o .count .fixed refl) (o .size refl) (o .len refl .0) (o .name .none refl) (omega (arith, o .prim))
+  row-good-in-form LongPrimitive g o =
+      let z : known ≡ 0 = known-zero c t known (tag-matches t LongPrimitive g .0) d in
+      primitive-in-form top s r (o .kind) (o .class-known refl refl ∙ z) (o .count .fixed refl) (o .size refl) (o .len refl .0) (o .name .none refl) (omega (arith, o .prim))
 
   -- The row is good, with its references after those before it, and so is its class word.
-  pub row-good : (fm : Form) (refs : List ℕ) → tagged t ≡ Begins fm → index ≡ length refs → Ok fm
-      → (good-row h s (refs ++ rs) (length refs) r ≡ true) × (r .word ≤ top)
-  unfolding good-row good-numbers every refs-of
+  pub row-good : (fm : Form) (refs : List ℕ) → tag-form t ≡ Begins fm → index ≡ length refs → ShapeBounds fm
+      → (good-row h s (refs ++ rs) (length refs) r ≡ true) × (r .class ≤ top)
+  unfolding good-row good-numbers all-true refs-of
   row-good fm refs g e o =
-      let x = form-good fm g o in
+      let x = row-good-in-form fm g o in
       let l : r .first + r .count ≤ length (refs ++ rs) = simp length-append (omega (arith, o .first, o .refs .many)) in (
         rw (
-          place-good top r (o .fours) (o .most) (x .word),
+          addresses-good top r (o .aligned) (o .most) (x .class),
           span-good (length refs) (length (refs ++ rs)) r (o .first ∙ e) l (x .few),
-          hash-good (h .hashed) r (λ y. o .hashkind ∙ all-hashed h t f y) (λ y. omega (arith, o .hashkind, not-all h t f y)) (rw (o .hashkind) (o .hash)),
+          hash-good (h .hashed) r (λ y. o .hashkind ∙ hash-kind-all-hashed h t f y) (λ y. omega (arith, o .hashkind, hash-kind-not-all-hashed h t f y)) (rw (o .hashkind) (o .hash)),
           x .kind,
           last-refs refs rs (r .first) (r .count) (o .first ∙ e) (o .refs .many),
           refs-good top rs (o .refs .good),
           x .name,
         ),
-        x .word,
+        x .class,
       )

@@ -1,5 +1,5 @@
 -- The row of a record that was read from bytes passes every check that the writer makes of a row.
--- A reader must believe `GoodBefore`.
+-- A reader must believe `GoodContext`.
 use mathlib.Core.Path.{_≡_, refl, sym, ap, _∙_}
 use Prim.Native.Nat.{ℕ, zero, suc, _/_, _%_, _^_, _≤_, _<_}
 use native.Mathlib.Decide.{decLt, ℕ-discrete}
@@ -11,35 +11,35 @@ use lib.ListN.{length, getD, set}
 use lib.Seq.{getD-set-same, getD-set-other, set-out}
 use borrow.Author.Tests.{eq-eqb}
 use Rattle.decode.specs.Numbers.{pick}
-use Rattle.decode.specs.Fields.{no-text}
-use Rattle.decode.specs.Values.{Gives, gives-yield, gives-then, gives-last, gives-when, gives-by, gives-count, gives-address, gives-reference, true-false}
-use Rattle.decode.specs.ByteValues.{Bytes, StringAt, gives-both, gives-field, gives-count-of, gives-fours, reference-fours, gives-string}
+use Rattle.decode.specs.Fields.{no-string}
+use Rattle.decode.specs.Values.{Gives, gives-yield, gives-then, gives-then-any, gives-weaken, gives-cases, gives-count, gives-address, gives-ref, true-not-false}
+use Rattle.decode.specs.ByteValues.{AllBytes, StringAt, gives-and, gives-field, gives-count-bounds, gives-address-aligned, gives-ref-aligned, gives-string}
 use Rattle.decode.specs.declared.Maybe.the-variants.{Just, Nothing}
-use Rattle.decode.specs.declared.Text.{Text}
+use Rattle.decode.specs.declared.StringSpan.{StringSpan}
 use Rattle.table.specs.Rows.{row-at}
 use Rattle.table.specs.declared.Row.{Row}
-use Rattle.phd.specs.Phd.{highest, beginning, empty, put, slot, known-class, hash-bytes, front, middle, class-name, link-count, references, Links, links, tail, there, row, Before, Item, over, item, linked, fields}
+use Rattle.phd.specs.Phd.{max-address, initial-context, empty-cache, push, slot, slot-class, hash-bytes, front, middle, class-name, ref-count, ref-list, SpannedRefs, spanned-refs, tail, field-or, row, RecordContext, Item, end-item, item, from-ref-count, fields}
 use Rattle.phd.specs.declared.cache.Cache.{Cache}
-use Rattle.phd.specs.declared.Facts.{Facts}
+use Rattle.phd.specs.declared.Header.{Header}
 use Rattle.phd.specs.declared.Front.{Front}
 use Rattle.phd.specs.declared.Middle.{Middle}
 use Rattle.phd.specs.declared.Origin.{Origin}
 use Rattle.phd.specs.declared.Shape.{Shape}
 use Rattle.phd.specs.declared.Tail.{Tail}
 use Rattle.phd_check.specs.WellFormed.{GoodRefs}
-use Rattle.phd_read.specs.LengthBounds.{Least, gives-true}
+use Rattle.phd_read.specs.LengthBounds.{AtLeastCount, gives-true-length}
 
 -- What a reading keeps between records: the address of the record before is in fours, and the class words of the cache lie in 0 to
 -- 2^W - 1.
-pub record GoodBefore (h : Facts) (k : Before) : Type 0 where
-  pub fours : k .address % 4 ≡ 0
-  pub classes : (i : ℕ) → getD (k .cache .words) i 0 ≤ highest (h .word)
+pub record GoodContext (h : Header) (k : RecordContext) : Type 0 where
+  pub aligned : k .address % 4 ≡ 0
+  pub classes : (i : ℕ) → getD (k .cache .classes) i 0 ≤ max-address (h .bits)
 
-pub good-beginning : (h : Facts) → GoodBefore h beginning
-unfolding empty
-good-beginning h = record { fours = refl; classes = none }
+pub good-context-start : (h : Header) → GoodContext h initial-context
+unfolding empty-cache
+good-context-start h = record { aligned = refl; classes = none }
   where
-    none : (i : ℕ) → getD (0 ∷ 0 ∷ 0 ∷ 0 ∷ []) i 0 ≤ highest (h .word)
+    none : (i : ℕ) → getD (0 ∷ 0 ∷ 0 ∷ 0 ∷ []) i 0 ≤ max-address (h .bits)
     none zero = omega arith
     none (suc zero) = omega arith
     none (suc (suc zero)) = omega arith
@@ -47,8 +47,8 @@ good-beginning h = record { fours = refl; classes = none }
     none (suc (suc (suc (suc i)))) = omega arith
 
 -- a number of a list that was set is at most what all are
-set-most : (l : List ℕ) (j a top : ℕ) → ((i : ℕ) → getD l i 0 ≤ top) → a ≤ top → (i : ℕ) → getD (set l j a) i 0 ≤ top
-set-most l j a top m k i = elim (ℕ-discrete i j) [
+set-le : (l : List ℕ) (j a top : ℕ) → ((i : ℕ) → getD l i 0 ≤ top) → a ≤ top → (i : ℕ) → getD (set l j a) i 0 ≤ top
+set-le l j a top m k i = elim (ℕ-discrete i j) [
   | yes e ↦ elim (decLt j (length l)) [
     | yes b ↦ rw (e, getD-set-same l j a 0 b) k
     | no b ↦ rw (set-out l j a (omega arith)) (m i)
@@ -56,137 +56,137 @@ set-most l j a top m k i = elim (ℕ-discrete i j) [
   | no e ↦ rw (getD-set-other l j i a 0 e) (m i)
 ]
 
-pub put-most : (c : Cache) (b : Bool) (w top : ℕ) → ((i : ℕ) → getD (c .words) i 0 ≤ top) → w ≤ top → (i : ℕ) → getD (pick b (put c w) c .words) i 0 ≤ top
-unfolding put
-put-most c true w top m k = set-most (c .words) (c .puts % 4) w top m k
-put-most c false w top m k = m
+pub push-le : (c : Cache) (b : Bool) (w top : ℕ) → ((i : ℕ) → getD (c .classes) i 0 ≤ top) → w ≤ top → (i : ℕ) → getD (pick b (push c w) c .classes) i 0 ≤ top
+unfolding push
+push-le c true w top m k = set-le (c .classes) (c .pushes % 4) w top m k
+push-le c false w top m k = m
 
 -- the class of a short record lies there too
-pub known-most : (c : Cache) (t known top : ℕ) → ((i : ℕ) → getD (c .words) i 0 ≤ top) → known-class c t ≡ Just known → known ≤ top
-unfolding known-class slot
-known-most c t known top m e = by (leb 0x80 t) (ltb (t / 0x20 % 4) (c .puts)) e
+pub known-le : (c : Cache) (t known top : ℕ) → ((i : ℕ) → getD (c .classes) i 0 ≤ top) → slot-class c t ≡ Just known → known ≤ top
+unfolding slot-class slot
+known-le c t known top m e = by (leb 0x80 t) (ltb (t / 0x20 % 4) (c .pushes)) e
   where
-    by : (x y : Bool) → pick x (pick y (Just (getD (c .words) (t / 0x20 % 4) 0)) Nothing) (Just 0) ≡ Just known → known ≤ top
-    by true true e = let z : getD (c .words) (t / 0x20 % 4) 0 ≡ known = cc in omega (arith, m (t / 0x20 % 4))
+    by : (x y : Bool) → pick x (pick y (Just (getD (c .classes) (t / 0x20 % 4) 0)) Nothing) (Just 0) ≡ Just known → known ≤ top
+    by true true e = let z : getD (c .classes) (t / 0x20 % 4) 0 ≡ known = cc in omega (arith, m (t / 0x20 % 4))
     by true false e = let z : _≡_ {A = ℕ} 0 1 = cc in absurd (omega arith)
     by false y e = let z : 0 ≡ known = cc in omega arith
 
 -- ---- the parts of a record
 
 -- the front: the address, the class word and the array length, as wide as the shape says
-record FrontOk (top : ℕ) (sh : Shape) (v : Front) : Type 0 where
-  pub fours : v .address % 4 ≡ 0
+record FrontBounds (top : ℕ) (sh : Shape) (v : Front) : Type 0 where
+  pub aligned : v .address % 4 ≡ 0
   pub most : v .address ≤ top
-  pub word : v .word < 256 ^ sh .word
+  pub class : v .class < 256 ^ sh .class
   pub len : (v .len < 2 ^ 31) × (sh .len ≡ 0 → v .len ≡ 0)
 
-record MiddleOk (sh : Shape) (hb : ℕ) (m : Middle) : Type 0 where
+record MiddleBounds (sh : Shape) (hb : ℕ) (m : Middle) : Type 0 where
   pub inst : m .inst < 2 ^ 31
   pub hash : m .hash < 256 ^ hb
   pub superclass : m .superclass < 256 ^ sh .superclass
 
 -- a name of a length field of n bytes: none where there is no such field
-pub record NameOk (s : List ℕ) (n : ℕ) (t : Text) : Type 0 where
+pub record NameBounds (s : List ℕ) (n : ℕ) (t : StringSpan) : Type 0 where
   pub none : n ≡ 0 → (t .place ≡ 0) × (t .len ≡ 0)
   pub some : eqb n 0 ≡ false → StringAt s 0x21 1 t
 
 -- a count in a field of n bytes, or else the one that is known
-pub record CountOk (n known v : ℕ) : Type 0 where
+pub record CountBounds (n known v : ℕ) : Type 0 where
   pub fixed : n ≡ 0 → v ≡ known
-  pub counted : eqb n 0 ≡ false → v < 2 ^ 31
+  pub countwidth : eqb n 0 ≡ false → v < 2 ^ 31
 
 -- n references, each of them good
-pub record RefsOk (top n : ℕ) (rs : List ℕ) : Type 0 where
+pub record RefsBounds (top n : ℕ) (rs : List ℕ) : Type 0 where
   pub many : length rs ≡ n
   pub good : GoodRefs top rs
 
-record TailOk (wide truelen n : ℕ) (t : Tail) : Type 0 where
+record TailBounds (wide truelen n : ℕ) (t : Tail) : Type 0 where
   pub size : t .size < 256 ^ wide
-  pub long : Least truelen n (t .truelen)
+  pub long : AtLeastCount truelen n (t .truelen)
 
-module _ {s : List ℕ} (b : Bytes s) where
-  gives-front : (top before : ℕ) (sh : Shape) → before % 4 ≡ 0 → Gives s (FrontOk top sh) (front top before sh)
+module _ {s : List ℕ} (b : AllBytes s) where
+  gives-front : (top before : ℕ) (sh : Shape) → before % 4 ≡ 0 → Gives s (FrontBounds top sh) (front top before sh)
   unfolding front
   gives-front top before sh z =
-      gives-then _ _ _ (gives-both (gives-fours (sh .gap) before top z) (gives-address (sh .gap) before top)) (λ a k.
-      gives-then _ _ _ (gives-field b (sh .word)) (λ word l. gives-then _ _ _ (gives-count-of b (sh .len)) (λ len m.
-      gives-yield _ (record { fours = k .0; most = k .1; word = l; len = m }))))
+      gives-then _ _ _ (gives-and (gives-address-aligned (sh .gap) before top z) (gives-address (sh .gap) before top)) (λ a k.
+      gives-then _ _ _ (gives-field b (sh .class)) (λ class l. gives-then _ _ _ (gives-count-bounds b (sh .len)) (λ len m.
+      gives-yield _ (record { aligned = k .0; most = k .1; class = l; len = m }))))
 
-  gives-middle : (sh : Shape) (hb : ℕ) → Gives s (MiddleOk sh hb) (middle sh hb)
+  gives-middle : (sh : Shape) (hb : ℕ) → Gives s (MiddleBounds sh hb) (middle sh hb)
   unfolding middle
   gives-middle sh hb =
       gives-then _ _ _ (gives-count (sh .inst)) (λ inst k. gives-then _ _ _ (gives-field b hb) (λ hash l.
       gives-then _ _ _ (gives-field b (sh .superclass)) (λ superclass m. gives-yield _ (record { inst = k; hash = l; superclass = m }))))
 
-  gives-name : (n : ℕ) → Gives s (NameOk s n) (class-name n)
+  gives-name : (n : ℕ) → Gives s (NameBounds s n) (class-name n)
   unfolding class-name
   gives-name n =
-      gives-by (eqb n 0) _ _ (λ e. gives-yield no-text (record { none = λ _. (refl, refl); some = λ f. absurd (true-false (sym e ∙ f)) }))
-      (λ e. gives-when (gives-string b 0x21 1) (λ t k. record { none = λ z. absurd (true-false (sym (eq-eqb n 0 z) ∙ e)); some = λ _. k }))
+      gives-cases (eqb n 0) _ _ (λ e. gives-yield no-string (record { none = λ _. (refl, refl); some = λ f. absurd (true-not-false (sym e ∙ f)) }))
+      (λ e. gives-weaken (gives-string b 0x21 1) (λ t k. record { none = λ z. absurd (true-not-false (sym (eq-eqb n 0 z) ∙ e)); some = λ _. k }))
 
-  gives-link-count : (n known : ℕ) → Gives s (CountOk n known) (link-count n known)
-  unfolding link-count
-  gives-link-count n known =
-      gives-by (eqb n 0) _ _ (λ e. gives-yield known (record { fixed = λ _. refl; counted = λ f. absurd (true-false (sym e ∙ f)) }))
-      (λ e. gives-when (gives-count n) (λ v k. record { fixed = λ z. absurd (true-false (sym (eq-eqb n 0 z) ∙ e)); counted = λ _. k }))
+  gives-ref-count : (n known : ℕ) → Gives s (CountBounds n known) (ref-count n known)
+  unfolding ref-count
+  gives-ref-count n known =
+      gives-cases (eqb n 0) _ _ (λ e. gives-yield known (record { fixed = λ _. refl; countwidth = λ f. absurd (true-not-false (sym e ∙ f)) }))
+      (λ e. gives-weaken (gives-count n) (λ v k. record { fixed = λ z. absurd (true-not-false (sym (eq-eqb n 0 z) ∙ e)); countwidth = λ _. k }))
 
-  gives-refs : (w a top n : ℕ) → a % 4 ≡ 0 → Gives s (RefsOk top n) (references w a top n)
-  unfolding references
+  gives-refs : (w a top n : ℕ) → a % 4 ≡ 0 → Gives s (RefsBounds top n) (ref-list w a top n)
+  unfolding ref-list
   gives-refs w a top zero z = gives-yield [] (record { many = refl; good = tt })
   gives-refs w a top (suc n) z =
-      gives-then _ _ _ (gives-both (gives-reference w a top) (reference-fours w a top z)) (λ r k. gives-then _ _ _ (gives-refs w a top n z) (λ rs l.
-      gives-yield (r ∷ rs) (record { many = ap suc (l .many); good = (record { fours = k .1; some = k .0 .0; most = k .0 .1 }, l .good) })))
+      gives-then _ _ _ (gives-and (gives-ref w a top) (gives-ref-aligned w a top z)) (λ r k. gives-then _ _ _ (gives-refs w a top n z) (λ rs l.
+      gives-yield (r ∷ rs) (record { many = ap suc (l .many); good = (record { aligned = k .1; some = k .0 .0; most = k .0 .1 }, l .good) })))
 
-  gives-links : (w a top n : ℕ) → a % 4 ≡ 0 → Gives s (λ (ls : Links). RefsOk top n (ls .list)) (links w a top n)
-  unfolding links
-  gives-links w a top n z = gives-last _ _ (λ p. gives-then _ _ _ (gives-refs w a top n z) (λ rs l. gives-yield _ l))
+  gives-spanned-refs : (w a top n : ℕ) → a % 4 ≡ 0 → Gives s (λ (ls : SpannedRefs). RefsBounds top n (ls .list)) (spanned-refs w a top n)
+  unfolding spanned-refs
+  gives-spanned-refs w a top n z = gives-then-any _ _ (λ p. gives-then _ _ _ (gives-refs w a top n z) (λ rs l. gives-yield _ l))
 
-  gives-tail : (size truelen n : ℕ) → Gives s (TailOk size truelen n) (tail size truelen n)
+  gives-tail : (size truelen n : ℕ) → Gives s (TailBounds size truelen n) (tail size truelen n)
   unfolding tail
   gives-tail size truelen n =
-      gives-then _ _ _ (gives-field b size) (λ z k. gives-then _ _ _ (gives-true truelen n) (λ t l. gives-yield _ (record { size = k; long = l })))
+      gives-then _ _ _ (gives-field b size) (λ z k. gives-then _ _ _ (gives-true-length truelen n) (λ t l. gives-yield _ (record { size = k; long = l })))
 
 -- ---- the row of a record
 
 -- What holds of the row r and the references rs of a record that was read from s by its shape; `known` is the class of a short record,
 -- hk the hash kind, `index` how many references were before.
-pub record RowOk (top known hk index : ℕ) (s : List ℕ) (sh : Shape) (r : Row) (rs : List ℕ) : Type 0 where
+pub record RowBounds (top known hk index : ℕ) (s : List ℕ) (sh : Shape) (r : Row) (rs : List ℕ) : Type 0 where
   pub kind : r .kind ≡ sh .kind
-  pub fours : r .address % 4 ≡ 0
+  pub aligned : r .address % 4 ≡ 0
   pub most : r .address ≤ top
-  pub worded : eqb (sh .word) 0 ≡ false → r .word < 256 ^ sh .word
-  pub superclass : sh .word ≡ 0 → eqb (sh .superclass) 0 ≡ false → r .word < 256 ^ sh .superclass
-  pub wordless : sh .word ≡ 0 → sh .superclass ≡ 0 → r .word ≡ known
+  pub class-in-field : eqb (sh .class) 0 ≡ false → r .class < 256 ^ sh .class
+  pub superclass : sh .class ≡ 0 → eqb (sh .superclass) 0 ≡ false → r .class < 256 ^ sh .superclass
+  pub class-known : sh .class ≡ 0 → sh .superclass ≡ 0 → r .class ≡ known
   pub hashkind : r .hashkind ≡ hk
   pub hash : r .hash < 256 ^ hash-bytes hk
   pub first : r .first ≡ index
-  pub count : CountOk (sh .counted) (sh .count) (r .count)
-  pub refs : RefsOk top (r .count) rs
+  pub count : CountBounds (sh .countwidth) (sh .count) (r .count)
+  pub refs : RefsBounds top (r .count) rs
   pub inst : eqb (sh .inst) 0 ≡ false → r .size < 2 ^ 31
   pub size : sh .inst ≡ 0 → r .size < 256 ^ sh .size
   pub long : eqb (sh .truelen) 0 ≡ false → (r .len < 2 ^ 31) × (r .count ≤ r .len)
   pub len : sh .truelen ≡ 0 → (r .len < 2 ^ 31) × (sh .len ≡ 0 → r .len ≡ 0)
-  pub name : NameOk s (sh .name) (record { there = true; place = r .place; len = r .namelen })
+  pub name : NameBounds s (sh .name) (record { present = true; place = r .place; len = r .namelen })
   pub prim : r .prim ≡ sh .prim
 
-abbrev pub Rowed : (top known hk index : ℕ) → List ℕ → Shape → Item → Type 0
-Rowed top known hk index s sh over = Unit {0}
-Rowed top known hk index s sh (item r rs sp k) = RowOk top known hk index s sh (row-at r 0) rs
+abbrev pub ItemBounds : (top known hk index : ℕ) → List ℕ → Shape → Item → Type 0
+ItemBounds top known hk index s sh end-item = Unit {0}
+ItemBounds top known hk index s sh (item r rs sp k) = RowBounds top known hk index s sh (row-at r 0) rs
 
-pub gives-fields : {s : List ℕ} → Bytes s → (top before : ℕ) (c : Cache) (origin : Origin) (known hk : ℕ) (sh : Shape) → before % 4 ≡ 0
-    → Gives s (Rowed top known hk (origin .index) s sh) (fields top before c origin known hk sh)
-unfolding fields linked row there row-at
+pub gives-fields : {s : List ℕ} → AllBytes s → (top before : ℕ) (c : Cache) (origin : Origin) (known hk : ℕ) (sh : Shape) → before % 4 ≡ 0
+    → Gives s (ItemBounds top known hk (origin .index) s sh) (fields top before c origin known hk sh)
+unfolding fields from-ref-count row field-or row-at
 gives-fields {s} b top before c origin known hk sh z =
     gives-then _ _ _ (gives-front b top before sh z) (λ v p. gives-then _ _ _ (gives-middle b sh (hash-bytes hk)) (λ m q.
-    gives-then _ _ _ (gives-name b (sh .name)) (λ name o. gives-then _ _ _ (gives-link-count b (sh .counted) (sh .count)) (λ n e.
-    gives-then _ _ _ (gives-links b (sh .link) (v .address) top n (p .fours)) (λ ls l. gives-then _ _ _ (gives-tail b (sh .size) (sh .truelen) n) (λ t k.
+    gives-then _ _ _ (gives-name b (sh .name)) (λ name o. gives-then _ _ _ (gives-ref-count b (sh .countwidth) (sh .count)) (λ n e.
+    gives-then _ _ _ (gives-spanned-refs b (sh .refwidth) (v .address) top n (p .aligned)) (λ ls l. gives-then _ _ _ (gives-tail b (sh .size) (sh .truelen) n) (λ t k.
     gives-yield _ (record {
       kind = refl;
-      fours = p .fours;
+      aligned = p .aligned;
       most = p .most;
-      worded = λ x. rw x (p .word);
+      class-in-field = λ x. rw x (p .class);
       superclass = λ x y. rw (x, y) (q .superclass);
-      wordless = λ x y. rw (x, y);
+      class-known = λ x y. rw (x, y);
       hashkind = refl;
       hash = q .hash;
       first = refl;
@@ -196,6 +196,6 @@ gives-fields {s} b top before c origin known hk sh z =
       size = λ x. rw x (k .size);
       long = λ x. rw x (k .long .0, k .long .1 x);
       len = λ x. rw x (p .len);
-      name = record { none = o .none; some = λ x. let y = o .some x in record { is-there = refl; enough = y .enough; short = y .short; inside = y .inside; bytes = y .bytes } };
+      name = record { none = o .none; some = λ x. let y = o .some x in record { is-present = refl; enough = y .enough; short = y .short; inside = y .inside; bytes = y .bytes } };
       prim = refl;
     })))))))

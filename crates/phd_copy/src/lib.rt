@@ -5,12 +5,12 @@ ghost use Prim.Native.Nat.{_*_};
 ghost use lib.ListN.{take};
 ghost use Rattle.table.specs.Table.{row-width};
 ghost use Rattle.table.specs.Rows.{rows-of};
-ghost use Rattle.phd_check.specs.GoodRows.{AllRight};
-use phd_read::Reading;
+ghost use Rattle.phd_check.specs.GoodRows.{TablesGood};
+use phd_read::ReadAnswer;
 
 // Calls `phd_read::read`. If the header was read, the header and the rows stored pass every check, with the dump as name bytes.
-pub fn read_checked(dump: &[u8], rows: &mut [u64], refs: &mut [u64]) -> Reading
-    ensures { λ a. ⌜ ((a .facts .word ≡ 0 → ⊥) → AllRight (a .facts) (now (dump .entry)) (take (a .refs) (now (refs .exit))) (rows-of (take (a .rows * row-width) (now (rows .exit))))) ⌝ }
+pub fn read_passes_checks(dump: &[u8], rows: &mut [u64], refs: &mut [u64]) -> ReadAnswer
+    ensures { λ a. ⌜ ((a .header .bits ≡ 0 → ⊥) → TablesGood (a .header) (now (dump .entry)) (take (a .refs) (now (refs .exit))) (rows-of (take (a .rows * row-width) (now (rows .exit))))) ⌝ }
 {
     phd_read::read(dump, rows, refs)
 }

@@ -4,7 +4,7 @@ use Prim.Native.Nat.{ℕ, _+_, _-_}
 use mathlib.Core.List.{List}
 use lib.ListN.{length}
 use Rattle.decode.specs.Numbers.{pick}
-use Rattle.table.specs.Rows.{of-kind}
+use Rattle.table.specs.Rows.{is-kind}
 use Rattle.table.specs.Sums.{sum}
 use Rattle.table.specs.declared.Row.{Row}
 use Rattle.phd_counts.specs.declared.Tally.{Tally}
@@ -12,17 +12,17 @@ use Rattle.phd_counts.specs.declared.Tally.{Tally}
 -- ---- of a row
 
 -- 1 for a row of a kind, else 0
-abbrev pub one-of : ℕ → Row → ℕ
-one-of k r = pick (of-kind k r) 1 0
+abbrev pub kind-count : ℕ → Row → ℕ
+kind-count k r = pick (is-kind k r) 1 0
 
 -- the references that it lists
-abbrev pub count-of : Row → ℕ
-count-of r = r .count
+abbrev pub row-ref-count : Row → ℕ
+row-ref-count r = r .count
 
 -- An object array's nulls: its true length less its reference count. No other row has any. (A good array has no more references
 -- than its length, so that nothing is cut off: Exact.)
 unfoldable pub nulls-of : Row → ℕ
-nulls-of r = pick (of-kind 3 r) (r .len - r .count) 0
+nulls-of r = pick (is-kind 3 r) (r .len - r .count) 0
 
 -- ---- of rows
 
@@ -34,23 +34,23 @@ nulls rows = sum nulls-of rows
 
 unfoldable pub tally-of : List Row → Tally
 tally-of rows = record {
-  classes = sum (one-of 1) rows;
-  objects = sum (one-of 2) rows;
-  arrays = sum (one-of 3) rows;
-  primitives = sum (one-of 4) rows;
+  classes = sum (kind-count 1) rows;
+  objects = sum (kind-count 2) rows;
+  arrays = sum (kind-count 3) rows;
+  primitives = sum (kind-count 4) rows;
   rows = length rows;
-  refs = sum count-of rows;
+  refs = sum row-ref-count rows;
   nulls = nulls rows;
 }
 
 -- a tally with a row more
-unfoldable pub counted : Tally → Row → Tally
-counted t r = record {
-  classes = t .classes + one-of 1 r;
-  objects = t .objects + one-of 2 r;
-  arrays = t .arrays + one-of 3 r;
-  primitives = t .primitives + one-of 4 r;
+unfoldable pub add-row : Tally → Row → Tally
+add-row t r = record {
+  classes = t .classes + kind-count 1 r;
+  objects = t .objects + kind-count 2 r;
+  arrays = t .arrays + kind-count 3 r;
+  primitives = t .primitives + kind-count 4 r;
   rows = t .rows + 1;
-  refs = t .refs + count-of r;
+  refs = t .refs + row-ref-count r;
   nulls = t .nulls + nulls-of r;
 }

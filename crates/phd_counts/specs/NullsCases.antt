@@ -27,6 +27,6 @@ tables =
     ∷ (row 1 0 2 0 ++ row 2 2 3 0 ++ row 4 5 0 9)
     ∷ (row 4 0 0 9 ++ row 3 0 1 2 ++ row 2 1 3 0) ∷ []
 
-pub as-said : map (λ table. nulls (rows-of table)) tables ≡ 0 ∷ 0 ∷ 3 ∷ 4 ∷ 9 ∷ 0 ∷ 1 ∷ []
+pub nulls-cases-hold : map (λ table. nulls (rows-of table)) tables ≡ 0 ∷ 0 ∷ 3 ∷ 4 ∷ 9 ∷ 0 ∷ 1 ∷ []
 unfolding row-at rows-from rows-of row-count sum nulls-of nulls
-as-said = refl
+nulls-cases-hold = refl

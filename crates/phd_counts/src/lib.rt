@@ -1,8 +1,8 @@
 // What is counted of a table's rows: how many are of each kind, their references, and the nulls of object arrays.
 // Each function's contract is an equation with a definition of specs/Counts.antt.
 ghost use mathlib.Core.Path.{_≡_};
-ghost use Rattle.phd_counts.specs.Counts.{nulls-of, tally-of, counted as countedOf};
-ghost use Rattle.phd_counts.specs.CountLoop.{Few, Small};
+ghost use Rattle.phd_counts.specs.Counts.{nulls-of, tally-of, add-row};
+ghost use Rattle.phd_counts.specs.CountLoop.{CountBounds, NoOverflow};
 ghost use Rattle.table.specs.Rows.{rows-of};
 use decode::choice;
 use table::Row;
@@ -19,7 +19,7 @@ pub struct Tally {
 }
 
 // A row's nulls: of an object array its true length less its count of references, of any other row none.
-pub fn nulls(row: Row) -> u64
+pub fn row_nulls(row: Row) -> u64
     ensures { λ r. ⌜ r ≡ nulls-of row ⌝ }
 {
     if row.kind != 3 {
@@ -32,12 +32,12 @@ pub fn nulls(row: Row) -> u64
 }
 
 // The counts with a row more.
-pub fn counted(t: Tally, row: Row) -> Tally
-    requires { ⌜ Small t row ⌝ }
-    ensures { λ r. ⌜ r ≡ countedOf t row ⌝ }
+pub fn add_row(t: Tally, row: Row) -> Tally
+    requires { ⌜ NoOverflow t row ⌝ }
+    ensures { λ r. ⌜ r ≡ add-row t row ⌝ }
 {
     let listed = row.count;
-    let unlisted = nulls(row);
+    let unlisted = row_nulls(row);
     let classes = t.classes + choice(row.kind == 1, 1, 0);
     let objects = t.objects + choice(row.kind == 2, 1, 0);
     let arrays = t.arrays + choice(row.kind == 3, 1, 0);
@@ -58,10 +58,10 @@ pub fn counted(t: Tally, row: Row) -> Tally
 
 // The counts of all rows.
 pub fn count_all(rows: &[u64]) -> Tally
-    requires { ⌜ Few (rows-of (now rows)) ⌝ }
+    requires { ⌜ CountBounds (rows-of (now rows)) ⌝ }
     ensures { λ r. ⌜ r ≡ tally-of (rows-of (now (rows .entry))) ⌝ }
 {
-    let n = rows.len() / table::ROW;
+    let n = rows.len() / table::ROW_WIDTH;
     let mut t = Tally {
         classes: 0,
         objects: 0,
@@ -74,7 +74,7 @@ pub fn count_all(rows: &[u64]) -> Tally
     let mut i: usize = 0;
     while i < n {
         let row = table::row_at(rows, i);
-        t = counted(t, row);
+        t = add_row(t, row);
         i += 1;
     }
     t

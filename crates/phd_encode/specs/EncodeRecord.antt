@@ -6,79 +6,79 @@ use Prim.Native.Nat.{ℕ, _+_, _/_, _≤_}
 use mathlib.Core.List.{List, [], _∷_, _++_}
 use lib.Dec.{ltb}
 use Rattle.decode.specs.Numbers.{pick}
-use Rattle.encode.specs.Encode.{join, be, gap, complement, links}
-use Rattle.phd.specs.Phd.{hash-bytes, put}
+use Rattle.encode.specs.Encode.{join, be, gap, twos-complement, encode-ref-list}
+use Rattle.phd.specs.Phd.{hash-bytes, push}
 use Rattle.phd.specs.Shapes.{record-bytes}
 use Rattle.phd.specs.declared.cache.Cache.{Cache}
-use Rattle.phd.specs.declared.Facts.{Facts}
+use Rattle.phd.specs.declared.Header.{Header}
 use Rattle.phd.specs.declared.Shape.{Shape}
 use Rattle.table.specs.Rows.{Rec}
 use Rattle.table.specs.declared.Row.{Row}
-use Rattle.phd_plan.specs.FormChoice.{measure, planned}
+use Rattle.phd_plan.specs.FormChoice.{plan-input, make-plan}
 use Rattle.phd_plan.specs.declared.Plan.{Plan}
-use Rattle.phd_encode.specs.declared.sizes.Sized.{Sized}
+use Rattle.phd_encode.specs.declared.sizes.EncodedSize.{EncodedSize}
 
 -- the tag, and the flag byte where the form has one
-unfoldable pub put-tag : Plan → List ℕ
-put-tag p = be 1 (p .tag) ++ be (pick (ltb (p .tag) 0x20) 1 0) (p .flags)
+unfoldable pub encode-tag : Plan → List ℕ
+encode-tag p = be 1 (p .tag) ++ be (pick (ltb (p .tag) 0x20) 1 0) (p .flags)
 
 -- gap, class word and array length of a row, after a record at the address `before`
-unfoldable pub put-front : ℕ → Shape → Row → List ℕ
-put-front before sh r = join (be (sh .gap) (complement (gap before (r .address))) ∷ be (sh .word) (r .word) ∷ be (sh .len) (r .len) ∷ [])
+unfoldable pub encode-front : ℕ → Shape → Row → List ℕ
+encode-front before sh r = join (be (sh .gap) (twos-complement (gap before (r .address))) ∷ be (sh .class) (r .class) ∷ be (sh .len) (r .len) ∷ [])
 
 -- a class's instance size, the hash and the superclass word
-unfoldable pub put-middle : Shape → Row → List ℕ
-put-middle sh r = join (be (sh .inst) (r .size) ∷ be (hash-bytes (r .hashkind)) (r .hash) ∷ be (sh .superclass) (r .word) ∷ [])
+unfoldable pub encode-middle : Shape → Row → List ℕ
+encode-middle sh r = join (be (sh .inst) (r .size) ∷ be (hash-bytes (r .hashkind)) (r .hash) ∷ be (sh .superclass) (r .class) ∷ [])
 
 -- a class's name behind its length
-unfoldable pub put-name : Shape → Row → List ℕ → List ℕ
-put-name sh r name = be (sh .name) (r .namelen) ++ name
+unfoldable pub encode-name : Shape → Row → List ℕ → List ℕ
+encode-name sh r name = be (sh .name) (r .namelen) ++ name
 
 -- the references, behind their count where it is not in the tag
-unfoldable pub put-links : Shape → Row → List ℕ → List ℕ
-put-links sh r refs = be (sh .counted) (r .count) ++ links (sh .link) (r .address) refs
+unfoldable pub encode-refs : Shape → Row → List ℕ → List ℕ
+encode-refs sh r refs = be (sh .countwidth) (r .count) ++ encode-ref-list (sh .refwidth) (r .address) refs
 
 -- an array's size and true length
-unfoldable pub put-tail : Shape → Row → List ℕ
-put-tail sh r = be (sh .size) (r .size) ++ be (sh .truelen) (r .len)
+unfoldable pub encode-tail : Shape → Row → List ℕ
+encode-tail sh r = be (sh .size) (r .size) ++ be (sh .truelen) (r .len)
 
 -- the fields after the tag and the flag byte
-unfoldable pub put-fields : ℕ → Shape → Row → List ℕ → List ℕ → List ℕ
-put-fields before sh r refs name =
-    join (put-front before sh r ∷ put-middle sh r ∷ put-name sh r name ∷ put-links sh r refs ∷ put-tail sh r ∷ [])
+unfoldable pub encode-fields : ℕ → Shape → Row → List ℕ → List ℕ → List ℕ
+encode-fields before sh r refs name =
+    join (encode-front before sh r ∷ encode-middle sh r ∷ encode-name sh r name ∷ encode-refs sh r refs ∷ encode-tail sh r ∷ [])
 
 -- a row with its references and its name, as it is planned
-unfoldable pub put-planned : ℕ → Plan → Row → List ℕ → List ℕ → List ℕ
-put-planned before p r refs name = put-tag p ++ put-fields before (p .shape) r refs name
+unfoldable pub encode-planned : ℕ → Plan → Row → List ℕ → List ℕ → List ℕ
+encode-planned before p r refs name = encode-tag p ++ encode-fields before (p .shape) r refs name
 
 -- A plan with no flag byte and no field but the gap, the class word, the hash and the references, of a row whose name has
 -- `namelen` bytes.
-pub record Lean (p : Plan) (namelen : ℕ) : Type 0 where
+pub record Compact (p : Plan) (namelen : ℕ) : Type 0 where
   pub tag : 0x20 ≤ p .tag
   pub len : p .shape .len ≡ 0
   pub inst : p .shape .inst ≡ 0
   pub superclass : p .shape .superclass ≡ 0
   pub name : p .shape .name ≡ 0
   pub unnamed : namelen ≡ 0
-  pub counted : p .shape .counted ≡ 0
+  pub countwidth : p .shape .countwidth ≡ 0
   pub size : p .shape .size ≡ 0
   pub truelen : p .shape .truelen ≡ 0
 
 -- how a record is written under the header h, after one at the address `before`, with the cache c
-unfoldable pub plan-of : Facts → ℕ → Cache → Rec → Plan
-plan-of h before c r = planned (h .word / 8) (measure c before (r .row) (r .refs))
+unfoldable pub plan-record : Header → ℕ → Cache → Rec → Plan
+plan-record h before c r = make-plan (h .bits / 8) (plan-input c before (r .row) (r .refs))
 
-unfoldable pub put-record : Facts → ℕ → Cache → Rec → List ℕ
-put-record h before c r = put-planned before (plan-of h before c r) (r .row) (r .refs) (r .name)
+unfoldable pub encode-record : Header → ℕ → Cache → Rec → List ℕ
+encode-record h before c r = encode-planned before (plan-record h before c r) (r .row) (r .refs) (r .name)
 
 -- the cache after it
-unfoldable pub cache-after : Facts → ℕ → Cache → Rec → Cache
-cache-after h before c r = pick (plan-of h before c r .shape .cached) (put c (r .row .word)) c
+unfoldable pub cache-after : Header → ℕ → Cache → Rec → Cache
+cache-after h before c r = pick (plan-record h before c r .shape .cached) (push c (r .row .class)) c
 
 -- how many bytes a plan has for a row
-abbrev pub size-of : Plan → Row → ℕ
-size-of p r = record-bytes (p .tag) (p .shape) r
+abbrev pub plan-size : Plan → Row → ℕ
+plan-size p r = record-bytes (p .tag) (p .shape) r
 
 -- that, and whether the class word goes to the cache
-unfoldable pub sized : Plan → Row → Sized
-sized p r = record { size = size-of p r; cached = p .shape .cached }
+unfoldable pub record-size : Plan → Row → EncodedSize
+record-size p r = record { size = plan-size p r; cached = p .shape .cached }

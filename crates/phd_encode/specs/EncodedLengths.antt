@@ -8,57 +8,57 @@ use mathlib.Core.List.{List}
 use lib.ListN.{length, length-append}
 use lib.Dec.{ltb}
 use Rattle.decode.specs.Numbers.{pick}
-use Rattle.decode.specs.Values.{one-most}
+use Rattle.decode.specs.Values.{bit-le-one}
 use Rattle.encode.specs.NumberRoundTrip.{length-be}
-use Rattle.encode.specs.SetsLaws.{length-links as length-of-links}
+use Rattle.encode.specs.SetsLaws.{length-encode-ref-list as length-of-refs}
 use Rattle.phd.specs.Phd.{hash-bytes}
-use Rattle.phd.specs.Shapes.{Narrow, hash-narrow, record-bytes}
+use Rattle.phd.specs.Shapes.{WidthsLe8, hash-bytes-le-8, record-bytes}
 use Rattle.phd.specs.declared.Shape.{Shape}
 use Rattle.phd_plan.specs.declared.Plan.{Plan}
 use Rattle.table.specs.declared.Row.{Row}
-use Rattle.phd_encode.specs.EncodeRecord.{put-tag, put-front, put-middle, put-name, put-links, put-tail, put-fields, put-planned, size-of}
+use Rattle.phd_encode.specs.EncodeRecord.{encode-tag, encode-front, encode-middle, encode-name, encode-refs, encode-tail, encode-fields, encode-planned, plan-size}
 
-length-tag : (p : Plan) → length (put-tag p) ≡ 1 + pick (ltb (p .tag) 0x20) 1 0
-unfolding put-tag
+length-tag : (p : Plan) → length (encode-tag p) ≡ 1 + pick (ltb (p .tag) 0x20) 1 0
+unfolding encode-tag
 length-tag p = simp (length-append, length-be)
 
-pub length-front : (before : ℕ) (sh : Shape) (r : Row) → length (put-front before sh r) ≡ sh .gap + sh .word + sh .len
-unfolding put-front
+pub length-front : (before : ℕ) (sh : Shape) (r : Row) → length (encode-front before sh r) ≡ sh .gap + sh .class + sh .len
+unfolding encode-front
 length-front before sh r = simp (length-append, length-be) (omega arith)
 
-pub length-middle : (sh : Shape) (r : Row) → length (put-middle sh r) ≡ sh .inst + hash-bytes (r .hashkind) + sh .superclass
-unfolding put-middle
+pub length-middle : (sh : Shape) (r : Row) → length (encode-middle sh r) ≡ sh .inst + hash-bytes (r .hashkind) + sh .superclass
+unfolding encode-middle
 length-middle sh r = simp (length-append, length-be) (omega arith)
 
-pub length-name : (sh : Shape) (r : Row) (name : List ℕ) → length (put-name sh r name) ≡ sh .name + length name
-unfolding put-name
+pub length-name : (sh : Shape) (r : Row) (name : List ℕ) → length (encode-name sh r name) ≡ sh .name + length name
+unfolding encode-name
 length-name sh r name = simp (length-append, length-be)
 
-length-links : (sh : Shape) (r : Row) (refs : List ℕ) → length (put-links sh r refs) ≡ sh .counted + length refs * sh .link
-unfolding put-links
-length-links sh r refs = simp (length-append, length-be, length-of-links)
+length-refs : (sh : Shape) (r : Row) (refs : List ℕ) → length (encode-refs sh r refs) ≡ sh .countwidth + length refs * sh .refwidth
+unfolding encode-refs
+length-refs sh r refs = simp (length-append, length-be, length-of-refs)
 
-length-tail : (sh : Shape) (r : Row) → length (put-tail sh r) ≡ sh .size + sh .truelen
-unfolding put-tail
+length-tail : (sh : Shape) (r : Row) → length (encode-tail sh r) ≡ sh .size + sh .truelen
+unfolding encode-tail
 length-tail sh r = simp (length-append, length-be)
 
 -- a record whole, with as many references and bytes of its name as its row says
-pub length-planned : (before : ℕ) (p : Plan) (r : Row) (refs name : List ℕ) → length refs ≡ r .count → length name ≡ r .namelen
-    → length (put-planned before p r refs name) ≡ size-of p r
-unfolding put-planned put-fields record-bytes
-length-planned before p r refs name e f =
+pub length-encode-planned : (before : ℕ) (p : Plan) (r : Row) (refs name : List ℕ) → length refs ≡ r .count → length name ≡ r .namelen
+    → length (encode-planned before p r refs name) ≡ plan-size p r
+unfolding encode-planned encode-fields record-bytes
+length-encode-planned before p r refs name e f =
     let sh : Shape = p .shape in
-    simp (length-append, length-tag p, length-front before sh r, length-middle sh r, length-name sh r name, length-links sh r refs, length-tail sh r, e, f) (omega arith)
+    simp (length-append, length-tag p, length-front before sh r, length-middle sh r, length-name sh r name, length-refs sh r refs, length-tail sh r, e, f) (omega arith)
 
 -- ---- no sum of these leaves 64 bits
 
-pub links-most : (sh : Shape) (n : ℕ) → sh .link ≤ 8 → n * sh .link ≤ n * 8
-links-most sh n h = mul-le-mul-left n h
+pub ref-bytes-most : (sh : Shape) (n : ℕ) → sh .refwidth ≤ 8 → n * sh .refwidth ≤ n * 8
+ref-bytes-most sh n h = mul-le-mul-left n h
 
-pub size-most : (p : Plan) (r : Row) → Narrow (p .shape) → size-of p r ≤ 128 + r .namelen + r .count * 8
+pub plan-size-most : (p : Plan) (r : Row) → WidthsLe8 (p .shape) → plan-size p r ≤ 128 + r .namelen + r .count * 8
 unfolding record-bytes
-size-most p r n =
-    let a = one-most (ltb (p .tag) 0x20) in
-    let b = hash-narrow (r .hashkind) in
-    let c = links-most (p .shape) (r .count) (n .link) in
+plan-size-most p r n =
+    let a = bit-le-one (ltb (p .tag) 0x20) in
+    let b = hash-bytes-le-8 (r .hashkind) in
+    let c = ref-bytes-most (p .shape) (r .count) (n .refwidth) in
     omega arith

@@ -4,9 +4,9 @@ ghost use mathlib.Core.Path.{_≡_};
 ghost use mathlib.Core.Bool.{true};
 ghost use Prim.Native.Nat.{_+_, _≤_};
 ghost use lib.ListN.{length};
-ghost use Rattle.encode.specs.Writes.{Puts, Room};
+ghost use Rattle.encode.specs.Writes.{Writes, HasCapacity};
 ghost use Rattle.table.specs.Rows.{refs-of, name-of};
-ghost use Rattle.phd_encode.specs.EncodeRecord.{put-planned, Lean};
+ghost use Rattle.phd_encode.specs.EncodeRecord.{encode-planned, Compact};
 use phd_plan::Plan;
 use table::Row;
 
@@ -14,8 +14,8 @@ mod parts;
 pub mod sizes;
 
 // Whether a record is planned with no flag byte, and has no field but its gap, class word, hash and references.
-fn lean(p: Plan, namelen: u64) -> bool
-    ensures { λ r. ⌜ (r ≡ true → Lean p namelen) ⌝ }
+fn is_compact(p: Plan, namelen: u64) -> bool
+    ensures { λ r. ⌜ (r ≡ true → Compact p namelen) ⌝ }
 {
     let sh = p.shape;
     (0x20 <= p.tag)
@@ -24,13 +24,13 @@ fn lean(p: Plan, namelen: u64) -> bool
         & (sh.superclass == 0)
         & (sh.name == 0)
         & (namelen == 0)
-        & (sh.counted == 0)
+        & (sh.countwidth == 0)
         & (sh.size == 0)
         & (sh.truelen == 0)
 }
 
 // Writes such a record at an offset, and returns the offset after it.
-fn put_lean(
+fn encode_compact(
     out: &mut [u8],
     at: usize,
     before: u64,
@@ -39,23 +39,23 @@ fn put_lean(
     refs: &[u64],
     names: &[u8],
 ) -> usize
-    requires { ⌜ (row .first + row .count ≤ length (now refs)) × (row .place + row .namelen ≤ length (now names)) × Lean p (row .namelen) ⌝ }
-    requires { ⌜ Room (now out) at (put-planned before p row (refs-of (now refs) row) (name-of (now names) row)) ⌝ }
-    ensures { λ r. ⌜ Puts (now (out .entry)) at (put-planned before p row (refs-of (now (refs .entry)) row) (name-of (now (names .entry)) row)) (now (out .exit)) r ⌝ }
+    requires { ⌜ (row .first + row .count ≤ length (now refs)) × (row .place + row .namelen ≤ length (now names)) × Compact p (row .namelen) ⌝ }
+    requires { ⌜ HasCapacity (now out) at (encode-planned before p row (refs-of (now refs) row) (name-of (now names) row)) ⌝ }
+    ensures { λ r. ⌜ Writes (now (out .entry)) at (encode-planned before p row (refs-of (now (refs .entry)) row) (name-of (now (names .entry)) row)) (now (out .exit)) r ⌝ }
 {
     let sh = p.shape;
     let bytes = phd::forms::hash_bytes_of(row.hashkind);
-    let gap = encode::put(out, at, 1, p.tag);
-    let word = encode::put(out, gap, sh.gap, encode::raw_gap(before, row.address));
-    let hash = encode::put(out, word, sh.word, row.word);
-    let links = encode::put(out, hash, bytes, row.hash);
+    let gap = encode::encode_be(out, at, 1, p.tag);
+    let class = encode::encode_be(out, gap, sh.gap, encode::raw_gap(before, row.address));
+    let hash = encode::encode_be(out, class, sh.class, row.class);
+    let list = encode::encode_be(out, hash, bytes, row.hash);
     let first = row.first as usize;
     let n = row.count as usize;
-    encode::put_links(out, links, sh.link, row.address, refs, first, n)
+    encode::encode_ref_list(out, list, sh.refwidth, row.address, refs, first, n)
 }
 
 // Writes a record at an offset, after one at the address `before`, and returns the offset after it.
-pub fn put_record(
+pub fn encode_record(
     out: &mut [u8],
     at: usize,
     before: u64,
@@ -65,17 +65,17 @@ pub fn put_record(
     names: &[u8],
 ) -> usize
     requires { ⌜ (row .first + row .count ≤ length (now refs)) × (row .place + row .namelen ≤ length (now names)) ⌝ }
-    requires { ⌜ Room (now out) at (put-planned before p row (refs-of (now refs) row) (name-of (now names) row)) ⌝ }
-    ensures { λ r. ⌜ Puts (now (out .entry)) at (put-planned before p row (refs-of (now (refs .entry)) row) (name-of (now (names .entry)) row)) (now (out .exit)) r ⌝ }
+    requires { ⌜ HasCapacity (now out) at (encode-planned before p row (refs-of (now refs) row) (name-of (now names) row)) ⌝ }
+    ensures { λ r. ⌜ Writes (now (out .entry)) at (encode-planned before p row (refs-of (now (refs .entry)) row) (name-of (now (names .entry)) row)) (now (out .exit)) r ⌝ }
 {
-    if lean(p, row.namelen) {
-        return put_lean(out, at, before, p, row, refs, names);
+    if is_compact(p, row.namelen) {
+        return encode_compact(out, at, before, p, row, refs, names);
     }
     let sh = p.shape;
-    let a = parts::put_tag(out, at, p);
-    let b = parts::put_front(out, a, before, sh, row);
-    let c = parts::put_middle(out, b, sh, row);
-    let d = parts::put_name(out, c, sh, row, names);
-    let e = parts::put_links(out, d, sh, row, refs);
-    parts::put_tail(out, e, sh, row)
+    let a = parts::encode_tag(out, at, p);
+    let b = parts::encode_front(out, a, before, sh, row);
+    let c = parts::encode_middle(out, b, sh, row);
+    let d = parts::encode_name(out, c, sh, row, names);
+    let e = parts::encode_refs(out, d, sh, row, refs);
+    parts::encode_tail(out, e, sh, row)
 }

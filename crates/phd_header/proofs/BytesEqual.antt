@@ -9,22 +9,22 @@ use lib.Seq.{drop-cons}
 use lib.Dec.{eqb}
 use borrow.Author.Tests.{eq-eqb, ne-eqb}
 use Rattle.decode.specs.Numbers.{both}
-use Rattle.decode.specs.Slices.{part-next}
-use Rattle.phd.specs.Phd.{same}
+use Rattle.decode.specs.Slices.{slice-next}
+use Rattle.phd.specs.Phd.{bytes-equal}
 
 -- the n bytes of s at a place, against those of t, from the byte i on
-module _ (s t : List ℕ) (at n i : ℕ) (h : i < n) (room : at + n ≤ length s) (long : n ≤ length t) where
-  same-step : same (take (n - i) (drop (at + i) s)) (drop i t)
-      ≡ both (eqb (getD s (at + i) 0) (getD t i 0)) (same (take (n - (i + 1)) (drop (at + (i + 1)) s)) (drop (i + 1) t))
-  unfolding same
-  same-step =
+module _ (s t : List ℕ) (at n i : ℕ) (h : i < n) (in-bounds : at + n ≤ length s) (long : n ≤ length t) where
+  bytes-equal-step : bytes-equal (take (n - i) (drop (at + i) s)) (drop i t)
+      ≡ both (eqb (getD s (at + i) 0) (getD t i 0)) (bytes-equal (take (n - (i + 1)) (drop (at + (i + 1)) s)) (drop (i + 1) t))
+  unfolding bytes-equal
+  bytes-equal-step =
       let k : suc i ≡ i + 1 = omega arith in
       let l : i < length t = omega arith in
-      rw (part-next s at n i h room, drop-cons t i 0 l, k)
+      rw (slice-next s at n i h in-bounds, drop-cons t i 0 l, k)
 
-  pub same-on : getD s (at + i) 0 ≡ getD t i 0
-      → same (take (n - i) (drop (at + i) s)) (drop i t) ≡ same (take (n - (i + 1)) (drop (at + (i + 1)) s)) (drop (i + 1) t)
-  same-on e = rw (same-step, eq-eqb _ _ e)
+  pub bytes-equal-next : getD s (at + i) 0 ≡ getD t i 0
+      → bytes-equal (take (n - i) (drop (at + i) s)) (drop i t) ≡ bytes-equal (take (n - (i + 1)) (drop (at + (i + 1)) s)) (drop (i + 1) t)
+  bytes-equal-next e = rw (bytes-equal-step, eq-eqb _ _ e)
 
-  pub same-off : (getD s (at + i) 0 ≡ getD t i 0 → ⊥) → same (take (n - i) (drop (at + i) s)) (drop i t) ≡ false
-  same-off e = rw (same-step, ne-eqb _ _ e)
+  pub bytes-equal-false : (getD s (at + i) 0 ≡ getD t i 0 → ⊥) → bytes-equal (take (n - i) (drop (at + i) s)) (drop i t) ≡ false
+  bytes-equal-false e = rw (bytes-equal-step, ne-eqb _ _ e)

@@ -7,67 +7,67 @@ use lib.ListN.{getD}
 use lib.Dec.{leb, ltb, eqb}
 use lib.IntN.{pos}
 use Rattle.decode.specs.Numbers.{pick, both, either}
-use Rattle.encode.specs.Encode.{gap, code, most, widest}
+use Rattle.encode.specs.Encode.{gap, width-code, max, refs-code}
 use Rattle.phd.specs.Phd.{shape}
 use Rattle.phd.specs.declared.cache.Cache.{Cache}
 use Rattle.phd.specs.declared.Form.{Form}
 use Rattle.phd.specs.declared.Form.the-variants.{Short, Medium, Long, Class, ObjectArray, Primitive, LongPrimitive}
 use Rattle.table.specs.declared.Row.{Row}
-use Rattle.phd_plan.specs.declared.Measure.{Measure}
+use Rattle.phd_plan.specs.declared.PlanInput.{PlanInput}
 use Rattle.phd_plan.specs.declared.Plan.{Plan}
 
 -- whether the slot i is filled and holds the class word w
-unfoldable pub holds : Cache → ℕ → ℕ → Bool
-holds c w i = both (ltb i (c .puts)) (eqb (getD (c .words) i 0) w)
+unfoldable pub slot-holds : Cache → ℕ → ℕ → Bool
+slot-holds c w i = both (ltb i (c .pushes)) (eqb (getD (c .classes) i 0) w)
 
 -- the lowest filled slot that holds the class word w, and 4 where none does
-unfoldable pub slot-of : Cache → ℕ → ℕ
-slot-of c w = pick (holds c w 0) 0 (pick (holds c w 1) 1 (pick (holds c w 2) 2 (pick (holds c w 3) 3 4)))
+unfoldable pub find-slot : Cache → ℕ → ℕ
+find-slot c w = pick (slot-holds c w 0) 0 (pick (slot-holds c w 1) 1 (pick (slot-holds c w 2) 2 (pick (slot-holds c w 3) 3 4)))
 
 -- All that the form, the tag and the flag byte of a row and its references go by: after a record at the address `before`,
 -- with the cache c.
-unfoldable pub measure : Cache → ℕ → Row → List ℕ → Measure
-measure c before r refs = record {
+unfoldable pub plan-input : Cache → ℕ → Row → List ℕ → PlanInput
+plan-input c before r refs = record {
   kind = r .kind;
   hashkind = r .hashkind;
   prim = r .prim;
-  slot = slot-of c (r .word);
+  slot = find-slot c (r .class);
   count = r .count;
-  gap = code (gap before (r .address));
-  link = widest 0 (r .address) refs;
-  pair = most (code (gap before (r .address))) (code (pos (r .len)));
+  gap = width-code (gap before (r .address));
+  refcode = refs-code 0 (r .address) refs;
+  paircode = max (width-code (gap before (r .address))) (width-code (pos (r .len)));
 }
 
 -- What holds of the measures of every good record: no sum below leaves 64 bits.
-pub record Bounded (m : Measure) : Type 0 where
-  pub slot-most : m .slot ≤ 4
-  pub count-most : m .count < 2 ^ 31
-  pub gap-most : m .gap < 4
-  pub link-most : m .link < 4
-  pub pair-most : m .pair < 4
-  pub prim-most : m .prim < 8
+pub record Bounded (m : PlanInput) : Type 0 where
+  pub slot-le : m .slot ≤ 4
+  pub count-lt : m .count < 2 ^ 31
+  pub gap-lt : m .gap < 4
+  pub ref-lt : m .refcode < 4
+  pub pair-lt : m .paircode < 4
+  pub prim-lt : m .prim < 8
 
 -- Hash kinds 1 and 2 need a flag byte.
-unfoldable pub flagged : ℕ → Bool
-flagged k = either (eqb k 1) (eqb k 2)
+unfoldable pub needs-flag-byte : ℕ → Bool
+needs-flag-byte k = either (eqb k 1) (eqb k 2)
 
 -- a gap fits a short where its width code is below 2
-unfoldable pub object-form : Measure → Form
+unfoldable pub object-form : PlanInput → Form
 object-form m =
-    pick (flagged (m .hashkind)) Long
+    pick (needs-flag-byte (m .hashkind)) Long
     (pick (both (leb (m .count) 3) (both (ltb (m .slot) 4) (ltb (m .gap) 2))) Short
     (pick (both (leb (m .count) 7) (ltb (m .gap) 2)) Medium Long))
 
-unfoldable pub form-of : Measure → Form
+unfoldable pub form-of : PlanInput → Form
 form-of m =
     pick (eqb (m .kind) 1) Class
     (pick (eqb (m .kind) 2) (object-form m)
-    (pick (eqb (m .kind) 3) ObjectArray (pick (flagged (m .hashkind)) LongPrimitive Primitive)))
+    (pick (eqb (m .kind) 3) ObjectArray (pick (needs-flag-byte (m .hashkind)) LongPrimitive Primitive)))
 
-unfoldable pub tag-of : Form → Measure → ℕ
-tag-of Short m = 0x80 + 0x20 * m .slot + 0x08 * m .count + 0x04 * m .gap + m .link
-tag-of Medium m = 0x40 + 0x08 * m .count + 0x04 * m .gap + m .link
-tag-of Primitive m = 0x20 + 0x04 * m .prim + m .pair
+unfoldable pub tag-of : Form → PlanInput → ℕ
+tag-of Short m = 0x80 + 0x20 * m .slot + 0x08 * m .count + 0x04 * m .gap + m .refcode
+tag-of Medium m = 0x40 + 0x08 * m .count + 0x04 * m .gap + m .refcode
+tag-of Primitive m = 0x20 + 0x04 * m .prim + m .paircode
 tag-of Long m = 4
 tag-of Class m = 6
 tag-of LongPrimitive m = 7
@@ -81,18 +81,18 @@ unfoldable pub class-flags : ℕ → ℕ
 class-flags k = pick (eqb k 2) 0x08 0
 
 -- A long primitive array's gap and length are bytes where both fit, else words.
-unfoldable pub flags-of : Form → Measure → ℕ
+unfoldable pub flags-of : Form → PlanInput → ℕ
 flags-of Short m = 0
 flags-of Medium m = 0
 flags-of Primitive m = 0
-flags-of Long m = 0x40 * m .gap + 0x10 * m .link + hash-flags (m .hashkind)
-flags-of ObjectArray m = 0x40 * m .gap + 0x10 * m .link + hash-flags (m .hashkind)
-flags-of Class m = 0x40 * m .gap + 0x10 * m .link + class-flags (m .hashkind)
-flags-of LongPrimitive m = 0x20 * m .prim + 0x10 * pick (eqb (m .pair) 0) 0 1 + hash-flags (m .hashkind)
+flags-of Long m = 0x40 * m .gap + 0x10 * m .refcode + hash-flags (m .hashkind)
+flags-of ObjectArray m = 0x40 * m .gap + 0x10 * m .refcode + hash-flags (m .hashkind)
+flags-of Class m = 0x40 * m .gap + 0x10 * m .refcode + class-flags (m .hashkind)
+flags-of LongPrimitive m = 0x20 * m .prim + 0x10 * pick (eqb (m .paircode) 0) 0 1 + hash-flags (m .hashkind)
 
 -- The tag, the flag byte and the shape that they name, by the reader's own table; W is w bytes.
-unfoldable pub planned : ℕ → Measure → Plan
-planned w m =
+unfoldable pub make-plan : ℕ → PlanInput → Plan
+make-plan w m =
     let fm = form-of m in
     let t = tag-of fm m in
     let f = flags-of fm m in

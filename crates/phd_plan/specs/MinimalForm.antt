@@ -11,39 +11,39 @@ use lib.IntN.{pos}
 use borrow.Author.Tests.{le-leb, lt-ltb, leb-true, ltb-true}
 use Rattle.decode.specs.Numbers.{pick, both}
 use Rattle.decode.specs.Values.{both-left, both-right}
-use Rattle.encode.specs.Encode.{gap, fits, code}
-use Rattle.encode.specs.Widths.{AllFit, code-least, most-le, widest-least}
+use Rattle.encode.specs.Encode.{gap, fits, width-code}
+use Rattle.encode.specs.Widths.{AllFit, code-least, max-le, refs-code-least}
 use Rattle.table.specs.declared.Row.{Row}
 use Rattle.phd.specs.declared.cache.Cache.{Cache}
 use Rattle.phd.specs.declared.Form.{Form}
 use Rattle.phd.specs.declared.Form.the-variants.{Short, Medium, Long, Class, ObjectArray, Primitive, LongPrimitive}
-use Rattle.phd_plan.specs.FormChoice.{measure, flagged, object-form}
-use Rattle.phd_plan.specs.declared.Measure.{Measure}
+use Rattle.phd_plan.specs.FormChoice.{plan-input, needs-flag-byte, object-form}
+use Rattle.phd_plan.specs.declared.PlanInput.{PlanInput}
 
 -- ---- widths
 
 -- Of the measures of a row, after a record at the address `before`, with the cache c.
 module _ (c : Cache) (before : ℕ) (r : Row) (refs : List ℕ) where
-  pub gap-least : (k : ℕ) → fits (2 ^ k) (gap before (r .address)) ≡ true → measure c before r refs .gap ≤ k
-  unfolding measure
+  pub gap-least : (k : ℕ) → fits (2 ^ k) (gap before (r .address)) ≡ true → plan-input c before r refs .gap ≤ k
+  unfolding plan-input
   gap-least k p = omega (arith, code-least (gap before (r .address)) k p)
 
-  pub link-least : (k : ℕ) → AllFit (2 ^ k) (r .address) refs → measure c before r refs .link ≤ k
-  unfolding measure
-  link-least k p = omega (arith, widest-least k 0 (r .address) refs (omega arith) p)
+  pub ref-least : (k : ℕ) → AllFit (2 ^ k) (r .address) refs → plan-input c before r refs .refcode ≤ k
+  unfolding plan-input
+  ref-least k p = omega (arith, refs-code-least k 0 (r .address) refs (omega arith) p)
 
-  pub pair-least : (k : ℕ) → fits (2 ^ k) (gap before (r .address)) ≡ true → fits (2 ^ k) (pos (r .len)) ≡ true → measure c before r refs .pair ≤ k
-  unfolding measure
+  pub pair-least : (k : ℕ) → fits (2 ^ k) (gap before (r .address)) ≡ true → fits (2 ^ k) (pos (r .len)) ≡ true → plan-input c before r refs .paircode ≤ k
+  unfolding plan-input
   pair-least k p q =
-      omega (arith, most-le (code (gap before (r .address))) (code (pos (r .len))) k (code-least _ k p) (code-least _ k q))
+      omega (arith, max-le (width-code (gap before (r .address))) (width-code (pos (r .len))) k (code-least _ k p) (code-least _ k q))
 
 -- ---- the form of an object
 
 -- Whether a form can hold an object of these measures. A short or medium record has no hash bits, a byte or a short for its gap, and
 -- two or three bits for its count; a short one has two for a slot.
-abbrev pub CanHold : Form → Measure → Type 0
-CanHold Short m = (flagged (m .hashkind) ≡ false) × (m .gap < 2) × (m .count ≤ 3) × (m .slot < 4)
-CanHold Medium m = (flagged (m .hashkind) ≡ false) × (m .gap < 2) × (m .count ≤ 7)
+abbrev pub CanHold : Form → PlanInput → Type 0
+CanHold Short m = (needs-flag-byte (m .hashkind) ≡ false) × (m .gap < 2) × (m .count ≤ 3) × (m .slot < 4)
+CanHold Medium m = (needs-flag-byte (m .hashkind) ≡ false) × (m .gap < 2) × (m .count ≤ 7)
 CanHold Long m = Unit {0}
 CanHold Class m = ⊥
 CanHold ObjectArray m = ⊥
@@ -74,20 +74,20 @@ at-most-long w Primitive = omega arith
 at-most-long w LongPrimitive = omega arith
 
 -- No form that can hold an object is shorter than the one chosen.
-pub object-least : (w : ℕ) (fm : Form) (m : Measure) → CanHold fm m → overhead w (object-form m) ≤ overhead w fm
+pub object-form-shortest : (w : ℕ) (fm : Form) (m : PlanInput) → CanHold fm m → overhead w (object-form m) ≤ overhead w fm
 unfolding object-form
-object-least w Short m x = rw (x .0, lt-ltb _ _ (x .1), le-leb _ _ (x .2), lt-ltb _ _ (x .3)) (omega arith)
-object-least w Medium m x = rw (x .0, lt-ltb _ _ (x .1), le-leb _ _ (x .2)) (short-or-medium w (both (leb (m .count) 3) (both (ltb (m .slot) 4) true)))
-object-least w Long m x = at-most-long w (object-form m)
-object-least w Class m x = absurd x
-object-least w ObjectArray m x = absurd x
-object-least w Primitive m x = absurd x
-object-least w LongPrimitive m x = absurd x
+object-form-shortest w Short m x = rw (x .0, lt-ltb _ _ (x .1), le-leb _ _ (x .2), lt-ltb _ _ (x .3)) (omega arith)
+object-form-shortest w Medium m x = rw (x .0, lt-ltb _ _ (x .1), le-leb _ _ (x .2)) (short-or-medium w (both (leb (m .count) 3) (both (ltb (m .slot) 4) true)))
+object-form-shortest w Long m x = at-most-long w (object-form m)
+object-form-shortest w Class m x = absurd x
+object-form-shortest w ObjectArray m x = absurd x
+object-form-shortest w Primitive m x = absurd x
+object-form-shortest w LongPrimitive m x = absurd x
 
 -- And the one chosen can hold it.
-pub object-held : (m : Measure) → CanHold (object-form m) m
+pub object-form-can-hold : (m : PlanInput) → CanHold (object-form m) m
 unfolding object-form
-object-held m = by (flagged (m .hashkind)) (both n3 (both s4 g2)) (both n7 g2) refl refl refl
+object-form-can-hold m = by (needs-flag-byte (m .hashkind)) (both n3 (both s4 g2)) (both n7 g2) refl refl refl
   where
     n3 : Bool
     n3 = leb (m .count) 3
@@ -101,7 +101,7 @@ object-held m = by (flagged (m .hashkind)) (both n3 (both s4 g2)) (both n7 g2) r
     g2 : Bool
     g2 = ltb (m .gap) 2
 
-    by : (f a b : Bool) → flagged (m .hashkind) ≡ f → both n3 (both s4 g2) ≡ a → both n7 g2 ≡ b → CanHold (pick f Long (pick a Short (pick b Medium Long))) m
+    by : (f a b : Bool) → needs-flag-byte (m .hashkind) ≡ f → both n3 (both s4 g2) ≡ a → both n7 g2 ≡ b → CanHold (pick f Long (pick a Short (pick b Medium Long))) m
     by true a b ef ea eb = tt
     by false true b ef ea eb =
         let t = both-right n3 (both s4 g2) ea in

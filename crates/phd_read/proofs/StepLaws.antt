@@ -8,71 +8,71 @@ use lib.Seq.{sets}
 use Rattle.decode.specs.Layout.{Outcome, whole, stops, run, reply-of, missing-of}
 use Rattle.decode.specs.declared.Stop.{Stop}
 use Rattle.table.specs.Table.{row-width}
-use Rattle.phd.specs.Phd.{highest, references, carried, Item, over, item, entry, phd}
-use Rattle.phd.specs.EntryLaws.{at-place}
-use Rattle.phd.specs.declared.Facts.{Facts}
-use Rattle.phd_record.specs.RecordOutcomes.{found-of, found-item}
-use Rattle.phd_record.specs.declared.Found.{Found}
-use Rattle.phd_record.specs.declared.What.the-variants.{Record}
+use Rattle.phd.specs.Phd.{max-address, ref-list, make-context, Item, end-item, item, entry, phd}
+use Rattle.phd.specs.EntryLaws.{origin-at}
+use Rattle.phd.specs.declared.Header.{Header}
+use Rattle.phd_record.specs.RecordOutcomes.{record-read-of, record-read-item}
+use Rattle.phd_record.specs.declared.RecordRead.{RecordRead}
+use Rattle.phd_record.specs.declared.Next.the-variants.{Record}
 use Rattle.reader.specs.TableSteps as Any
-use Rattle.phd_read.specs.PhdLaws.{lawful}
-use Rattle.phd_read.specs.RecordProperties.{Stands, links-stand}
-use Rattle.phd_read.specs.StoredRefs.{Whole, values-of}
-use Rattle.phd_read.specs.PhdSteps.{advanced, Fits, Went, Stayed}
+use Rattle.phd_read.specs.PhdLaws.{phd-lawful}
+use Rattle.phd_read.specs.RecordProperties.{ReadFrom, entry-read-from}
+use Rattle.phd_read.specs.StoredRefs.{RefsAllRead, values-of}
+use Rattle.phd_read.specs.PhdSteps.{advanced, CursorInBounds, StepContinues, StepEnds}
 use Rattle.phd_read.specs.declared.records.Cursor.{Cursor}
 
-module _ (h : Facts) {s rows refs : List ℕ} {k : Cursor} (fits : Fits s rows refs k) where
+module _ (h : Header) {s rows refs : List ℕ} {k : Cursor} (fits : CursorInBounds s rows refs k) where
   -- what stands at the cursor
-  abbrev there : Outcome Item
-  there = run (entry h (k .address) (k .cache) (k .refs)) s (k .at)
+  abbrev at-cursor : Outcome Item
+  at-cursor = run (entry h (k .address) (k .cache) (k .refs)) s (k .at)
 
-  pub stays-end : (n : ℕ) → there ≡ whole over n → Stayed h s k rows refs rows refs k 0 n 0
-  stays-end = Any.stays-end phd lawful h fits
+  pub ends-at-end-tag : (n : ℕ) → at-cursor ≡ whole end-item n → StepEnds h s k rows refs rows refs k 0 n 0
+  ends-at-end-tag = Any.step-ends-end phd phd-lawful h fits
 
-  pub stays-stop : (w : Stop) → there ≡ stops w → Stayed h s k rows refs rows refs k (reply-of w) (k .at) (missing-of w)
-  stays-stop = Any.stays-stop phd lawful h fits
+  pub ends-at-stop : (w : Stop) → at-cursor ≡ stops w → StepEnds h s k rows refs rows refs k (reply-of w) (k .at) (missing-of w)
+  ends-at-stop = Any.step-ends-stop phd phd-lawful h fits
 
   -- a record was found, which ends before the place n
-  module _ {f : Found} {n : ℕ} (is : f ≡ found-of (k .cache) there) (what : f .what ≡ Record n) where
-    abbrev its : (rs : List ℕ) × (there ≡ whole (item (f .row) rs (f .span) (carried (f .address) (f .cache))) n)
-    its = found-item (k .cache) there f is n what
+  module _ {f : RecordRead} {n : ℕ} (is : f ≡ record-read-of (k .cache) at-cursor) (what : f .next ≡ Record n) where
+    abbrev item-read : (rs : List ℕ) × (at-cursor ≡ whole (item (f .row) rs (f .span) (make-context (f .address) (f .cache))) n)
+    item-read = record-read-item (k .cache) at-cursor f is n what
 
-    pub stands : Stands h s (at-place (k .at) (k .refs)) (f .row) (record { span = f .span; list = its .0 }) (f .address)
-    stands = links-stand h s (k .address) (k .cache) (k .refs) (k .at) (f .row) (its .0) (f .span) (carried (f .address) (f .cache)) n (its .1)
+    pub read-from : ReadFrom h s (origin-at (k .at) (k .refs)) (f .row) (record { span = f .span; list = item-read .0 }) (f .address)
+    read-from = entry-read-from h s (k .address) (k .cache) (k .refs) (k .at) (f .row) (item-read .0) (f .span) (make-context (f .address) (f .cache)) n (item-read .1)
 
     -- what is known of its references, by its span
-    pub placed : f .span .place ≤ length s
-    placed = stands .links .inside
+    pub span-in-dump : f .span .place ≤ length s
+    span-in-dump = read-from .refs .inside
 
-    pub narrow : f .span .width ≤ 8
-    narrow = stands .links .narrow
+    pub span-width-le-8 : f .span .width ≤ 8
+    span-width-le-8 = read-from .refs .width-le-8
 
-    abbrev judged : Outcome (List ℕ)
-    judged = run (references (f .span .width) (f .address) (highest (h .word)) (f .span .count)) s (f .span .place)
+    abbrev refs-outcome : Outcome (List ℕ)
+    refs-outcome = run (ref-list (f .span .width) (f .address) (max-address (h .bits)) (f .span .count)) s (f .span .place)
 
-    read : judged ≡ whole (its .0) (stands .links .end)
-    read = stands .links .read
+    refs-outcome-whole : refs-outcome ≡ whole (item-read .0) (read-from .refs .end)
+    refs-outcome-whole = read-from .refs .read
 
-    pub judged-whole : Whole judged
-    judged-whole = rw read tt
+    pub refs-all-read : RefsAllRead refs-outcome
+    refs-all-read = rw refs-outcome-whole tt
 
-    values : values-of judged ≡ its .0
-    values = rw read
+    values-are : values-of refs-outcome ≡ item-read .0
+    values-are = rw refs-outcome-whole
 
-    many : length (its .0) ≡ f .span .count
-    many = stands .links .proper .many
+    refs-length : length (item-read .0) ≡ f .span .count
+    refs-length = read-from .refs .in-bounds .many
 
     -- no row left, or too few references left
-    pub stays-rows : length rows < k .rows * row-width + row-width → Stayed h s k rows refs rows refs k 13 (k .at) 0
-    stays-rows r = Any.stays-rows phd lawful h fits (its .1) (omega (arith, stands .numbers))
+    pub ends-rows-full : length rows < k .rows * row-width + row-width → StepEnds h s k rows refs rows refs k 13 (k .at) 0
+    ends-rows-full r = Any.step-ends-rows phd phd-lawful h fits (item-read .1) (omega (arith, read-from .numbers))
 
-    pub stays-refs : k .rows * row-width + row-width ≤ length rows → length refs < k .refs + f .span .count
-        → Stayed h s k rows refs rows refs k 14 (k .at) 0
-    stays-refs r q = Any.stays-refs phd lawful h fits (its .1) (omega (arith, stands .numbers)) (rw many q)
+    pub ends-refs-full : k .rows * row-width + row-width ≤ length rows → length refs < k .refs + f .span .count
+        → StepEnds h s k rows refs rows refs k 14 (k .at) 0
+    ends-refs-full r q = Any.step-ends-refs phd phd-lawful h fits (item-read .1) (omega (arith, read-from .numbers)) (rw refs-length q)
 
     -- the record is stored
-    pub goes : k .rows * row-width + row-width ≤ length rows → k .refs + f .span .count ≤ length refs
-        → Went h s k rows refs (sets rows (k .rows * row-width) (f .row)) (sets refs (k .refs) (values-of judged)) (advanced k n f)
-    goes r q =
-        let l = stands .numbers in
-        rw values (Any.goes phd lawful h fits (its .1) (k .rows + 1) (k .refs + f .span .count) (omega arith) (rw many) (omega arith) (rw many q))
+    pub continues : k .rows * row-width + row-width ≤ length rows → k .refs + f .span .count ≤ length refs
+        → StepContinues h s k rows refs (sets rows (k .rows * row-width) (f .row)) (sets refs (k .refs) (values-of refs-outcome)) (advanced k n f)
+    continues r q =
+        let l = read-from .numbers in
+        rw values-are (Any.step-continues phd phd-lawful h fits (item-read .1) (k .rows + 1) (k .refs + f .span .count) (omega arith) (rw refs-length) (omega arith) (rw refs-length q))

@@ -4,26 +4,26 @@ use native.Mathlib.Omega.{arith}
 use Rattle.decode.specs.Layout.{Layout}
 use Rattle.decode.specs.Values.{Refuses}
 use Rattle.phd.specs.Phd.{phd}
-use Rattle.reader.specs.Steps.{Own, Lawful, rowed}
-use Rattle.reader.specs.RowOrigins.{Always}
-use Rattle.phd_read.specs.RecordProperties.{entry-forth, links-stand}
-use Rattle.phd_read.specs.ReadReplies.{Fine, known, header-fine, entry-fine}
+use Rattle.reader.specs.Steps.{RefusalReply, Lawful, full-row}
+use Rattle.reader.specs.RowOrigins.{AlwaysRow}
+use Rattle.phd_read.specs.RecordProperties.{entry-advances, entry-read-from}
+use Rattle.phd_read.specs.ReadReplies.{RefusalsOnly, refusal-bounds, header-refusals, entry-refusals}
 
-own : {A : Type 0} {l : Layout A} → Fine l → Refuses Own l
-own g = record {
-  each = λ s at r e. let k = known r (g .each s at r e) in record { not-end = λ z. omega arith; not-cut = λ z. omega arith };
+phd-refusals : {A : Type 0} {l : Layout A} → RefusalsOnly l → Refuses RefusalReply l
+phd-refusals g = record {
+  each = λ s at r e. let k = refusal-bounds r (g .each s at r e) in record { not-end = λ z. omega arith; not-cut = λ z. omega arith };
 }
 
-pub lawful : Lawful phd
-lawful = record {
-  forth = λ h c index s at i e r. entry-forth h (c .address) (c .cache) index s at i e r;
+pub phd-lawful : Lawful phd
+phd-lawful = record {
+  advances = λ h c index s at i e r. entry-advances h (c .address) (c .cache) index s at i e r;
   row = λ h c index s at r rs m k e f.
-      let x = links-stand h s (c .address) (c .cache) index at r rs m k e f in
-      rowed (x .numbers) (x .offset);
-  header-own = own header-fine;
-  entry-own = λ h c index. own (entry-fine h (c .address) (c .cache) index);
+      let x = entry-read-from h s (c .address) (c .cache) index at r rs m k e f in
+      full-row (x .numbers) (x .offset);
+  header-refusals = phd-refusals header-refusals;
+  entry-refusals = λ h c index. phd-refusals (entry-refusals h (c .address) (c .cache) index);
 }
 
 -- every record has a row
-pub always : Always phd
-always h c index s at r rs m k e f = links-stand h s (c .address) (c .cache) index at r rs m k e f .numbers
+pub phd-always : AlwaysRow phd
+phd-always h c index s at r rs m k e f = entry-read-from h s (c .address) (c .cache) index at r rs m k e f .numbers

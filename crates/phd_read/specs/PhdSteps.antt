@@ -3,37 +3,37 @@
 -- Assumes nothing.
 use Prim.Native.Nat.{ℕ, _+_}
 use mathlib.Core.List.{List}
-use Rattle.phd.specs.Phd.{carried, phd}
-use Rattle.phd.specs.declared.Facts.{Facts}
-use Rattle.phd_record.specs.declared.Found.{Found}
+use Rattle.phd.specs.Phd.{make-context, phd}
+use Rattle.phd.specs.declared.Header.{Header}
+use Rattle.phd_record.specs.declared.RecordRead.{RecordRead}
 use Rattle.reader.specs.TableSteps as Any
 use Rattle.phd_read.specs.declared.records.Cursor.{Cursor}
 use Rattle.reader.specs.declared.StepResult.{StepResult}
 
 -- the mark of a cursor
-abbrev pub mark : Cursor → Any.Mark phd
-mark k = record { at = k .at; context = carried (k .address) (k .cache); rows = k .rows; refs = k .refs }
+abbrev pub cursor-of : Cursor → Any.CursorOf phd
+cursor-of k = record { at = k .at; context = make-context (k .address) (k .cache); rows = k .rows; refs = k .refs }
 
 -- a cursor lies within the dump, and what it counts within the tables
-abbrev pub Fits : (s rows refs : List ℕ) → Cursor → Type 0
-Fits s rows refs k = Any.Fits s rows refs (mark k)
+abbrev pub CursorInBounds : (s rows refs : List ℕ) → Cursor → Type 0
+CursorInBounds s rows refs k = Any.CursorInBounds s rows refs (cursor-of k)
 
 -- the cursor after a record that was found, which ends before the place n
-abbrev pub advanced : Cursor → ℕ → Found → Cursor
+abbrev pub advanced : Cursor → ℕ → RecordRead → Cursor
 advanced k n f =
     record { at = n; address = f .address; cache = f .cache; rows = k .rows + 1; refs = k .refs + f .span .count }
 
 -- a step went on, or ended the reading
-abbrev pub Went : Facts → List ℕ → Cursor → List ℕ → List ℕ → List ℕ → List ℕ → Cursor → Type 0
-Went h s k rows refs rows′ refs′ k′ = Any.Went phd h s (mark k) rows refs rows′ refs′ (mark k′)
+abbrev pub StepContinues : Header → List ℕ → Cursor → List ℕ → List ℕ → List ℕ → List ℕ → Cursor → Type 0
+StepContinues h s k rows refs rows′ refs′ k′ = Any.StepContinues phd h s (cursor-of k) rows refs rows′ refs′ (cursor-of k′)
 
-abbrev pub Stayed : Facts → List ℕ → Cursor → List ℕ → List ℕ → List ℕ → List ℕ → Cursor → ℕ → ℕ → ℕ → Type 0
-Stayed h s k rows refs rows′ refs′ k′ = Any.Stayed phd h s (mark k) rows refs rows′ refs′ (mark k′)
+abbrev pub StepEnds : Header → List ℕ → Cursor → List ℕ → List ℕ → List ℕ → List ℕ → Cursor → ℕ → ℕ → ℕ → Type 0
+StepEnds h s k rows refs rows′ refs′ k′ = Any.StepEnds phd h s (cursor-of k) rows refs rows′ refs′ (cursor-of k′)
 
 -- what a step does, by its result
-abbrev pub Does : Facts → List ℕ → Cursor → List ℕ → List ℕ → List ℕ → List ℕ → Cursor → StepResult → Type 0
-Does h s k rows refs rows′ refs′ k′ = Any.Does phd h s (mark k) rows refs rows′ refs′ (mark k′)
+abbrev pub StepContract : Header → List ℕ → Cursor → List ℕ → List ℕ → List ℕ → List ℕ → Cursor → StepResult → Type 0
+StepContract h s k rows refs rows′ refs′ k′ = Any.StepContract phd h s (cursor-of k) rows refs rows′ refs′ (cursor-of k′)
 
 -- between two steps of a reading that began at a place, with the tables rows₀ and refs₀
-abbrev pub Halfway : Facts → List ℕ → ℕ → (rows₀ refs₀ rows refs : List ℕ) → Cursor → Type 0
-Halfway h s at rows₀ refs₀ rows refs k = Any.Halfway phd h s at rows₀ refs₀ rows refs (mark k)
+abbrev pub LoopInvariant : Header → List ℕ → ℕ → (rows₀ refs₀ rows refs : List ℕ) → Cursor → Type 0
+LoopInvariant h s at rows₀ refs₀ rows refs k = Any.LoopInvariant phd h s at rows₀ refs₀ rows refs (cursor-of k)

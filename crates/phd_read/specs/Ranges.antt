@@ -8,12 +8,12 @@ use mathlib.Core.List.{List, [], _∷_, _++_}
 use lib.ListN.{length}
 use lib.Dec.{leb}
 use native.Mathlib.Omega.{arith}
-use Rattle.decode.specs.Numbers.{both, within}
-use Rattle.phd.specs.Phd.{highest, State, phd, capacity, reading}
-use Rattle.table.specs.Table.{row-count, number, number-in}
-use Rattle.phd_read.specs.RecordProperties.{links-stand}
-use Rattle.phd_read.specs.RowTags.{reading-traced}
-use Rattle.reader.specs.Steps.{tables-hold}
+use Rattle.decode.specs.Numbers.{both, all-within}
+use Rattle.phd.specs.Phd.{max-address, State, phd, capacity, read-result}
+use Rattle.table.specs.Table.{row-count, number, number-row-slice}
+use Rattle.phd_read.specs.RecordProperties.{entry-read-from}
+use Rattle.phd_read.specs.RowTags.{phd-row-origins}
+use Rattle.reader.specs.Steps.{read-tables}
 
 -- ---- references
 
@@ -21,25 +21,25 @@ both-assoc : (a b c : Bool) → both a (both b c) ≡ both (both a b) c
 both-assoc true b c = refl
 both-assoc false b c = refl
 
-within-append : (low high : ℕ) (xs ys : List ℕ) → within low high (xs ++ ys) ≡ both (within low high xs) (within low high ys)
-unfolding within
+within-append : (low high : ℕ) (xs ys : List ℕ) → all-within low high (xs ++ ys) ≡ both (all-within low high xs) (all-within low high ys)
+unfolding all-within
 within-append low high [] ys = refl
-within-append low high (x ∷ xs) ys = rw (within-append low high xs ys) (both-assoc (both (leb low x) (leb x high)) (within low high xs) (within low high ys))
+within-append low high (x ∷ xs) ys = rw (within-append low high xs ys) (both-assoc (both (leb low x) (leb x high)) (all-within low high xs) (all-within low high ys))
 
-pub refs-within : (s : List ℕ) (R F : ℕ) → within 1 (highest (reading s R F .facts .word)) (reading s R F .refs) ≡ true
-unfolding within
+pub refs-within : (s : List ℕ) (R F : ℕ) → all-within 1 (max-address (read-result s R F .header .bits)) (read-result s R F .refs) ≡ true
+unfolding all-within
 refs-within s R F =
-    tables-hold phd s (capacity R F) (λ h rows refs. within 1 (highest (h .word)) refs ≡ true)
+    read-tables phd s (capacity R F) (λ h rows refs. all-within 1 (max-address (h .bits)) refs ≡ true)
     (λ h rows refs c at r rs sp k n t e p q.
-    rw (within-append, t) (links-stand h s (c .address) (c .cache) (length refs) at r rs sp k n e .links .proper .range))
+    rw (within-append, t) (entry-read-from h s (c .address) (c .cache) (length refs) at r rs sp k n e .refs .in-bounds .range))
     (λ h. refl)
 
 -- ---- addresses: a row's number 1
 
-pub addresses-within : (s : List ℕ) (R F i : ℕ) → i < row-count (reading s R F .rows) → number (reading s R F .rows) i 1 ≤ highest (reading s R F .facts .word)
+pub addresses-within : (s : List ℕ) (R F i : ℕ) → i < row-count (read-result s R F .rows) → number (read-result s R F .rows) i 1 ≤ max-address (read-result s R F .header .bits)
 addresses-within s R F i l =
-    let x = reading-traced s R F .each i l in
+    let x = phd-row-origins s R F .each i l in
     let st : State = x .before in
-    let k = links-stand (reading s R F .facts) s (st .context .address) (st .context .cache) (length (st .refs)) (st .at) _ (x .list) (x .note) (x .context) (x .end) (x .gives) in
-    let e : number (reading s R F .rows) i 1 ≡ x .context .address = number-in (reading s R F .rows) i 1 (omega arith) ∙ k .address in
+    let k = entry-read-from (read-result s R F .header) s (st .context .address) (st .context .cache) (length (st .refs)) (st .at) _ (x .list) (x .note) (x .context) (x .end) (x .item-is) in
+    let e : number (read-result s R F .rows) i 1 ≡ x .context .address = number-row-slice (read-result s R F .rows) i 1 (omega arith) ∙ k .address in
     omega (arith, e, k .most)

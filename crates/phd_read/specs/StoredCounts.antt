@@ -6,12 +6,12 @@ use mathlib.Core.List.{List}
 use lib.ListN.{length}
 use native.Mathlib.Omega.{arith}
 use Rattle.table.specs.Table.{row-width, row-count}
-use Rattle.phd.specs.Phd.{phd, capacity, reading}
-use Rattle.reader.specs.WithinCapacity.{reading-keeps}
-use Rattle.phd_read.specs.ReadContract.{answer}
-use Rattle.phd_read.specs.PhdLaws.{lawful}
+use Rattle.phd.specs.Phd.{phd, capacity, read-result}
+use Rattle.reader.specs.WithinCapacity.{read-within-capacity}
+use Rattle.phd_read.specs.ReadContract.{read-answer}
+use Rattle.phd_read.specs.PhdLaws.{phd-lawful}
 
 -- The counts that are returned are those of what is stored.
-pub counts : (s : List ℕ) (R F : ℕ) → (answer (reading s R F) .rows * row-width ≡ length (reading s R F .rows)) × (answer (reading s R F) .refs ≡ length (reading s R F .refs))
-unfolding answer row-count
-counts s R F = let k = reading-keeps phd lawful s (capacity R F) in (omega arith, refl)
+pub stored-counts : (s : List ℕ) (R F : ℕ) → (read-answer (read-result s R F) .rows * row-width ≡ length (read-result s R F .rows)) × (read-answer (read-result s R F) .refs ≡ length (read-result s R F .refs))
+unfolding read-answer row-count
+stored-counts s R F = let k = read-within-capacity phd phd-lawful s (capacity R F) in (omega arith, refl)

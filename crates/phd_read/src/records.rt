@@ -4,19 +4,19 @@ ghost use Prim.Native.Nat.{suc, _+_, _*_, _^_, _<_, _≤_};
 ghost use lib.ListN.{length};
 ghost use Rattle.decode.specs.Layout.{run};
 ghost use Rattle.table.specs.Table.{row-width};
-ghost use Rattle.phd.specs.Phd.{limit, entry, records, first};
-ghost use Rattle.phd.specs.Shapes.{Word};
-ghost use Rattle.phd_record.specs.RecordOutcomes.{found-of};
-ghost use Rattle.phd_record.specs.declared.What.the-variants.{Record};
-ghost use Rattle.table.specs.Buffer.{stored};
-ghost use Rattle.phd_read.specs.ReadContract.{answer};
-ghost use Rattle.phd_read.specs.PhdSteps.{Fits, Went, Does, advanced};
-use super::Reading;
+ghost use Rattle.phd.specs.Phd.{limit, entry, records, initial-state};
+ghost use Rattle.phd.specs.Shapes.{ValidBits};
+ghost use Rattle.phd_record.specs.RecordOutcomes.{record-read-of};
+ghost use Rattle.phd_record.specs.declared.Next.the-variants.{Record};
+ghost use Rattle.table.specs.Buffer.{overwrite};
+ghost use Rattle.phd_read.specs.ReadContract.{read-answer};
+ghost use Rattle.phd_read.specs.PhdSteps.{CursorInBounds, StepContinues, StepContract, advanced};
+use super::ReadAnswer;
 use super::tables;
 use phd::Cache;
-use phd::Facts;
-use phd_record::Found;
-use phd_record::What;
+use phd::Header;
+use phd_record::Next;
+use phd_record::RecordRead;
 use reader::StepResult;
 
 // Where a reading stands between records: the place of the next tag, the address of the record before, the cache, and how
@@ -31,12 +31,12 @@ pub struct Cursor {
 
 // What a step returns: its result, and the cursor after it.
 pub struct Stepped {
-    pub how: StepResult,
+    pub result: StepResult,
     pub cursor: Cursor,
 }
 
 // The cursor after a record that was found.
-fn advance(k: Cursor, next: usize, found: Found) -> Cursor
+fn advance(k: Cursor, next: usize, found: RecordRead) -> Cursor
     requires { ⌜ (k .rows + 1 < 2 ^ 64) × (k .refs + found .span .count < 2 ^ 64) ⌝ }
     ensures { λ r. ⌜ r ≡ advanced k next found ⌝ }
 {
@@ -54,23 +54,23 @@ fn advance(k: Cursor, next: usize, found: Found) -> Cursor
 // Stores a record that was found and has room, and moves on.
 fn store(
     s: &[u8],
-    facts: Facts,
+    header: Header,
     rows: &mut [u64],
     refs: &mut [u64],
     k: Cursor,
     next: usize,
-    found: Found,
+    found: RecordRead,
 ) -> Cursor
-    requires { ⌜ Fits (now s) (now rows) (now refs) k × Word (facts .word) ⌝ }
-    requires { ⌜ (found ≡ found-of (k .cache) (run (entry facts (k .address) (k .cache) (k .refs)) (now s) (k .at))) × (found .what ≡ Record next) ⌝ }
+    requires { ⌜ CursorInBounds (now s) (now rows) (now refs) k × ValidBits (header .bits) ⌝ }
+    requires { ⌜ (found ≡ record-read-of (k .cache) (run (entry header (k .address) (k .cache) (k .refs)) (now s) (k .at))) × (found .next ≡ Record next) ⌝ }
     requires { ⌜ (k .rows * row-width + row-width ≤ length (now rows)) × (k .refs + found .span .count ≤ length (now refs)) ⌝ }
-    ensures { λ r. ⌜ Went facts (now (s .entry)) k (now (rows .entry)) (now (refs .entry)) (now (rows .exit)) (now (refs .exit)) r ⌝ }
+    ensures { λ r. ⌜ StepContinues header (now (s .entry)) k (now (rows .entry)) (now (refs .entry)) (now (rows .exit)) (now (refs .exit)) r ⌝ }
 {
     let row = found.row;
-    table::store_row(rows, k.rows * table::ROW, row);
+    table::store_row(rows, k.rows * table::ROW_WIDTH, row);
     let span = found.span;
-    let top = phd::forms::highest_of(facts.word);
-    tables::put_refs(
+    let top = phd::forms::max_address_of(header.bits);
+    tables::store_refs(
         s,
         span.place,
         span.width,
@@ -84,22 +84,22 @@ fn store(
 }
 
 // Asks for room, for the row and then for the references, and stores the record.
-fn admit(
+fn store_checked(
     s: &[u8],
-    facts: Facts,
+    header: Header,
     rows: &mut [u64],
     refs: &mut [u64],
     k: Cursor,
     next: usize,
-    found: Found,
+    found: RecordRead,
 ) -> Stepped
-    requires { ⌜ Fits (now s) (now rows) (now refs) k × Word (facts .word) ⌝ }
-    requires { ⌜ (found ≡ found-of (k .cache) (run (entry facts (k .address) (k .cache) (k .refs)) (now s) (k .at))) × (found .what ≡ Record next) ⌝ }
-    ensures { λ r. ⌜ Does facts (now (s .entry)) k (now (rows .entry)) (now (refs .entry)) (now (rows .exit)) (now (refs .exit)) (r .cursor) (r .how) ⌝ }
+    requires { ⌜ CursorInBounds (now s) (now rows) (now refs) k × ValidBits (header .bits) ⌝ }
+    requires { ⌜ (found ≡ record-read-of (k .cache) (run (entry header (k .address) (k .cache) (k .refs)) (now s) (k .at))) × (found .next ≡ Record next) ⌝ }
+    ensures { λ r. ⌜ StepContract header (now (s .entry)) k (now (rows .entry)) (now (refs .entry)) (now (rows .exit)) (now (refs .exit)) (r .cursor) (r .result) ⌝ }
 {
-    if rows.len() - k.rows * table::ROW < table::ROW {
+    if rows.len() - k.rows * table::ROW_WIDTH < table::ROW_WIDTH {
         return Stepped {
-            how: StepResult::End(13, k.at, 0),
+            result: StepResult::End(13, k.at, 0),
             cursor: k,
         };
     }
@@ -107,32 +107,32 @@ fn admit(
     let left = (refs.len() - k.refs) as u64;
     if left < span.count {
         return Stepped {
-            how: StepResult::End(14, k.at, 0),
+            result: StepResult::End(14, k.at, 0),
             cursor: k,
         };
     }
     Stepped {
-        how: StepResult::Continue,
-        cursor: store(s, facts, rows, refs, k, next, found),
+        result: StepResult::Continue,
+        cursor: store(s, header, rows, refs, k, next, found),
     }
 }
 
 // One record: the end of the reading, or the record stored.
-pub fn step(s: &[u8], facts: Facts, rows: &mut [u64], refs: &mut [u64], k: Cursor) -> Stepped
-    requires { ⌜ Fits (now s) (now rows) (now refs) k × Word (facts .word) ⌝ }
-    ensures { λ r. ⌜ Does facts (now (s .entry)) k (now (rows .entry)) (now (refs .entry)) (now (rows .exit)) (now (refs .exit)) (r .cursor) (r .how) ⌝ }
+pub fn step(s: &[u8], header: Header, rows: &mut [u64], refs: &mut [u64], k: Cursor) -> Stepped
+    requires { ⌜ CursorInBounds (now s) (now rows) (now refs) k × ValidBits (header .bits) ⌝ }
+    ensures { λ r. ⌜ StepContract header (now (s .entry)) k (now (rows .entry)) (now (refs .entry)) (now (rows .exit)) (now (refs .exit)) (r .cursor) (r .result) ⌝ }
 {
     let cache = k.cache;
-    let found = phd_record::read_record(s, k.at, facts, k.address, cache, k.refs as u64);
-    let what = found.what;
-    match what {
-        What::Over(n) => Stepped {
-            how: StepResult::End(0, n, 0),
+    let found = phd_record::read_record(s, k.at, header, k.address, cache, k.refs as u64);
+    let item = found.next;
+    match item {
+        Next::Over(n) => Stepped {
+            result: StepResult::End(0, n, 0),
             cursor: k,
         },
-        What::Record(next) => admit(s, facts, rows, refs, k, next, found),
-        What::Stops(w) => Stepped {
-            how: StepResult::End(decode::reply_of(w), k.at, decode::missing_of(w)),
+        Next::Record(next) => store_checked(s, header, rows, refs, k, next, found),
+        Next::Stops(w) => Stepped {
+            result: StepResult::End(decode::reply_of(w), k.at, decode::missing_of(w)),
             cursor: k,
         },
     }
@@ -141,15 +141,15 @@ pub fn step(s: &[u8], facts: Facts, rows: &mut [u64], refs: &mut [u64], k: Curso
 // The records of a dump, from the place of the first tag on.
 pub fn read_records(
     s: &[u8],
-    facts: Facts,
+    header: Header,
     at: usize,
     rows: &mut [u64],
     refs: &mut [u64],
-) -> Reading
-    requires { ⌜ (at ≤ length (now s)) × (length (now s) ≤ limit) × Word (facts .word) ⌝ }
-    ensures is { λ r. ⌜ r ≡ answer (records (suc limit) facts (now (s .entry)) (length (now (rows .entry))) (length (now (refs .entry))) (first at)) ⌝ }
-    ensures rows { λ _. ⌜ now (rows .exit) ≡ stored (now (rows .entry)) (records (suc limit) facts (now (s .entry)) (length (now (rows .entry))) (length (now (refs .entry))) (first at) .rows) ⌝ }
-    ensures refs { λ _. ⌜ now (refs .exit) ≡ stored (now (refs .entry)) (records (suc limit) facts (now (s .entry)) (length (now (rows .entry))) (length (now (refs .entry))) (first at) .refs) ⌝ }
+) -> ReadAnswer
+    requires { ⌜ (at ≤ length (now s)) × (length (now s) ≤ limit) × ValidBits (header .bits) ⌝ }
+    ensures is { λ r. ⌜ r ≡ read-answer (records (suc limit) header (now (s .entry)) (length (now (rows .entry))) (length (now (refs .entry))) (initial-state at)) ⌝ }
+    ensures rows { λ _. ⌜ now (rows .exit) ≡ overwrite (now (rows .entry)) (records (suc limit) header (now (s .entry)) (length (now (rows .entry))) (length (now (refs .entry))) (initial-state at) .rows) ⌝ }
+    ensures refs { λ _. ⌜ now (refs .exit) ≡ overwrite (now (refs .entry)) (records (suc limit) header (now (s .entry)) (length (now (rows .entry))) (length (now (refs .entry))) (initial-state at) .refs) ⌝ }
 {
     let mut cursor = Cursor {
         at: at,
@@ -159,21 +159,21 @@ pub fn read_records(
         refs: 0,
     };
     loop {
-        let done = step(s, facts, rows, refs, cursor);
-        let how = done.how;
-        let next = done.cursor;
-        match how {
+        let stepped = step(s, header, rows, refs, cursor);
+        let result = stepped.result;
+        let next = stepped.cursor;
+        match result {
             StepResult::Continue => {
                 cursor = next;
             }
             StepResult::End(reply, place, missing) => {
-                return Reading {
+                return ReadAnswer {
                     reply: reply,
                     place: place,
                     missing: missing,
                     rows: next.rows,
                     refs: next.refs,
-                    facts: facts,
+                    header: header,
                 };
             }
         }

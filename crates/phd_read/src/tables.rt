@@ -5,13 +5,13 @@ ghost use Prim.Native.Nat.{_+_, _*_, _^_, _≤_, _<_};
 ghost use lib.ListN.{length};
 ghost use lib.Seq.{sets};
 ghost use Rattle.decode.specs.Layout.{run};
-ghost use Rattle.decode_fast.specs.RefsInRange.{clear};
-ghost use Rattle.phd.specs.Phd.{references};
-ghost use Rattle.phd_read.specs.StoredRefs.{Whole, values-of};
-use decode::Piece;
+ghost use Rattle.decode_fast.specs.RefsInRange.{refs-in-range};
+ghost use Rattle.phd.specs.Phd.{ref-list};
+ghost use Rattle.phd_read.specs.StoredRefs.{RefsAllRead, values-of};
+use decode::NumberRead;
 
 // Stores count references of a record whose address is clear of both ends, where four bytes more follow.
-fn put_clear(
+fn store_refs_in_range(
     s: &[u8],
     at: usize,
     w: usize,
@@ -21,14 +21,14 @@ fn put_clear(
     table: &mut [u64],
     to: usize,
 )
-    requires { ⌜ (1 ≤ w) × (clear w base top ≡ true) × (top < 2 ^ 64) × (to + count ≤ length (now table)) × (at + count * w + 4 ≤ length (now s)) ⌝ }
-    ensures { λ _. ⌜ now (table .exit) ≡ sets (now (table .entry)) to (values-of (run (references w base top count) (now (s .entry)) at)) ⌝ }
+    requires { ⌜ (1 ≤ w) × (refs-in-range w base top ≡ true) × (top < 2 ^ 64) × (to + count ≤ length (now table)) × (at + count * w + 4 ≤ length (now s)) ⌝ }
+    ensures { λ _. ⌜ now (table .exit) ≡ sets (now (table .entry)) to (values-of (run (ref-list w base top count) (now (s .entry)) at)) ⌝ }
 {
     let mut here = at;
     let mut left = count;
     let mut place = to;
     while 0 < left {
-        table[place] = decode_fast::placed(s, here, w, base);
+        table[place] = decode_fast::read_ref_unchecked(s, here, w, base);
         here += w;
         place += 1;
         left -= 1;
@@ -36,7 +36,7 @@ fn put_clear(
 }
 
 // Stores count references that were judged, w bytes each and from a place of the dump on, from a place of the table on.
-pub fn put_refs(
+pub fn store_refs(
     s: &[u8],
     at: usize,
     w: usize,
@@ -47,12 +47,12 @@ pub fn put_refs(
     to: usize,
 )
     requires { ⌜ (at ≤ length (now s)) × (w ≤ 8) × (to + count ≤ length (now table)) ⌝ }
-    requires { ⌜ Whole (run (references w base top count) (now s) at) ⌝ }
-    ensures { λ _. ⌜ now (table .exit) ≡ sets (now (table .entry)) to (values-of (run (references w base top count) (now (s .entry)) at)) ⌝ }
+    requires { ⌜ RefsAllRead (run (ref-list w base top count) (now s) at) ⌝ }
+    ensures { λ _. ⌜ now (table .exit) ≡ sets (now (table .entry)) to (values-of (run (ref-list w base top count) (now (s .entry)) at)) ⌝ }
 {
-    if (1 <= w) & (count < 0x1000_0000) & decode_fast::clear(w, base, top) {
+    if (1 <= w) & (count < 0x1000_0000) & decode_fast::refs_in_range(w, base, top) {
         if count as usize * w + 4 <= s.len() - at {
-            put_clear(s, at, w, base, top, count, table, to);
+            store_refs_in_range(s, at, w, base, top, count, table, to);
             return;
         }
     }
@@ -60,12 +60,12 @@ pub fn put_refs(
     let mut left = count;
     let mut place = to;
     while 0 < left {
-        match decode::reference(s, here, w, base, top) {
-            Piece::Is(a, next) => {
+        match decode::ref_field(s, here, w, base, top) {
+            NumberRead::Is(a, next) => {
                 table[place] = a;
                 here = next;
             }
-            Piece::Stops(_) => {
+            NumberRead::Stops(_) => {
                 return;
             }
         }

@@ -2,7 +2,7 @@
 use mathlib.Core.Path.{_≡_}
 use Prim.Native.Nat.{ℕ}
 use Rattle.decode.specs.Layout.{Layout, _>>=_}
-use Rattle.phd.specs.Phd.{Item, hash-bytes, middle, class-name, linked}
+use Rattle.phd.specs.Phd.{Item, hash-bytes, middle, class-name, from-ref-count}
 use Rattle.phd.specs.declared.Origin.{Origin}
 use Rattle.phd.specs.declared.Shape.{Shape}
 use Rattle.phd.specs.declared.Front.{Front}
@@ -13,13 +13,13 @@ pub record ArrayShape (sh : Shape) : Type 0 where
   pub inst : sh .inst ≡ 0
   pub superclass : sh .superclass ≡ 0
   pub name : sh .name ≡ 0
-  pub counted : sh .counted ≡ 4
+  pub countwidth : sh .countwidth ≡ 4
   pub size : sh .size ≡ 4
   pub truelen : sh .truelen ≡ 4
 
 -- the fields of a record, as `fields` of phd has them, from behind the front v on
-unfoldable pub behind : ℕ → Cache → Origin → ℕ → Shape → Front → Layout Item
-behind top c origin hk sh v = do
+unfoldable pub after-front : ℕ → Cache → Origin → ℕ → Shape → Front → Layout Item
+after-front top c origin hk sh v = do
   m ← middle sh (hash-bytes hk)
   name ← class-name (sh .name)
-  linked top c origin 0 hk sh v m name
+  from-ref-count top c origin 0 hk sh v m name

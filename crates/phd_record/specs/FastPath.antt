@@ -7,13 +7,13 @@ use Prim.Native.Nat.{ℕ}
 use Rattle.decode.specs.Layout.{Outcome}
 use Rattle.phd.specs.Phd.{Item}
 use Rattle.phd.specs.declared.cache.Cache.{Cache}
-use Rattle.phd_record.specs.RecordOutcomes.{found-of}
-use Rattle.phd_record.specs.declared.Found.{Found}
+use Rattle.phd_record.specs.RecordOutcomes.{record-read-of}
+use Rattle.phd_record.specs.declared.RecordRead.{RecordRead}
 
 -- what was found, where something was taken
-abbrev pub Taken : Cache → Outcome Item → Bool → Found → Type 0
-Taken c o took found = took ≡ true → found ≡ found-of c o
+abbrev pub HitAgrees : Cache → Outcome Item → Bool → RecordRead → Type 0
+HitAgrees c o hit found = hit ≡ true → found ≡ record-read-of c o
 
 -- a class word has 4 or 8 bytes, or there is none
-abbrev pub Worded : ℕ → Type 0
-Worded w = (w ≡ 0) ⊎ ((w ≡ 4) ⊎ (w ≡ 8))
+abbrev pub ClassWidth : ℕ → Type 0
+ClassWidth w = (w ≡ 0) ⊎ ((w ≡ 4) ⊎ (w ≡ 8))

@@ -8,9 +8,9 @@ use lib.ListN.{replicate}
 use Rattle.decode.specs.Layout.{Outcome, whole, stops}
 use Rattle.decode.specs.declared.Stop.{Stop}
 use Rattle.decode.specs.Numbers.{pick}
-use Rattle.decode.specs.declared.Text.{Text}
+use Rattle.decode.specs.declared.StringSpan.{StringSpan}
 use Rattle.table.specs.Table.{row-width}
-use Rattle.phd.specs.Phd.{carried, Item, over, item, row, put}
+use Rattle.phd.specs.Phd.{make-context, Item, end-item, item, row, push}
 use Rattle.phd.specs.declared.Origin.{Origin}
 use Rattle.phd.specs.declared.Shape.{Shape}
 use Rattle.phd.specs.declared.cache.Cache.{Cache}
@@ -23,11 +23,11 @@ use Rattle.phd_record.specs.declared.parts.MiddleRead.{MiddleRead}
 use Rattle.phd_record.specs.declared.parts.MiddleRead.the-variants.{Is as IsMiddle, Stops as StopsMiddle}
 use Rattle.phd_record.specs.declared.parts.TailRead.{TailRead}
 use Rattle.phd_record.specs.declared.parts.TailRead.the-variants.{Is as IsTail, Stops as StopsTail}
-use Rattle.phd_record.specs.declared.refs.Checked.{Checked}
-use Rattle.phd_record.specs.declared.refs.Checked.the-variants.{Is as IsChecked, Stops as StopsChecked}
-use Rattle.phd_record.specs.declared.What.{What}
-use Rattle.phd_record.specs.declared.What.the-variants.{Over, Record, Stops}
-use Rattle.phd_record.specs.declared.Found.{Found}
+use Rattle.phd_record.specs.declared.refs.RefsRead.{RefsRead}
+use Rattle.phd_record.specs.declared.refs.RefsRead.the-variants.{Is as IsRefs, Stops as StopsRefs}
+use Rattle.phd_record.specs.declared.Next.{Next}
+use Rattle.phd_record.specs.declared.Next.the-variants.{Over, Record, Stops}
+use Rattle.phd_record.specs.declared.RecordRead.{RecordRead}
 
 abbrev pub front-outcome : FrontRead → Outcome Front
 front-outcome (IsFront v next) = whole v next
@@ -42,70 +42,70 @@ tail-outcome (IsTail v next) = whole v next
 tail-outcome (StopsTail w) = stops w
 
 -- references that were judged, by what reading them finds
-abbrev pub checked-of : Outcome (List ℕ) → Checked
-checked-of (whole rs next) = IsChecked next
-checked-of (stops w) = StopsChecked w
+abbrev pub refs-read-of : Outcome (List ℕ) → RefsRead
+refs-read-of (whole rs next) = IsRefs next
+refs-read-of (stops w) = StopsRefs w
 
 -- no record: the cache stays as it is
-unfoldable pub halted : What → Cache → Found
-halted w c = record { what = w; row = replicate row-width 0; span = record { place = 0; width = 0; count = 0 }; address = 0; cache = c }
+unfoldable pub no-record : Next → Cache → RecordRead
+no-record w c = record { next = w; row = replicate row-width 0; span = record { place = 0; width = 0; count = 0 }; address = 0; cache = c }
 
 -- what stands at a tag, by what reading it with the cache c finds
-unfoldable pub found-of : Cache → Outcome Item → Found
-found-of c (whole over n) = halted (Over n) c
-found-of c (whole (item r rs sp k) n) = record { what = Record n; row = r; span = sp; address = k .address; cache = k .cache }
-found-of c (stops w) = halted (Stops w) c
+unfoldable pub record-read-of : Cache → Outcome Item → RecordRead
+record-read-of c (whole end-item n) = no-record (Over n) c
+record-read-of c (whole (item r rs sp k) n) = record { next = Record n; row = r; span = sp; address = k .address; cache = k .cache }
+record-read-of c (stops w) = no-record (Stops w) c
 
 -- a record whole, whose n references stand at a place
-unfoldable pub recorded : ℕ → ℕ → ℕ → Tail → Cache → Origin → ℕ → ℕ → Shape → Front → Middle → Text → Found
-recorded next place n t c origin known hk sh v m name = record {
-  what = Record next;
+unfoldable pub make-record : ℕ → ℕ → ℕ → Tail → Cache → Origin → ℕ → ℕ → Shape → Front → Middle → StringSpan → RecordRead
+make-record next place n t c origin known hk sh v m name = record {
+  next = Record next;
   row = row origin hk known sh v m name n t;
-  span = record { place = place; width = sh .link; count = n };
+  span = record { place = place; width = sh .refwidth; count = n };
   address = v .address;
-  cache = pick (sh .cached) (put c (v .word)) c;
+  cache = pick (sh .cached) (push c (v .class)) c;
 }
 
 -- ---- what was found, by what the answer says
 
 -- what an answer says stands at the tag
-abbrev what-of : Outcome Item → What
-what-of (whole over n) = Over n
-what-of (whole (item r rs sp k) n) = Record n
-what-of (stops w) = Stops w
+abbrev next-of : Outcome Item → Next
+next-of (whole end-item n) = Over n
+next-of (whole (item r rs sp k) n) = Record n
+next-of (stops w) = Stops w
 
-what-is : (c : Cache) (o : Outcome Item) → found-of c o .what ≡ what-of o
-unfolding found-of halted
-what-is c (whole over n) = refl
-what-is c (whole (item r rs sp k) n) = refl
-what-is c (stops w) = refl
+record-read-next : (c : Cache) (o : Outcome Item) → record-read-of c o .next ≡ next-of o
+unfolding record-read-of no-record
+record-read-next c (whole end-item n) = refl
+record-read-next c (whole (item r rs sp k) n) = refl
+record-read-next c (stops w) = refl
 
-module _ (c : Cache) (o : Outcome Item) (f : Found) (is : f ≡ found-of c o) where
-  says : (w : What) → f .what ≡ w → what-of o ≡ w
-  says w e = sym (what-is c o) ∙ ap (λ (g : Found). g .what) (sym is) ∙ e
+module _ (c : Cache) (o : Outcome Item) (f : RecordRead) (is : f ≡ record-read-of c o) where
+  next-is : (w : Next) → f .next ≡ w → next-of o ≡ w
+  next-is w e = sym (record-read-next c o) ∙ ap (λ (g : RecordRead). g .next) (sym is) ∙ e
 
-  pub found-over : (n : ℕ) → f .what ≡ Over n → o ≡ whole over n
-  found-over n e = by o (says (Over n) e)
+  pub record-read-over : (n : ℕ) → f .next ≡ Over n → o ≡ whole end-item n
+  record-read-over n e = by o (next-is (Over n) e)
     where
-      by : (p : Outcome Item) → what-of p ≡ Over n → p ≡ whole over n
-      by (whole over m) x = ap (whole over) cc
+      by : (p : Outcome Item) → next-of p ≡ Over n → p ≡ whole end-item n
+      by (whole end-item m) x = ap (whole end-item) cc
       by (whole (item r rs sp k) m) x = let z : _≡_ {A = ℕ} 0 1 = cc in absurd (omega arith)
       by (stops w) x = let z : _≡_ {A = ℕ} 0 1 = cc in absurd (omega arith)
 
-  pub found-halts : (w : Stop) → f .what ≡ Stops w → o ≡ stops w
-  found-halts w e = by o (says (Stops w) e)
+  pub record-read-stops : (w : Stop) → f .next ≡ Stops w → o ≡ stops w
+  record-read-stops w e = by o (next-is (Stops w) e)
     where
-      by : (p : Outcome Item) → what-of p ≡ Stops w → p ≡ stops w
-      by (whole over m) x = let z : _≡_ {A = ℕ} 0 1 = cc in absurd (omega arith)
+      by : (p : Outcome Item) → next-of p ≡ Stops w → p ≡ stops w
+      by (whole end-item m) x = let z : _≡_ {A = ℕ} 0 1 = cc in absurd (omega arith)
       by (whole (item r rs sp k) m) x = let z : _≡_ {A = ℕ} 0 1 = cc in absurd (omega arith)
       by (stops u) x = ap stops cc
 
-  pub found-item : (n : ℕ) → f .what ≡ Record n → (rs : List ℕ) × (o ≡ whole (item (f .row) rs (f .span) (carried (f .address) (f .cache))) n)
-  unfolding found-of
-  found-item n e = by o is (says (Record n) e)
+  pub record-read-item : (n : ℕ) → f .next ≡ Record n → (rs : List ℕ) × (o ≡ whole (item (f .row) rs (f .span) (make-context (f .address) (f .cache))) n)
+  unfolding record-read-of
+  record-read-item n e = by o is (next-is (Record n) e)
     where
-      by : (p : Outcome Item) → f ≡ found-of c p → what-of p ≡ Record n
-          → (rs : List ℕ) × (p ≡ whole (item (f .row) rs (f .span) (carried (f .address) (f .cache))) n)
-      by (whole over m) q x = let z : _≡_ {A = ℕ} 0 1 = cc in absurd (omega arith)
+      by : (p : Outcome Item) → f ≡ record-read-of c p → next-of p ≡ Record n
+          → (rs : List ℕ) × (p ≡ whole (item (f .row) rs (f .span) (make-context (f .address) (f .cache))) n)
+      by (whole end-item m) q x = let z : _≡_ {A = ℕ} 0 1 = cc in absurd (omega arith)
       by (whole (item r rs sp k) m) q x = let y : m ≡ n = cc in (rs, rw (q, y))
       by (stops w) q x = let z : _≡_ {A = ℕ} 0 1 = cc in absurd (omega arith)

@@ -3,19 +3,19 @@ ghost use mathlib.Core.Path.{_≡_};
 ghost use Prim.Native.Nat.{_≤_};
 ghost use lib.ListN.{length};
 ghost use Rattle.decode.specs.Layout.{run};
-ghost use Rattle.phd.specs.Phd.{fields, linked};
-ghost use Rattle.phd.specs.Shapes.{Narrow};
-ghost use Rattle.phd_record.specs.RecordOutcomes.{found-of, recorded as recordedBy};
-use super::Found;
-use super::What;
-use super::halted;
+ghost use Rattle.phd.specs.Phd.{fields, from-ref-count};
+ghost use Rattle.phd.specs.Shapes.{WidthsLe8};
+ghost use Rattle.phd_record.specs.RecordOutcomes.{record-read-of, make-record};
+use super::Next;
+use super::RecordRead;
+use super::no_record;
 use super::parts::FrontRead;
 use super::parts::MiddleRead;
 use super::parts::TailRead;
-use super::refs::Checked;
-use decode::Piece;
-use decode::Text;
-use decode::TextRead;
+use super::refs::RefsRead;
+use decode::NumberRead;
+use decode::StringRead;
+use decode::StringSpan;
 use phd::Cache;
 use phd::Front;
 use phd::Middle;
@@ -25,7 +25,7 @@ use phd::Span;
 use phd::Tail;
 
 // A record whole: its references stand at a place, n of them, and the record ends before the next place.
-pub fn recorded(
+pub fn make_record(
     next: usize,
     place: usize,
     n: u64,
@@ -37,18 +37,18 @@ pub fn recorded(
     sh: Shape,
     v: Front,
     m: Middle,
-    name: Text,
-) -> Found
-    ensures { λ r. ⌜ r ≡ recordedBy next place n t cache origin known hk sh v m name ⌝ }
+    name: StringSpan,
+) -> RecordRead
+    ensures { λ r. ⌜ r ≡ make-record next place n t cache origin known hk sh v m name ⌝ }
 {
     let row = super::parts::make_row(origin, hk, known, sh, v, m, name, n, t);
-    let after = cache.after(sh.cached, v.word);
-    Found {
-        what: What::Record(next),
+    let after = cache.push_if(sh.cached, v.class);
+    RecordRead {
+        next: Next::Record(next),
         row: row,
         span: Span {
             place: place,
-            width: sh.link,
+            width: sh.refwidth,
             count: n,
         },
         address: v.address,
@@ -57,7 +57,7 @@ pub fn recorded(
 }
 
 // The fields from the reference count on, and the record whole.
-fn read_linked(
+fn read_from_ref_count(
     s: &[u8],
     at: usize,
     top: u64,
@@ -68,28 +68,28 @@ fn read_linked(
     sh: Shape,
     v: Front,
     m: Middle,
-    name: Text,
-) -> Found
-    requires { ⌜ (at ≤ length (now s)) × Narrow sh ⌝ }
-    ensures { λ r. ⌜ r ≡ found-of cache (run (linked top cache origin known hk sh v m name) (now (s .entry)) at) ⌝ }
+    name: StringSpan,
+) -> RecordRead
+    requires { ⌜ (at ≤ length (now s)) × WidthsLe8 sh ⌝ }
+    ensures { λ r. ⌜ r ≡ record-read-of cache (run (from-ref-count top cache origin known hk sh v m name) (now (s .entry)) at) ⌝ }
 {
     let place: usize;
-    let n = match super::parts::link_count(s, at, sh.counted, sh.count) {
-        Piece::Is(k, p) => {
+    let n = match super::parts::ref_count(s, at, sh.countwidth, sh.count) {
+        NumberRead::Is(k, p) => {
             place = p;
             k
         }
-        Piece::Stops(w) => return halted(What::Stops(w), cache),
+        NumberRead::Stops(w) => return no_record(Next::Stops(w), cache),
     };
-    let end = match super::refs::check_links(s, place, sh.link, v.address, top, n) {
-        Checked::Is(e) => e,
-        Checked::Stops(w) => return halted(What::Stops(w), cache),
+    let end = match super::refs::check_refs(s, place, sh.refwidth, v.address, top, n) {
+        RefsRead::Is(e) => e,
+        RefsRead::Stops(w) => return no_record(Next::Stops(w), cache),
     };
     match super::parts::read_tail(s, end, sh.size, sh.truelen, n) {
         TailRead::Is(t, next) => {
-            recorded(next, place, n, t, cache, origin, known, hk, sh, v, m, name)
+            make_record(next, place, n, t, cache, origin, known, hk, sh, v, m, name)
         }
-        TailRead::Stops(w) => halted(What::Stops(w), cache),
+        TailRead::Stops(w) => no_record(Next::Stops(w), cache),
     }
 }
 
@@ -104,9 +104,9 @@ pub fn read_fields(
     known: u64,
     hk: u64,
     sh: Shape,
-) -> Found
-    requires { ⌜ (at ≤ length (now s)) × Narrow sh ⌝ }
-    ensures { λ r. ⌜ r ≡ found-of cache (run (fields top before cache origin known hk sh) (now (s .entry)) at) ⌝ }
+) -> RecordRead
+    requires { ⌜ (at ≤ length (now s)) × WidthsLe8 sh ⌝ }
+    ensures { λ r. ⌜ r ≡ record-read-of cache (run (fields top before cache origin known hk sh) (now (s .entry)) at) ⌝ }
 {
     let mut here = at;
     let v = match super::parts::read_front(s, here, top, before, sh) {
@@ -114,7 +114,7 @@ pub fn read_fields(
             here = n;
             f
         }
-        FrontRead::Stops(w) => return halted(What::Stops(w), cache),
+        FrontRead::Stops(w) => return no_record(Next::Stops(w), cache),
     };
     let hb = phd::forms::hash_bytes_of(hk);
     let m = match super::parts::read_middle(s, here, sh, hb) {
@@ -122,12 +122,12 @@ pub fn read_fields(
             here = n;
             q
         }
-        MiddleRead::Stops(w) => return halted(What::Stops(w), cache),
+        MiddleRead::Stops(w) => return no_record(Next::Stops(w), cache),
     };
     match super::parts::class_name(s, here, sh.name) {
-        TextRead::Is(name, n) => {
-            read_linked(s, n, top, cache, origin, known, hk, sh, v, m, name)
+        StringRead::Is(name, n) => {
+            read_from_ref_count(s, n, top, cache, origin, known, hk, sh, v, m, name)
         }
-        TextRead::Stops(w) => halted(What::Stops(w), cache),
+        StringRead::Stops(w) => no_record(Next::Stops(w), cache),
     }
 }

@@ -4,17 +4,17 @@ ghost use mathlib.Core.Path.{_≡_};
 ghost use Prim.Native.Nat.{_≤_};
 ghost use lib.ListN.{length};
 ghost use Rattle.decode.specs.Layout.{run};
-ghost use Rattle.phd.specs.Phd.{entry, record-of};
-ghost use Rattle.phd.specs.Shapes.{Word};
-ghost use Rattle.phd_record.specs.RecordOutcomes.{found-of, halted as haltedBy};
+ghost use Rattle.phd.specs.Phd.{entry, record-body};
+ghost use Rattle.phd.specs.Shapes.{ValidBits};
+ghost use Rattle.phd_record.specs.RecordOutcomes.{record-read-of, no-record};
 use decode::Maybe;
-use decode::Piece;
+use decode::NumberRead;
 use decode::Stop;
 use phd::Cache;
-use phd::Facts;
+use phd::Header;
 use phd::Origin;
 use phd::Span;
-use phd::Tagged;
+use phd::TagForm;
 
 mod fast;
 mod fields;
@@ -22,28 +22,28 @@ mod parts;
 mod refs;
 
 // What stands at a tag: the end, a record with the place after it, or why reading stops there.
-pub enum What {
+pub enum Next {
     Over(usize),
     Record(usize),
     Stops(Stop),
 }
 
 // What stands at a tag, with the record's row, its references' place, its address and the cache after it.
-pub struct Found {
-    pub what: What,
-    pub row: [u64; table::ROW],
+pub struct RecordRead {
+    pub next: Next,
+    pub row: [u64; table::ROW_WIDTH],
     pub span: Span,
     pub address: u64,
     pub cache: Cache,
 }
 
 // No record: the cache stays as it is.
-pub fn halted(what: What, cache: Cache) -> Found
-    ensures { λ r. ⌜ r ≡ haltedBy what cache ⌝ }
+pub fn no_record(next: Next, cache: Cache) -> RecordRead
+    ensures { λ r. ⌜ r ≡ no-record next cache ⌝ }
 {
-    Found {
-        what: what,
-        row: [0; table::ROW],
+    RecordRead {
+        next: next,
+        row: [0; table::ROW_WIDTH],
         span: Span {
             place: 0,
             width: 0,
@@ -55,33 +55,33 @@ pub fn halted(what: What, cache: Cache) -> Found
 }
 
 // A record behind its tag.
-fn behind_tag(
+fn read_body(
     s: &[u8],
     at: usize,
-    facts: Facts,
+    header: Header,
     before: u64,
     cache: Cache,
     origin: Origin,
     tag: u64,
-) -> Found
-    requires { ⌜ (at ≤ length (now s)) × Word (facts .word) ⌝ }
-    ensures { λ r. ⌜ r ≡ found-of cache (run (record-of facts before cache origin tag) (now (s .entry)) at) ⌝ }
+) -> RecordRead
+    requires { ⌜ (at ≤ length (now s)) × ValidBits (header .bits) ⌝ }
+    ensures { λ r. ⌜ r ≡ record-read-of cache (run (record-body header before cache origin tag) (now (s .entry)) at) ⌝ }
 {
-    let Tagged::Begins(form) = phd::forms::tagged(tag) else {
-        return halted(What::Stops(Stop::Refused(6)), cache);
+    let TagForm::Begins(form) = phd::forms::tag_form(tag) else {
+        return no_record(Next::Stops(Stop::Refused(6)), cache);
     };
-    let Maybe::Just(class) = phd::forms::known(cache, tag) else {
-        return halted(What::Stops(Stop::Refused(10)), cache);
+    let Maybe::Just(class) = phd::forms::slot_class_of(cache, tag) else {
+        return no_record(Next::Stops(Stop::Refused(10)), cache);
     };
-    match phd::forms::flags(s, at, facts, tag) {
-        Piece::Is(f, next) => {
-            let hk = phd::forms::hash_kind_of(facts, tag, f);
-            let top = phd::forms::highest_of(facts.word);
-            let word = (facts.word / 8) as usize;
-            let sh = phd::forms::shape_of(word, form, tag, f);
+    match phd::forms::read_flag_byte(s, at, header, tag) {
+        NumberRead::Is(f, next) => {
+            let hk = phd::forms::hash_kind_of(header, tag, f);
+            let top = phd::forms::max_address_of(header.bits);
+            let bytes = (header.bits / 8) as usize;
+            let sh = phd::forms::shape_of(bytes, form, tag, f);
             fields::read_fields(s, next, top, before, cache, origin, class, hk, sh)
         }
-        Piece::Stops(w) => halted(What::Stops(w), cache),
+        NumberRead::Stops(w) => no_record(Next::Stops(w), cache),
     }
 }
 
@@ -89,28 +89,28 @@ fn behind_tag(
 pub fn read_record(
     s: &[u8],
     at: usize,
-    facts: Facts,
+    header: Header,
     before: u64,
     cache: Cache,
     index: u64,
-) -> Found
-    requires { ⌜ (at ≤ length (now s)) × Word (facts .word) ⌝ }
-    ensures { λ r. ⌜ r ≡ found-of cache (run (entry facts before cache index) (now (s .entry)) at) ⌝ }
+) -> RecordRead
+    requires { ⌜ (at ≤ length (now s)) × ValidBits (header .bits) ⌝ }
+    ensures { λ r. ⌜ r ≡ record-read-of cache (run (entry header before cache index) (now (s .entry)) at) ⌝ }
 {
     if 100 <= s.len() - at {
-        let quick = fast::record(s, at, facts, before, cache, index);
-        if quick.took {
-            return quick.found;
+        let fast = fast::read_fast(s, at, header, before, cache, index);
+        if fast.hit {
+            return fast.found;
         }
     }
     match decode::field(s, at, 1) {
-        Piece::Is(tag, next) => {
+        NumberRead::Is(tag, next) => {
             if tag == 3 {
-                return halted(What::Over(next), cache);
+                return no_record(Next::Over(next), cache);
             }
             let origin = Origin { offset: at, index };
-            behind_tag(s, next, facts, before, cache, origin, tag)
+            read_body(s, next, header, before, cache, origin, tag)
         }
-        Piece::Stops(w) => halted(What::Stops(w), cache),
+        NumberRead::Stops(w) => no_record(Next::Stops(w), cache),
     }
 }

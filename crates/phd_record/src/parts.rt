@@ -3,14 +3,14 @@ ghost use mathlib.Core.Path.{_≡_};
 ghost use Prim.Native.Nat.{_≤_};
 ghost use lib.ListN.{length};
 ghost use Rattle.decode.specs.Layout.{run};
-ghost use Rattle.decode.specs.Fields.{outcome, text-outcome};
-ghost use Rattle.phd.specs.Phd.{front, class-name as classNameOf, link-count as linkCountOf, true-length as trueLengthOf, tail, row, middle};
-ghost use Rattle.phd.specs.Shapes.{Narrow};
+ghost use Rattle.decode.specs.Fields.{outcome, string-outcome};
+ghost use Rattle.phd.specs.Phd.{front, class-name as classNameOf, ref-count, true-length as trueLengthOf, tail, row, middle};
+ghost use Rattle.phd.specs.Shapes.{WidthsLe8};
 ghost use Rattle.phd_record.specs.RecordOutcomes.{front-outcome, middle-outcome, tail-outcome};
-use decode::Piece;
+use decode::NumberRead;
 use decode::Stop;
-use decode::Text;
-use decode::TextRead;
+use decode::StringRead;
+use decode::StringSpan;
 use phd::Front;
 use phd::Middle;
 use phd::Origin;
@@ -35,52 +35,59 @@ pub enum TailRead {
 
 // Gap, class word and array length.
 pub fn read_front(s: &[u8], at: usize, top: u64, before: u64, sh: Shape) -> FrontRead
-    requires { ⌜ (at ≤ length (now s)) × Narrow sh ⌝ }
+    requires { ⌜ (at ≤ length (now s)) × WidthsLe8 sh ⌝ }
     ensures { λ r. ⌜ front-outcome r ≡ run (front top before sh) (now (s .entry)) at ⌝ }
 {
     let mut here = at;
     let address = match decode::address(s, here, sh.gap, before, top) {
-        Piece::Is(a, n) => {
+        NumberRead::Is(a, n) => {
             here = n;
             a
         }
-        Piece::Stops(w) => return FrontRead::Stops(w),
+        NumberRead::Stops(w) => return FrontRead::Stops(w),
     };
-    let word = match decode::field(s, here, sh.word) {
-        Piece::Is(c, n) => {
+    let class = match decode::field(s, here, sh.class) {
+        NumberRead::Is(c, n) => {
             here = n;
             c
         }
-        Piece::Stops(w) => return FrontRead::Stops(w),
+        NumberRead::Stops(w) => return FrontRead::Stops(w),
     };
     match decode::count(s, here, sh.len) {
-        Piece::Is(len, n) => FrontRead::Is(Front { address, word, len }, n),
-        Piece::Stops(w) => FrontRead::Stops(w),
+        NumberRead::Is(len, n) => FrontRead::Is(
+            Front {
+                address,
+                class,
+                len,
+            },
+            n,
+        ),
+        NumberRead::Stops(w) => FrontRead::Stops(w),
     }
 }
 
 // A class's instance size, the hash of hb bytes and the superclass word.
 pub fn read_middle(s: &[u8], at: usize, sh: Shape, hb: usize) -> MiddleRead
-    requires { ⌜ (at ≤ length (now s)) × Narrow sh × (hb ≤ 8) ⌝ }
+    requires { ⌜ (at ≤ length (now s)) × WidthsLe8 sh × (hb ≤ 8) ⌝ }
     ensures { λ r. ⌜ middle-outcome r ≡ run (middle sh hb) (now (s .entry)) at ⌝ }
 {
     let mut here = at;
     let inst = match decode::count(s, here, sh.inst) {
-        Piece::Is(i, n) => {
+        NumberRead::Is(i, n) => {
             here = n;
             i
         }
-        Piece::Stops(w) => return MiddleRead::Stops(w),
+        NumberRead::Stops(w) => return MiddleRead::Stops(w),
     };
     let hash = match decode::field(s, here, hb) {
-        Piece::Is(h, n) => {
+        NumberRead::Is(h, n) => {
             here = n;
             h
         }
-        Piece::Stops(w) => return MiddleRead::Stops(w),
+        NumberRead::Stops(w) => return MiddleRead::Stops(w),
     };
     match decode::field(s, here, sh.superclass) {
-        Piece::Is(superclass, n) => MiddleRead::Is(
+        NumberRead::Is(superclass, n) => MiddleRead::Is(
             Middle {
                 inst,
                 hash,
@@ -88,19 +95,19 @@ pub fn read_middle(s: &[u8], at: usize, sh: Shape, hb: usize) -> MiddleRead
             },
             n,
         ),
-        Piece::Stops(w) => MiddleRead::Stops(w),
+        NumberRead::Stops(w) => MiddleRead::Stops(w),
     }
 }
 
 // A class's name, where the record has one: n is the bytes of its length.
-pub fn class_name(s: &[u8], at: usize, n: usize) -> TextRead
+pub fn class_name(s: &[u8], at: usize, n: usize) -> StringRead
     requires { ⌜ at ≤ length (now s) ⌝ }
-    ensures { λ r. ⌜ text-outcome r ≡ run (classNameOf n) (now (s .entry)) at ⌝ }
+    ensures { λ r. ⌜ string-outcome r ≡ run (classNameOf n) (now (s .entry)) at ⌝ }
 {
     if n == 0 {
-        return TextRead::Is(
-            Text {
-                there: false,
+        return StringRead::Is(
+            StringSpan {
+                present: false,
                 place: 0,
                 len: 0,
             },
@@ -111,32 +118,32 @@ pub fn class_name(s: &[u8], at: usize, n: usize) -> TextRead
 }
 
 // How many references: known from the tag, or counted in a field of n bytes.
-pub fn link_count(s: &[u8], at: usize, n: usize, known: u64) -> Piece
+pub fn ref_count(s: &[u8], at: usize, n: usize, tagcount: u64) -> NumberRead
     requires { ⌜ (at ≤ length (now s)) × (n ≤ 8) ⌝ }
-    ensures { λ r. ⌜ outcome r ≡ run (linkCountOf n known) (now (s .entry)) at ⌝ }
+    ensures { λ r. ⌜ outcome r ≡ run (ref-count n tagcount) (now (s .entry)) at ⌝ }
 {
     if n == 0 {
-        return Piece::Is(known, at);
+        return NumberRead::Is(tagcount, at);
     }
     decode::count(s, at, n)
 }
 
 // A true length of w bytes, at least the count of references.
-fn true_length(s: &[u8], at: usize, w: usize, count: u64) -> Piece
+fn true_length(s: &[u8], at: usize, w: usize, count: u64) -> NumberRead
     requires { ⌜ (at ≤ length (now s)) × (w ≤ 8) ⌝ }
     ensures { λ r. ⌜ outcome r ≡ run (trueLengthOf w count) (now (s .entry)) at ⌝ }
 {
     if w == 0 {
-        return Piece::Is(0, at);
+        return NumberRead::Is(0, at);
     }
     match decode::count(s, at, w) {
-        Piece::Is(t, next) => {
+        NumberRead::Is(t, next) => {
             if t < count {
-                return Piece::Stops(Stop::Refused(12));
+                return NumberRead::Stops(Stop::Refused(12));
             }
-            Piece::Is(t, next)
+            NumberRead::Is(t, next)
         }
-        Piece::Stops(stop) => Piece::Stops(stop),
+        NumberRead::Stops(stop) => NumberRead::Stops(stop),
     }
 }
 
@@ -147,21 +154,21 @@ pub fn read_tail(s: &[u8], at: usize, size: usize, truelen: usize, count: u64) -
 {
     let mut here = at;
     let z = match decode::field(s, here, size) {
-        Piece::Is(v, n) => {
+        NumberRead::Is(v, n) => {
             here = n;
             v
         }
-        Piece::Stops(w) => return TailRead::Stops(w),
+        NumberRead::Stops(w) => return TailRead::Stops(w),
     };
     match true_length(s, here, truelen, count) {
-        Piece::Is(t, n) => TailRead::Is(
+        NumberRead::Is(t, n) => TailRead::Is(
             Tail {
                 size: z,
                 truelen: t,
             },
             n,
         ),
-        Piece::Stops(w) => TailRead::Stops(w),
+        NumberRead::Stops(w) => TailRead::Stops(w),
     }
 }
 
@@ -173,16 +180,16 @@ pub fn make_row(
     sh: Shape,
     v: Front,
     m: Middle,
-    name: Text,
+    name: StringSpan,
     n: u64,
     t: Tail,
-) -> [u64; table::ROW]
+) -> [u64; table::ROW_WIDTH]
     ensures { λ r. ⌜ r ≡ row origin hk known sh v m name n t ⌝ }
 {
-    let upper = phd::forms::there(sh.superclass, m.superclass, known);
-    let class = phd::forms::there(sh.word, v.word, upper);
-    let size = phd::forms::there(sh.inst, m.inst, t.size);
-    let len = phd::forms::there(sh.truelen, t.truelen, v.len);
+    let upper = phd::forms::field_or(sh.superclass, m.superclass, known);
+    let class = phd::forms::field_or(sh.class, v.class, upper);
+    let size = phd::forms::field_or(sh.inst, m.inst, t.size);
+    let len = phd::forms::field_or(sh.truelen, t.truelen, v.len);
     let place = name.place as u64;
     let chars = name.len as u64;
     let offset = origin.offset as u64;

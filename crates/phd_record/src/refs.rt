@@ -3,34 +3,34 @@ ghost use mathlib.Core.Path.{_≡_};
 ghost use Prim.Native.Nat.{_≤_};
 ghost use lib.ListN.{length};
 ghost use Rattle.decode.specs.Layout.{run};
-ghost use Rattle.phd.specs.Phd.{references};
-ghost use Rattle.phd_record.specs.RecordOutcomes.{checked-of};
-use decode::Piece;
+ghost use Rattle.phd.specs.Phd.{ref-list};
+ghost use Rattle.phd_record.specs.RecordOutcomes.{refs-read-of};
+use decode::NumberRead;
 use decode::Stop;
 
 // References that were judged: the place after them, or why they stop.
-pub enum Checked {
+pub enum RefsRead {
     Is(usize),
     Stops(Stop),
 }
 
 // Judges count references of w bytes each, of a record at the address base.
-pub fn check_links(s: &[u8], at: usize, w: usize, base: u64, top: u64, count: u64) -> Checked
+pub fn check_refs(s: &[u8], at: usize, w: usize, base: u64, top: u64, count: u64) -> RefsRead
     requires { ⌜ (at ≤ length (now s)) × (w ≤ 8) ⌝ }
-    ensures { λ r. ⌜ r ≡ checked-of (run (references w base top count) (now (s .entry)) at) ⌝ }
+    ensures { λ r. ⌜ r ≡ refs-read-of (run (ref-list w base top count) (now (s .entry)) at) ⌝ }
 {
     let mut here = at;
     let mut left = count;
     while 0 < left {
-        match decode::reference(s, here, w, base, top) {
-            Piece::Is(_, next) => {
+        match decode::ref_field(s, here, w, base, top) {
+            NumberRead::Is(_, next) => {
                 here = next;
             }
-            Piece::Stops(stop) => {
-                return Checked::Stops(stop);
+            NumberRead::Stops(stop) => {
+                return RefsRead::Stops(stop);
             }
         }
         left -= 1;
     }
-    Checked::Is(here)
+    RefsRead::Is(here)
 }

@@ -10,115 +10,115 @@ use native.Mathlib.Omega.{arith}
 use native.Mathlib.Decide.{decLe}
 use borrow.Author.Tests.{le-leb, lt-leb}
 use Rattle.table.specs.Table.{row-width}
-use Rattle.phd.specs.Phd.{highest}
-use Rattle.phd.specs.Shapes.{Word}
+use Rattle.phd.specs.Phd.{max-address}
+use Rattle.phd.specs.Shapes.{ValidBits}
 use Rattle.phd.specs.declared.cache.Cache.{Cache}
-use Rattle.phd.specs.declared.Facts.{Facts}
-use Rattle.table.specs.Rows.{Rec, row-at, refs-of, name-of, bare, rec-of, recs, numbers, rows-after, first-recs, row-numbers}
-use Rattle.phd_encode.specs.EncodeRecord.{put-record, cache-after}
-use Rattle.phd_write.specs.Write.{put-records}
+use Rattle.phd.specs.declared.Header.{Header}
+use Rattle.table.specs.Rows.{Rec, row-at, refs-of, name-of, without-place, rec-of, recs, numbers, rows-of-cons, first-recs, row-at-numbers}
+use Rattle.phd_encode.specs.EncodeRecord.{encode-record, cache-after}
+use Rattle.phd_write.specs.Write.{encode-records}
 use Rattle.phd_round_trip.specs.CutRecords.{all-refs, within-cut}
 use Rattle.phd_round_trip.specs.CutRecordLaws.{AllGood}
-use Rattle.phd_round_trip.specs.PrefixReading.{rows-back}
-use Rattle.phd_round_trip.specs.RecordRoundTrip.{name-place, row-back, length-row, name-back}
+use Rattle.phd_round_trip.specs.PrefixReading.{decoded-rows}
+use Rattle.phd_round_trip.specs.RecordRoundTrip.{name-place, decoded-row, length-decoded-row, decoded-name}
 
 -- a row made of a record is that record again, if its references and its name are where the row says
-rec-back : (names refs rows : List ℕ) (place offset : ℕ) (r : Rec) → r .row .place ≡ 0 → take (r .row .count) (drop (r .row .first) refs) ≡ r .refs
+rec-of-numbers : (names refs rows : List ℕ) (place offset : ℕ) (r : Rec) → r .row .place ≡ 0 → take (r .row .count) (drop (r .row .first) refs) ≡ r .refs
     → take (r .row .namelen) (drop place names) ≡ r .name → rec-of names refs (row-at (numbers place offset r ++ rows) 0) ≡ r
-unfolding rec-of row-at numbers bare refs-of name-of
-rec-back names refs rows place offset r z p q = λ j. record { row = row-numbers place offset r rows z j; refs = p j; name = q j }
+unfolding rec-of row-at numbers without-place refs-of name-of
+rec-of-numbers names refs rows place offset r z p q = λ j. record { row = row-at-numbers place offset r rows z j; refs = p j; name = q j }
 
 -- so it is of the row that a record is read as
-row-decodes : (h : Facts) (p before : ℕ) (c : Cache) (names refs rows : List ℕ) (r : Rec) → r .row .place ≡ 0
+rec-of-decoded-row : (h : Header) (p before : ℕ) (c : Cache) (names refs rows : List ℕ) (r : Rec) → r .row .place ≡ 0
     → take (r .row .count) (drop (r .row .first) refs) ≡ r .refs → take (r .row .namelen) (drop (name-place h p before c r) names) ≡ r .name
-    → rec-of names refs (row-at (row-back h p before c r ++ rows) 0) ≡ r
-unfolding row-back
-row-decodes h p before c names refs rows r z = rec-back names refs rows (name-place h p before c r) _ r z
+    → rec-of names refs (row-at (decoded-row h p before c r ++ rows) 0) ≡ r
+unfolding decoded-row
+rec-of-decoded-row h p before c names refs rows r z = rec-of-numbers names refs rows (name-place h p before c r) _ r z
 
 -- one row first, and n after it
 recs-cons : (n : ℕ) (names refs row table : List ℕ) (r : Rec) (rs : List Rec) → length row ≡ row-width → rec-of names refs (row-at (row ++ table) 0) ≡ r
     → first-recs n names refs table ≡ rs → first-recs (suc n) names refs (row ++ table) ≡ r ∷ rs
 unfolding recs
-recs-cons n names refs row table r rs l p q = rw (rows-after row table l, p, q)
+recs-cons n names refs row table r rs l p q = rw (rows-of-cons row table l, p, q)
 
-take-over : (xs ys : List ℕ) (j : ℕ) → length xs ≤ j → take j (xs ++ ys) ≡ xs ++ take (j - length xs) ys
-take-over xs ys j l = let e : length xs + (j - length xs) ≡ j = omega arith in rw e at (take-append-add xs ys (j - length xs))
+take-past : (xs ys : List ℕ) (j : ℕ) → length xs ≤ j → take j (xs ++ ys) ≡ xs ++ take (j - length xs) ys
+take-past xs ys j l = let e : length xs + (j - length xs) ≡ j = omega arith in rw e at (take-append-add xs ys (j - length xs))
 
 -- ---- the rows of a written dump
 
 -- what is asked of records put after one at the address `before`, their references after `refs`
-pub record Put (h : Facts) (before : ℕ) (refs : List ℕ) (rs : List Rec) : Type 0 where
-  pub word : Word (h .word)
+pub record Encodable (h : Header) (before : ℕ) (refs : List ℕ) (rs : List Rec) : Type 0 where
+  pub bits : ValidBits (h .bits)
   pub good : AllGood h (length refs) rs
-  pub fours : before % 4 ≡ 0
-  pub most : before ≤ highest (h .word)
+  pub aligned : before % 4 ≡ 0
+  pub most : before ≤ max-address (h .bits)
 
-put-on : (h : Facts) (before : ℕ) (refs : List ℕ) (r : Rec) (rs : List Rec) → Put h before refs (r ∷ rs) → Put h (r .row .address) (refs ++ r .refs) rs
-put-on h before refs r rs g =
+encodable-step : (h : Header) (before : ℕ) (refs : List ℕ) (r : Rec) (rs : List Rec) → Encodable h before refs (r ∷ rs) → Encodable h (r .row .address) (refs ++ r .refs) rs
+encodable-step h before refs r rs g =
     let e : length (refs ++ r .refs) ≡ length refs + r .row .count = rw (length-append refs (r .refs), g .good .0 .good .count) in
-    record { word = g .word; good = rw e (g .good .1); fours = g .good .0 .good .fours; most = g .good .0 .good .most }
+    record { bits = g .bits; good = rw e (g .good .1); aligned = g .good .0 .good .aligned; most = g .good .0 .good .most }
 
 -- Records put from p on, of which j bytes are there: the rows of those that are whole are those records, whatever stands
 -- behind their rows and references in the tables.
-abbrev Decodes : Facts → ℕ → (more-rows more-refs : List ℕ) → List Rec → Type 0
+abbrev Decodes : Header → ℕ → (more-rows more-refs : List ℕ) → List Rec → Type 0
 Decodes h j more-rows more-refs rs =
-    (before : ℕ) (c : Cache) (p : ℕ) (pre refs : List ℕ) → Put h before refs rs → length pre ≡ p
-    → let kept = within-cut (p + j) h p before c rs in
-    first-recs (length kept) (pre ++ take j (put-records h before c rs)) (refs ++ (all-refs kept ++ more-refs)) (rows-back h p before c kept ++ more-rows) ≡ kept
+    (before : ℕ) (c : Cache) (p : ℕ) (pre refs : List ℕ) → Encodable h before refs rs → length pre ≡ p
+    → let decoded = within-cut (p + j) h p before c rs in
+    first-recs (length decoded) (pre ++ take j (encode-records h before c rs)) (refs ++ (all-refs decoded ++ more-refs)) (decoded-rows h p before c decoded ++ more-rows) ≡ decoded
 
-decodes-on : (h : Facts) (r : Rec) (rs : List Rec) (j : ℕ) (more-rows more-refs : List ℕ) → Decodes h j more-rows more-refs rs
-    → (before : ℕ) (c : Cache) (p : ℕ) (pre refs : List ℕ) → Put h before refs (r ∷ rs) → length pre ≡ p
-    → let bs = put-record h before c r in
-    let kept = r ∷ within-cut (p + length bs + j) h (p + length bs) (r .row .address) (cache-after h before c r) rs in
-    first-recs (length kept) (pre ++ (bs ++ take j (put-records h (r .row .address) (cache-after h before c r) rs))) (refs ++ (all-refs kept ++ more-refs))
-    (rows-back h p before c kept ++ more-rows) ≡ kept
-unfolding rows-back all-refs
-decodes-on h r rs j more-rows more-refs ih before c p pre refs g e =
-    let bs : List ℕ = put-record h before c r in
+decodes-step : (h : Header) (r : Rec) (rs : List Rec) (j : ℕ) (more-rows more-refs : List ℕ) → Decodes h j more-rows more-refs rs
+    → (before : ℕ) (c : Cache) (p : ℕ) (pre refs : List ℕ) → Encodable h before refs (r ∷ rs) → length pre ≡ p
+    → let bs = encode-record h before c r in
+    let decoded = r ∷ within-cut (p + length bs + j) h (p + length bs) (r .row .address) (cache-after h before c r) rs in
+    first-recs (length decoded) (pre ++ (bs ++ take j (encode-records h (r .row .address) (cache-after h before c r) rs))) (refs ++ (all-refs decoded ++ more-refs))
+    (decoded-rows h p before c decoded ++ more-rows) ≡ decoded
+unfolding decoded-rows all-refs
+decodes-step h r rs j more-rows more-refs ih before c p pre refs g e =
+    let bs : List ℕ = encode-record h before c r in
     let c′ : Cache = cache-after h before c r in
-    let s : List ℕ = pre ++ (bs ++ take j (put-records h (r .row .address) c′ rs)) in
-    let kept : List Rec = within-cut (p + length bs + j) h (p + length bs) (r .row .address) c′ rs in
-    let rows : List ℕ = rows-back h (p + length bs) (r .row .address) c′ kept in
-    let links : List ℕ = refs ++ (r .refs ++ (all-refs kept ++ more-refs)) in
+    let s : List ℕ = pre ++ (bs ++ take j (encode-records h (r .row .address) c′ rs)) in
+    let decoded : List Rec = within-cut (p + length bs + j) h (p + length bs) (r .row .address) c′ rs in
+    let rows : List ℕ = decoded-rows h (p + length bs) (r .row .address) c′ decoded in
+    let ref-table : List ℕ = refs ++ (r .refs ++ (all-refs decoded ++ more-refs)) in
     let good = g .good .0 .good in
-    let there : take (r .row .count) (drop (r .row .first) links) ≡ r .refs =
-    rw (drop-at refs (r .refs ++ (all-refs kept ++ more-refs)) (r .row .first) (sym (good .first)), take-at (r .refs) (all-refs kept ++ more-refs) (r .row .count) (good .count)) in
-    let name = name-back h before c (length refs) r p (g .word) good (g .fours) (g .most) pre (take j (put-records h (r .row .address) c′ rs)) e in
+    let there : take (r .row .count) (drop (r .row .first) ref-table) ≡ r .refs =
+    rw (drop-at refs (r .refs ++ (all-refs decoded ++ more-refs)) (r .row .first) (sym (good .first)), take-at (r .refs) (all-refs decoded ++ more-refs) (r .row .count) (good .count)) in
+    let name = decoded-name h before c (length refs) r p (g .bits) good (g .aligned) (g .most) pre (take j (encode-records h (r .row .address) c′ rs)) e in
     let e′ : length (pre ++ bs) ≡ p + length bs = rw (length-append pre bs, e) in
-    let others : first-recs (length kept) s links (rows ++ more-rows) ≡ kept =
-    rw (append-assoc pre bs (take j (put-records h (r .row .address) c′ rs)), append-assoc refs (r .refs) (all-refs kept ++ more-refs)) at
-    (ih (r .row .address) c′ (p + length bs) (pre ++ bs) (refs ++ r .refs) (put-on h before refs r rs g) e′) in
-    let this = row-decodes h p before c s links (rows ++ more-rows) r (g .good .0 .no-place) there name in
-    rw (append-assoc (r .refs) (all-refs kept) more-refs, append-assoc (row-back h p before c r) rows more-rows)
-    (recs-cons (length kept) s links (row-back h p before c r) (rows ++ more-rows) r kept (length-row h p before c r) this others)
+    let others : first-recs (length decoded) s ref-table (rows ++ more-rows) ≡ decoded =
+    rw (append-assoc pre bs (take j (encode-records h (r .row .address) c′ rs)), append-assoc refs (r .refs) (all-refs decoded ++ more-refs)) at
+    (ih (r .row .address) c′ (p + length bs) (pre ++ bs) (refs ++ r .refs) (encodable-step h before refs r rs g) e′) in
+    let this = rec-of-decoded-row h p before c s ref-table (rows ++ more-rows) r (g .good .0 .place-zero) there name in
+    rw (append-assoc (r .refs) (all-refs decoded) more-refs, append-assoc (decoded-row h p before c r) rows more-rows)
+    (recs-cons (length decoded) s ref-table (decoded-row h p before c r) (rows ++ more-rows) r decoded (length-decoded-row h p before c r) this others)
 
-decodes-cons : (h : Facts) (r : Rec) (rs : List Rec) (j : ℕ) (more-rows more-refs : List ℕ) → ((i : ℕ) → Decodes h i more-rows more-refs rs)
+decodes-cons : (h : Header) (r : Rec) (rs : List Rec) (j : ℕ) (more-rows more-refs : List ℕ) → ((i : ℕ) → Decodes h i more-rows more-refs rs)
     → Decodes h j more-rows more-refs (r ∷ rs)
-unfolding within-cut recs put-records
+unfolding within-cut recs encode-records
 decodes-cons h r rs j more-rows more-refs ih before c p pre refs g e =
-    let n : ℕ = length (put-record h before c r) in
+    let n : ℕ = length (encode-record h before c r) in
     elim (decLe n j) [
       | yes q ↦
           let a : p + n ≤ p + j = omega arith in
           let b : p + j ≡ p + n + (j - n) = omega arith in
-          rw (le-leb (p + n) (p + j) a, b, take-over (put-record h before c r) (put-records h (r .row .address) (cache-after h before c r) rs) j q)
-          (decodes-on h r rs (j - n) more-rows more-refs (ih (j - n)) before c p pre refs g e)
+          rw (le-leb (p + n) (p + j) a, b, take-past (encode-record h before c r) (encode-records h (r .row .address) (cache-after h before c r) rs) j q)
+          (decodes-step h r rs (j - n) more-rows more-refs (ih (j - n)) before c p pre refs g e)
       | no q ↦
           let a : p + j < p + n = omega arith in
           rw (lt-leb (p + n) (p + j) a)
     ]
 
-decodes : (h : Facts) (more-rows more-refs : List ℕ) (rs : List Rec) (j : ℕ) → Decodes h j more-rows more-refs rs
+decodes : (h : Header) (more-rows more-refs : List ℕ) (rs : List Rec) (j : ℕ) → Decodes h j more-rows more-refs rs
 unfolding within-cut recs
 decodes h more-rows more-refs [] j before c p pre refs g e = refl
 decodes h more-rows more-refs (r ∷ rs) j before c p pre refs g e =
     decodes-cons h r rs j more-rows more-refs (decodes h more-rows more-refs rs) before c p pre refs g e
 
 -- The records that lie within a cut at m, of those put after `pre`, are what their rows and references are in the cut.
-pub recs-within : (h : Facts) (m before : ℕ) (c : Cache) (pre more-rows more-refs : List ℕ) (rs : List Rec) → Put h before [] rs → length pre ≤ m
-    → let kept = within-cut m h (length pre) before c rs in
-    first-recs (length kept) (take m (pre ++ put-records h before c rs)) (all-refs kept ++ more-refs) (rows-back h (length pre) before c kept ++ more-rows) ≡ kept
-recs-within h m before c pre more-rows more-refs rs g l =
+pub decoded-cut-recs : (h : Header) (m before : ℕ) (c : Cache) (pre more-rows more-refs : List ℕ) (rs : List Rec) → Encodable h before [] rs → length pre ≤ m
+    → let decoded = within-cut m h (length pre) before c rs in
+    first-recs (length decoded) (take m (pre ++ encode-records h before c rs)) (all-refs decoded ++ more-refs) (decoded-rows h (length pre) before c decoded ++ more-rows) ≡ decoded
+decoded-cut-recs h m before c pre more-rows more-refs rs g l =
     let e : length pre + (m - length pre) ≡ m = omega arith in
-    rw (take-over pre (put-records h before c rs) m l)
+    rw (take-past pre (encode-records h before c rs) m l)
     (rw e at (decodes h more-rows more-refs rs (m - length pre) before c (length pre) pre [] g refl))

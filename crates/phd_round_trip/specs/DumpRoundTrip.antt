@@ -12,136 +12,136 @@ use native.Mathlib.Decide.{decLe}
 use borrow.Author.Tests.{le-leb, lt-leb}
 use Rattle.decode.specs.Numbers.{pick}
 use Rattle.decode.specs.Layout.{whole, run, reply-of}
-use Rattle.decode.specs.CutLaws.{fits, stops-short}
+use Rattle.decode.specs.CutLaws.{run-prefix, prefix-cut}
 use Rattle.decode.specs.declared.Stop.the-variants.{Cut}
 use Rattle.table.specs.Table.{row-width, row-count}
-use Rattle.phd.specs.Phd.{limit, empty, header, no-facts, Result, phd, capacity, first, reading}
-use Rattle.phd.specs.Shapes.{Word}
-use Rattle.phd.specs.declared.Facts.{Facts}
-use Rattle.reader.specs.Reader.{first as first-of, nothing as nothing-of}
-use Rattle.reader.specs.Steps.{reading-opens, reading-stops}
+use Rattle.phd.specs.Phd.{limit, empty-cache, header, empty-header, Result, phd, capacity, initial-state, read-result}
+use Rattle.phd.specs.Shapes.{ValidBits}
+use Rattle.phd.specs.declared.Header.{Header}
+use Rattle.reader.specs.Reader.{initial-state as initial-state-of, no-records as no-records-of}
+use Rattle.reader.specs.Steps.{read-header-whole, read-header-stops}
 use Rattle.table.specs.Rows.{Rec, recs, first-recs}
 use Rattle.phd_check.specs.GoodRows.{good-vm}
-use Rattle.phd_write.specs.Write.{put-header, put-records, put-dump}
-use Rattle.phd_round_trip.specs.CutRecords.{all-refs, within-cut, kept, stop-at}
-use Rattle.phd_round_trip.specs.CutRecordLaws.{AllGood, within-none, records-long, records-same, stop-same, within-same, all-same}
-use Rattle.phd_round_trip.specs.HeaderRoundTrip.{written-facts, header-back}
-use Rattle.phd_round_trip.specs.PrefixReading.{rows-back, length-rows, Coming, body}
-use Rattle.phd_round_trip.specs.DecodedRows.{recs-within}
+use Rattle.phd_write.specs.Write.{encode-header, encode-records, encode-dump}
+use Rattle.phd_round_trip.specs.CutRecords.{all-refs, within-cut, cut-recs, stop-at}
+use Rattle.phd_round_trip.specs.CutRecordLaws.{AllGood, within-cut-none, records-lt-bytes, encode-records-same, stop-in-same, within-cut-same, all-good-same}
+use Rattle.phd_round_trip.specs.HeaderRoundTrip.{written-header, decode-encode-header}
+use Rattle.phd_round_trip.specs.PrefixReading.{decoded-rows, length-decoded-rows, Remaining, reads-records}
+use Rattle.phd_round_trip.specs.DecodedRows.{decoded-cut-recs}
 
 -- a header and records that may be written, as a dump within the size limit
-pub record GoodDump (names : List ℕ) (h : Facts) (rs : List Rec) : Type 0 where
-  pub word : Word (h .word)
+pub record GoodDump (names : List ℕ) (h : Header) (rs : List Rec) : Type 0 where
+  pub bits : ValidBits (h .bits)
   pub vm : good-vm names (h .vm) ≡ true
   pub records : AllGood h 0 rs
-  pub size : length (put-dump names h rs) ≤ limit
+  pub size : length (encode-dump names h rs) ≤ limit
 
 -- what the reading of the first m bytes is
-pub record ReadsCut (names : List ℕ) (h : Facts) (rs : List Rec) (m : ℕ) (rd : Result) : Type 0 where
-  pub rows : rd .rows ≡ rows-back (written-facts h) (length (put-header names h)) 0 empty (kept names h rs m)
-  pub refs : rd .refs ≡ all-refs (kept names h rs m)
-  pub reply : rd .reply ≡ pick (leb (length (put-dump names h rs)) m) 0 1
+pub record ReadsCut (names : List ℕ) (h : Header) (rs : List Rec) (m : ℕ) (rd : Result) : Type 0 where
+  pub rows : rd .rows ≡ decoded-rows (written-header h) (length (encode-header names h)) 0 empty-cache (cut-recs names h rs m)
+  pub refs : rd .refs ≡ all-refs (cut-recs names h rs m)
+  pub reply : rd .reply ≡ pick (leb (length (encode-dump names h rs)) m) 0 1
   pub place : rd .place ≡ stop-at names h rs m
-  pub facts : length (put-header names h) ≤ m → rd .facts ≡ written-facts h
-  pub early : m < length (put-header names h) → rd .facts ≡ no-facts
+  pub header : length (encode-header names h) ≤ m → rd .header ≡ written-header h
+  pub no-header : m < length (encode-header names h) → rd .header ≡ empty-header
 
-module _ (names : List ℕ) (h : Facts) (rs : List Rec) (m R F : ℕ) (g : GoodDump names h rs)
+module _ (names : List ℕ) (h : Header) (rs : List Rec) (m R F : ℕ) (g : GoodDump names h rs)
     (p : row-width * length rs ≤ R) (q : length (all-refs rs) ≤ F) where
   -- the header's bytes, its facts as they are read, and the dump
-  abbrev hd : List ℕ
-  hd = put-header names h
+  abbrev header-bytes : List ℕ
+  header-bytes = encode-header names h
 
-  abbrev k : Facts
-  k = written-facts h
+  abbrev read-header : Header
+  read-header = written-header h
 
   abbrev dump : List ℕ
-  dump = put-dump names h rs
+  dump = encode-dump names h rs
 
-  abbrev the-rows : List ℕ
-  the-rows = rows-back k (length hd) 0 empty (kept names h rs m)
+  abbrev decoded-cut-rows : List ℕ
+  decoded-cut-rows = decoded-rows read-header (length header-bytes) 0 empty-cache (cut-recs names h rs m)
 
   -- the bytes, and the records within the cut, by the facts that are read
-  pub dump-is : dump ≡ hd ++ put-records k 0 empty rs
-  unfolding put-dump
-  dump-is = rw (records-same h k refl 0 empty rs)
+  pub dump-is : dump ≡ header-bytes ++ encode-records read-header 0 empty-cache rs
+  unfolding encode-dump
+  dump-is = rw (encode-records-same h read-header refl 0 empty-cache rs)
 
-  kept-is : kept names h rs m ≡ within-cut m k (length hd) 0 empty rs
-  kept-is = within-same h k refl m (length hd) 0 empty rs
+  cut-recs-same : cut-recs names h rs m ≡ within-cut m read-header (length header-bytes) 0 empty-cache rs
+  cut-recs-same = within-cut-same h read-header refl m (length header-bytes) 0 empty-cache rs
 
-  total : length dump ≡ length hd + length (put-records k 0 empty rs)
-  total = rw dump-is (length-append hd (put-records k 0 empty rs))
+  total : length dump ≡ length header-bytes + length (encode-records read-header 0 empty-cache rs)
+  total = rw dump-is (length-append header-bytes (encode-records read-header 0 empty-cache rs))
 
-  pub full : run header dump 0 ≡ whole k (length hd)
-  unfolding put-dump
-  full = rw zero-add at (header-back names h (g .word) (g .vm) .reads [] (put-records h 0 empty rs) refl)
+  pub header-decoded : run header dump 0 ≡ whole read-header (length header-bytes)
+  unfolding encode-dump
+  header-decoded = rw zero-add at (decode-encode-header names h (g .bits) (g .vm) .reads [] (encode-records h 0 empty-cache rs) refl)
 
   short : length (take m dump) ≤ limit
   short = let s = g .size in simp length-take (omega arith)
 
-  pub good : AllGood k 0 rs
-  good = all-same h k refl refl 0 rs (g .records)
+  pub dump-records-good : AllGood read-header 0 rs
+  dump-records-good = all-good-same h read-header refl refl 0 rs (g .records)
 
-  coming : Coming k R F (suc limit) (first (length hd)) rs
-  unfolding first-of
-  coming =
+  remaining : Remaining read-header R F (suc limit) (initial-state (length header-bytes)) rs
+  unfolding initial-state-of
+  remaining =
       let s = g .size in
       let t = total in
-      let b = records-long k 0 empty rs in
-      record { word = g .word; good = good; fours = refl; most = omega arith; count = omega arith; room = omega arith; ref-room = omega arith }
+      let b = records-lt-bytes read-header 0 empty-cache rs in
+      record { bits = g .bits; good = dump-records-good; aligned = refl; most = omega arith; count = omega arith; capacity = omega arith; ref-capacity = omega arith }
 
-  after-header : length hd ≤ m → ReadsCut names h rs m (reading (take m dump) R F)
-  unfolding first-of
+  after-header : length header-bytes ≤ m → ReadsCut names h rs m (read-result (take m dump) R F)
+  unfolding initial-state-of
   after-header l =
-      let b = body k R F m (suc limit) rs (first (length hd)) hd refl l coming in
-      rw (reading-opens phd (take m dump) (capacity R F) k (length hd) short (fits header dump 0 m k (length hd) full l), dump-is)
-      (record { rows = rw kept-is (b .rows); refs = rw kept-is (b .refs); reply = rw total (b .reply); place = rw (le-leb (length hd) m l, stop-same h k refl m (length hd) 0 empty rs) (b .place); facts = λ _. b .facts; early = λ j. absurd (omega arith) })
+      let b = reads-records read-header R F m (suc limit) rs (initial-state (length header-bytes)) header-bytes refl l remaining in
+      rw (read-header-whole phd (take m dump) (capacity R F) read-header (length header-bytes) short (run-prefix header dump 0 m read-header (length header-bytes) header-decoded l), dump-is)
+      (record { rows = rw cut-recs-same (b .rows); refs = rw cut-recs-same (b .refs); reply = rw total (b .reply); place = rw (le-leb (length header-bytes) m l, stop-in-same h read-header refl m (length header-bytes) 0 empty-cache rs) (b .place); header = λ _. b .header; no-header = λ j. absurd (omega arith) })
 
-  in-header : m < length hd → ReadsCut names h rs m (reading (take m dump) R F)
-  unfolding rows-back all-refs nothing-of reply-of
+  in-header : m < length header-bytes → ReadsCut names h rs m (read-result (take m dump) R F)
+  unfolding decoded-rows all-refs no-records-of reply-of
   in-header l =
-      let c = stops-short header dump 0 m k (length hd) full (omega arith) l in
-      let e : kept names h rs m ≡ [] = within-none m h (length hd) 0 empty rs l in
+      let c = prefix-cut header dump 0 m read-header (length header-bytes) header-decoded (omega arith) l in
+      let e : cut-recs names h rs m ≡ [] = within-cut-none m h (length header-bytes) 0 empty-cache rs l in
       let t = total in
-      rw (reading-stops phd (take m dump) (capacity R F) (Cut (c .lack)) short (c .is))
+      rw (read-header-stops phd (take m dump) (capacity R F) (Cut (c .deficit)) short (c .is))
       (record {
         rows = rw e;
         refs = rw e;
         reply = rw (lt-leb (length dump) m (omega arith));
-        place = rw (lt-leb (length hd) m l);
-        facts = λ j. absurd (omega arith);
-        early = λ _. refl;
+        place = rw (lt-leb (length header-bytes) m l);
+        header = λ j. absurd (omega arith);
+        no-header = λ _. refl;
       })
 
   -- Any cut of a written dump is read so.
-  pub reads-cut : ReadsCut names h rs m (reading (take m dump) R F)
-  reads-cut = elim (decLe (length hd) m) [ yes l ↦ after-header l | no l ↦ in-header (omega arith) ]
+  pub reads-cut : ReadsCut names h rs m (read-result (take m dump) R F)
+  reads-cut = elim (decLe (length header-bytes) m) [ yes l ↦ after-header l | no l ↦ in-header (omega arith) ]
 
   -- It counts as many rows as records lie within the cut.
-  pub kept-count : row-count (reading (take m dump) R F .rows) ≡ length (kept names h rs m)
+  pub cut-recs-count : row-count (read-result (take m dump) R F .rows) ≡ length (cut-recs names h rs m)
   unfolding row-count
-  kept-count =
-      let t = length-rows k (length hd) 0 empty (kept names h rs m) in
+  cut-recs-count =
+      let t = length-decoded-rows read-header (length header-bytes) 0 empty-cache (cut-recs names h rs m) in
       rw (reads-cut .rows, t) (omega arith)
 
   -- the tables hold those records, whatever stands behind what was stored
   abbrev Holds : (more-rows more-refs : List ℕ) → Type 0
   Holds more-rows more-refs =
-      first-recs (length (kept names h rs m)) (take m dump) (all-refs (kept names h rs m) ++ more-refs) (the-rows ++ more-rows) ≡ kept names h rs m
+      first-recs (length (cut-recs names h rs m)) (take m dump) (all-refs (cut-recs names h rs m) ++ more-refs) (decoded-cut-rows ++ more-rows) ≡ cut-recs names h rs m
 
-  holds-after : (more-rows more-refs : List ℕ) → length hd ≤ m → Holds more-rows more-refs
+  holds-after : (more-rows more-refs : List ℕ) → length header-bytes ≤ m → Holds more-rows more-refs
   holds-after more-rows more-refs l =
-      rw (kept-is, dump-is)
-      (recs-within k m 0 empty hd more-rows more-refs rs
-      (record { word = g .word; good = good; fours = refl; most = omega arith }) l)
+      rw (cut-recs-same, dump-is)
+      (decoded-cut-recs read-header m 0 empty-cache header-bytes more-rows more-refs rs
+      (record { bits = g .bits; good = dump-records-good; aligned = refl; most = omega arith }) l)
 
-  holds-in : (more-rows more-refs : List ℕ) → m < length hd → Holds more-rows more-refs
+  holds-in : (more-rows more-refs : List ℕ) → m < length header-bytes → Holds more-rows more-refs
   unfolding recs
-  holds-in more-rows more-refs l = rw (within-none m h (length hd) 0 empty rs l)
+  holds-in more-rows more-refs l = rw (within-cut-none m h (length header-bytes) 0 empty-cache rs l)
 
   -- Its tables hold the records that lie within the cut, whatever stands behind what was stored.
-  pub kept-records : (more-rows more-refs : List ℕ)
-      → first-recs (row-count (reading (take m dump) R F .rows)) (take m dump) (reading (take m dump) R F .refs ++ more-refs) (reading (take m dump) R F .rows ++ more-rows)
-      ≡ kept names h rs m
-  kept-records more-rows more-refs =
-      rw (kept-count, reads-cut .rows, reads-cut .refs)
-      (elim (decLe (length hd) m) [ yes l ↦ holds-after more-rows more-refs l | no l ↦ holds-in more-rows more-refs (omega arith) ])
+  pub cut-recs-decoded : (more-rows more-refs : List ℕ)
+      → first-recs (row-count (read-result (take m dump) R F .rows)) (take m dump) (read-result (take m dump) R F .refs ++ more-refs) (read-result (take m dump) R F .rows ++ more-rows)
+      ≡ cut-recs names h rs m
+  cut-recs-decoded more-rows more-refs =
+      rw (cut-recs-count, reads-cut .rows, reads-cut .refs)
+      (elim (decLe (length header-bytes) m) [ yes l ↦ holds-after more-rows more-refs l | no l ↦ holds-in more-rows more-refs (omega arith) ])

@@ -4,8 +4,8 @@
 // in specs/InMemory.antt: so a call of `write` or `read` gives these, and the theorems hold of calls.
 ghost use Rattle.phd_read.specs.ReadContract.{AfterRead};
 ghost use Rattle.phd_write.specs.WriteTerms.{AfterWrite};
-use phd_check::Header;
-use phd_read::Reading;
+use phd::Header;
+use phd_read::ReadAnswer;
 use table::Answer;
 
 // Calls `phd_write::write`.
@@ -22,7 +22,7 @@ pub fn call_write(
 }
 
 // Calls `phd_read::read`.
-pub fn call_read(dump: &[u8], rows: &mut [u64], refs: &mut [u64]) -> Reading
+pub fn call_read(dump: &[u8], rows: &mut [u64], refs: &mut [u64]) -> ReadAnswer
     ensures { λ a. ⌜ AfterRead (now (dump .entry)) (now (rows .entry)) (now (refs .entry)) a (now (rows .exit)) (now (refs .exit)) ⌝ }
 {
     phd_read::read(dump, rows, refs)

@@ -4,33 +4,33 @@ use mathlib.Core.Path.{_≡_}
 use Prim.Native.Nat.{ℕ, _+_, _-_, _≤_}
 use mathlib.Core.List.{List}
 use Rattle.decode.specs.Layout.{whole, run}
-use Rattle.table.specs.Rows.{Rec, row-at, name-of, bare}
-use Rattle.phd.specs.Phd.{Before, item, entry, Result, phd}
-use Rattle.phd.specs.declared.Facts.{Facts}
+use Rattle.table.specs.Rows.{Rec, row-at, name-of, without-place}
+use Rattle.phd.specs.Phd.{RecordContext, item, entry, Result, phd}
+use Rattle.phd.specs.declared.Header.{Header}
 use Rattle.phd.specs.declared.Span.{Span}
 use Rattle.reader.specs.Reader.{Capacity}
-use Rattle.reader.specs.RowOrigins.{CameFrom}
+use Rattle.reader.specs.RowOrigins.{RowOrigin}
 
 -- The record of one row and its references, read from the bytes s. Two of them are the same, in 01's sense, exactly when they are equal.
 unfoldable pub read-rec : (s row refs : List ℕ) → Rec
-read-rec s row refs = record { row = bare (row-at row 0); refs = refs; name = name-of s (row-at row 0) }
+read-rec s row refs = record { row = without-place (row-at row 0); refs = refs; name = name-of s (row-at row 0) }
 
 -- The bytes of s from `at` up to `end` are read as one record the same as r: under the header h, after a record and with a cache as
 -- `before` says, and with any number of references before it.
-pub record ReadAs (h : Facts) (before : Before) (r : Rec) (s : List ℕ) (at end : ℕ) : Type 0 where
+pub record ReadAs (h : Header) (before : RecordContext) (r : Rec) (s : List ℕ) (at end : ℕ) : Type 0 where
   pub index : ℕ
   pub row : List ℕ
   pub refs : List ℕ
   pub span : Span
-  pub after : Before
+  pub after : RecordContext
   pub reads : run (entry h (before .address) (before .cache) index) s at ≡ whole (item row refs span after) end
   pub same : read-rec s row refs ≡ r
 
 -- The record number i of a dump, as its reading rd finds it, is the shortest of those that are read as r.
 pub record ShortestAt (dump : List ℕ) (A : Capacity) (rd : Result) (r : Rec) (i : ℕ) : Type 0 where
   -- where the reading found it: the header, the previous address and cache, its place and its end
-  pub found : CameFrom phd (rd .facts) dump A (rd .rows) (rd .refs) i
+  pub found : RowOrigin phd (rd .header) dump A (rd .rows) (rd .refs) i
   -- its bytes are read as r
-  pub is-read : ReadAs (rd .facts) (found .before .context) r dump (found .before .at) (found .end)
+  pub is-read : ReadAs (rd .header) (found .before .context) r dump (found .before .at) (found .end)
   -- with the same header, previous address and cache, whatever bytes are read as r are at least as many
-  pub least : (s : List ℕ) (at end : ℕ) → ReadAs (rd .facts) (found .before .context) r s at end → at + (found .end - found .before .at) ≤ end
+  pub least : (s : List ℕ) (at end : ℕ) → ReadAs (rd .header) (found .before .context) r s at end → at + (found .end - found .before .at) ≤ end

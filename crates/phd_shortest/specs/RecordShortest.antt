@@ -5,46 +5,46 @@ use Prim.Native.Nat.{ℕ, _+_, _%_, _≤_}
 use native.Mathlib.Omega.{arith}
 use mathlib.Core.List.{List, [], _++_}
 use lib.ListN.{length, take, drop}
-use Rattle.table.specs.Rows.{Rec, row-at, name-of, numbers, row-numbers}
-use Rattle.phd.specs.Phd.{highest, Before}
-use Rattle.phd.specs.Shapes.{Word}
-use Rattle.phd.specs.declared.Facts.{Facts}
-use Rattle.phd_check.specs.WellFormed.{Good}
-use Rattle.phd_encode.specs.EncodeRecord.{plan-of, put-record}
-use Rattle.phd_encode.specs.EncodedLengths.{length-planned}
-use Rattle.phd_read.specs.RecordLayout.{LaidOut, laid-out}
-use Rattle.phd_round_trip.specs.RecordRoundTrip.{name-place, row-back, name-back}
+use Rattle.table.specs.Rows.{Rec, row-at, name-of, numbers, row-at-numbers}
+use Rattle.phd.specs.Phd.{max-address, RecordContext}
+use Rattle.phd.specs.Shapes.{ValidBits}
+use Rattle.phd.specs.declared.Header.{Header}
+use Rattle.phd_check.specs.WellFormed.{GoodRec}
+use Rattle.phd_encode.specs.EncodeRecord.{plan-record, encode-record}
+use Rattle.phd_encode.specs.EncodedLengths.{length-encode-planned}
+use Rattle.phd_read.specs.RecordLayout.{HasLayout, entry-has-layout}
+use Rattle.phd_round_trip.specs.RecordRoundTrip.{name-place, decoded-row, decoded-name}
 use Rattle.phd_shortest.specs.ReadAs.{read-rec, ReadAs}
-use Rattle.phd_shortest.specs.MinimalPlan.{plan-least}
+use Rattle.phd_shortest.specs.MinimalPlan.{plan-size-least}
 
 -- numbers whose name is at a place are those of the record
-same-numbers : (s : List ℕ) (place offset : ℕ) (r : Rec) → r .row .place ≡ 0 → take (r .row .namelen) (drop place s) ≡ r .name
+read-rec-numbers : (s : List ℕ) (place offset : ℕ) (r : Rec) → r .row .place ≡ 0 → take (r .row .namelen) (drop place s) ≡ r .name
     → read-rec s (numbers place offset r) (r .refs) ≡ r
 unfolding read-rec row-at numbers name-of
-same-numbers s place offset r z q = λ j. record { row = row-numbers place offset r [] z j; refs = r .refs; name = q j }
+read-rec-numbers s place offset r z q = λ j. record { row = row-at-numbers place offset r [] z j; refs = r .refs; name = q j }
 
 -- A good record r, after a record and with a cache as `before` says.
-module _ (h : Facts) (before : Before) (index : ℕ) (r : Rec) (w : Word (h .word)) (g : Good h index r) (z : r .row .place ≡ 0)
-    (bf : before .address % 4 ≡ 0) (bl : before .address ≤ highest (h .word))
+module _ (h : Header) (before : RecordContext) (index : ℕ) (r : Rec) (w : ValidBits (h .bits)) (g : GoodRec h index r) (z : r .row .place ≡ 0)
+    (bf : before .address % 4 ≡ 0) (bl : before .address ≤ max-address (h .bits))
   where
     abbrev bs : List ℕ
-    bs = put-record h (before .address) (before .cache) r
+    bs = encode-record h (before .address) (before .cache) r
 
     -- the row that it is read as, wherever it is written, is the record
-    pub same-back : (pre post : List ℕ) (p : ℕ) → length pre ≡ p
-        → read-rec (pre ++ (bs ++ post)) (row-back h p (before .address) (before .cache) r) (r .refs) ≡ r
-    unfolding row-back
-    same-back pre post p e =
-        same-numbers _ (name-place h p (before .address) (before .cache) r) p r z
-        (name-back h (before .address) (before .cache) index r p w g bf bl pre post e)
+    pub read-rec-encoded : (pre post : List ℕ) (p : ℕ) → length pre ≡ p
+        → read-rec (pre ++ (bs ++ post)) (decoded-row h p (before .address) (before .cache) r) (r .refs) ≡ r
+    unfolding decoded-row
+    read-rec-encoded pre post p e =
+        read-rec-numbers _ (name-place h p (before .address) (before .cache) r) p r z
+        (decoded-name h (before .address) (before .cache) index r p w g bf bl pre post e)
 
     -- No run of bytes that is read as it is shorter.
-    pub bytes-least : (s : List ℕ) (at end : ℕ) → ReadAs h before r s at end → at + length bs ≤ end
-    unfolding put-record read-rec
-    bytes-least s at end x =
-        let f = laid-out h (before .address) (before .cache) (x .index) s at (x .row) (x .refs) (x .span) (x .after) end (x .reads) in
-        let y : LaidOut h (before .address) (before .cache) (r .row) (r .refs) (f .0) =
-        subst (λ (q : Rec). LaidOut h (before .address) (before .cache) (q .row) (q .refs) (f .0)) (x .same) (f .2) in
-        let l = plan-least h (before .cache) (before .address) index r w g bf bl (f .0) y in
-        let n = length-planned (before .address) (plan-of h (before .address) (before .cache) r) (r .row) (r .refs) (r .name) (g .count) (g .namelen) in
+    pub encoded-shortest : (s : List ℕ) (at end : ℕ) → ReadAs h before r s at end → at + length bs ≤ end
+    unfolding encode-record read-rec
+    encoded-shortest s at end x =
+        let f = entry-has-layout h (before .address) (before .cache) (x .index) s at (x .row) (x .refs) (x .span) (x .after) end (x .reads) in
+        let y : HasLayout h (before .address) (before .cache) (r .row) (r .refs) (f .0) =
+        subst (λ (q : Rec). HasLayout h (before .address) (before .cache) (q .row) (q .refs) (f .0)) (x .same) (f .2) in
+        let l = plan-size-least h (before .cache) (before .address) index r w g bf bl (f .0) y in
+        let n = length-encode-planned (before .address) (plan-record h (before .address) (before .cache) r) (r .row) (r .refs) (r .name) (g .count) (g .namelen) in
         omega (arith, f .1, l, n)

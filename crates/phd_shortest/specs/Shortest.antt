@@ -11,53 +11,53 @@ use Rattle.table.specs.Table.{row-width, row-count}
 use Rattle.table.specs.Rows.{Rec, rec-of, recs, nth}
 use Rattle.table.specs.CheckOrder.{done}
 use Rattle.table.specs.declared.Row.{Row}
-use Rattle.phd.specs.Phd.{Before, item, State, Result, phd, capacity, first, reading}
-use Rattle.phd.specs.declared.Facts.{Facts}
+use Rattle.phd.specs.Phd.{RecordContext, item, State, Result, phd, capacity, initial-state, read-result}
+use Rattle.phd.specs.declared.Header.{Header}
 use Rattle.phd.specs.declared.Span.{Span}
-use Rattle.reader.specs.Reader.{found, first as first-of}
-use Rattle.reader.specs.RowOrigins.{CameFrom}
-use Rattle.phd_read.specs.ReadTheorems.{came-from, one-each}
-use Rattle.phd_write.specs.Write.{put-header, write-rows}
+use Rattle.reader.specs.Reader.{next-item, initial-state as initial-state-of}
+use Rattle.reader.specs.RowOrigins.{RowOrigin}
+use Rattle.phd_read.specs.ReadTheorems.{row-origins, row-record-number}
+use Rattle.phd_write.specs.Write.{encode-header, write-rows}
 use Rattle.phd_write.specs.WriteTerms.{dump-of}
-use Rattle.phd_write.specs.WriteOutcomes.{said-0}
+use Rattle.phd_write.specs.WriteOutcomes.{reply-0-means}
 use Rattle.phd_round_trip.specs.CutRecords.{all-refs}
 use Rattle.phd_round_trip.specs.RoundTripTheorems.{round-trip}
-use Rattle.phd_round_trip.specs.HeaderRoundTrip.{written-facts}
-use Rattle.phd_round_trip.specs.DumpRoundTrip.{GoodDump, dump-is, full, good}
-use Rattle.phd_round_trip.specs.WrittenIsGood.{good-dump, rows-enough}
-use Rattle.phd_round_trip.specs.RecordRoundTrip.{row-back, refs-place}
+use Rattle.phd_round_trip.specs.HeaderRoundTrip.{written-header}
+use Rattle.phd_round_trip.specs.DumpRoundTrip.{GoodDump, dump-is, header-decoded, dump-records-good}
+use Rattle.phd_round_trip.specs.WrittenIsGood.{written-is-good, rows-capacity}
+use Rattle.phd_round_trip.specs.RecordRoundTrip.{decoded-row, refs-place}
 use Rattle.phd_shortest.specs.ReadAs.{ReadAs, ShortestAt}
-use Rattle.phd_shortest.specs.RecordShortest.{same-back, bytes-least}
-use Rattle.phd_shortest.specs.RemainingRecords.{Ahead, bytes, after, following, split, finds, reached, some-left, nth-rec}
+use Rattle.phd_shortest.specs.RecordShortest.{read-rec-encoded, encoded-shortest}
+use Rattle.phd_shortest.specs.RemainingRecords.{RecordsRemain, encoded, context-after, bytes-after, dump-split, finds-record, remain-after, record-remains, nth-rec}
 
 -- ---- a record that a reading found where the written record r comes next
 
-module _ (h : Facts) (s : List ℕ) (st : State) (r : Rec) (rs : List Rec) (a : Ahead h s st (r ∷ rs))
-    (row refs : List ℕ) (sp : Span) (k : Before) (e : ℕ) (g : found phd h s st ≡ whole (item row refs sp k) e) where
+module _ (h : Header) (s : List ℕ) (st : State) (r : Rec) (rs : List Rec) (a : RecordsRemain h s st (r ∷ rs))
+    (row refs : List ℕ) (sp : Span) (k : RecordContext) (e : ℕ) (g : next-item phd h s st ≡ whole (item row refs sp k) e) where
   found-is : whole (item row refs sp k) e
-      ≡ whole (item (row-back h (st .at) (st .context .address) (st .context .cache) r) (r .refs) (refs-place h (st .at) (st .context .address) (st .context .cache) r) (after h s st r rs a)) (st .at + length (bytes h s st r rs a))
-  found-is = sym g ∙ finds h s st r rs a
+      ≡ whole (item (decoded-row h (st .at) (st .context .address) (st .context .cache) r) (r .refs) (refs-place h (st .at) (st .context .address) (st .context .cache) r) (context-after h s st r rs a)) (st .at + length (encoded h s st r rs a))
+  found-is = sym g ∙ finds-record h s st r rs a
 
   reads-at : ReadAs h (st .context) r s (st .at) e
   reads-at =
       let f = found-is in
-      let x : row ≡ row-back h (st .at) (st .context .address) (st .context .cache) r = cc in
+      let x : row ≡ decoded-row h (st .at) (st .context .address) (st .context .cache) r = cc in
       let y : refs ≡ r .refs = cc in
       let t = a .good .0 in
-      let b = same-back h (st .context) (length (st .refs)) r (a .word) (t .good) (t .no-place) (a .fours) (a .most) (a .pre) (following h s st r rs a) (st .at) (a .place) in
-      record { index = length (st .refs); row = row; refs = refs; span = sp; after = k; reads = g; same = rw (x, y, split h s st r rs a) b }
+      let b = read-rec-encoded h (st .context) (length (st .refs)) r (a .bits) (t .good) (t .place-zero) (a .aligned) (a .most) (a .pre) (bytes-after h s st r rs a) (st .at) (a .place) in
+      record { index = length (st .refs); row = row; refs = refs; span = sp; after = k; reads = g; same = rw (x, y, dump-split h s st r rs a) b }
 
   least-at : (s′ : List ℕ) (at end : ℕ) → ReadAs h (st .context) r s′ at end → at + (e - st .at) ≤ end
   least-at s′ at end x =
       let f = found-is in
-      let n : e ≡ st .at + length (bytes h s st r rs a) = cc in
+      let n : e ≡ st .at + length (encoded h s st r rs a) = cc in
       let t = a .good .0 in
-      let l = bytes-least h (st .context) (length (st .refs)) r (a .word) (t .good) (t .no-place) (a .fours) (a .most) s′ at end x in
+      let l = encoded-shortest h (st .context) (length (st .refs)) r (a .bits) (t .good) (t .place-zero) (a .aligned) (a .most) s′ at end x in
       omega arith
 
 -- ---- a dump that was written
 
-module _ (h : Facts) (names refs : List ℕ) (rows : List Row) (room R F : ℕ) (z : write-rows h names refs rows room .answer .reply ≡ 0)
+module _ (h : Header) (names refs : List ℕ) (rows : List Row) (out-capacity R F : ℕ) (z : write-rows h names refs rows out-capacity .answer .reply ≡ 0)
     (p : length rows * row-width ≤ R) (q : length (all-refs (recs names refs rows)) ≤ F) where
   abbrev rs : List Rec
   rs = recs names refs rows
@@ -66,61 +66,61 @@ module _ (h : Facts) (names refs : List ℕ) (rows : List Row) (room R F : ℕ) 
   dump = dump-of h names refs rows
 
   abbrev rd : Result
-  rd = reading dump R F
+  rd = read-result dump R F
 
   g : GoodDump names h rs
-  g = good-dump h names refs rows room z
+  g = written-is-good h names refs rows out-capacity z
 
-  enough : row-width * length rs ≤ R
-  enough = rows-enough names refs rows R p
+  rows-fit : row-width * length rs ≤ R
+  rows-fit = rows-capacity names refs rows R p
 
   -- at the first record all are still to come, by the header facts as they are read
-  begins : Ahead (written-facts h) dump (first (length (put-header names h))) rs
-  unfolding first-of
-  begins = record {
-    word = g .word;
-    pre = put-header names h;
+  remain-start : RecordsRemain (written-header h) dump (initial-state (length (encode-header names h))) rs
+  unfolding initial-state-of
+  remain-start = record {
+    bits = g .bits;
+    pre = encode-header names h;
     place = refl;
-    dump = dump-is names h rs 0 R F g enough q;
-    good = good names h rs 0 R F g enough q;
-    fours = refl;
+    dump = dump-is names h rs 0 R F g rows-fit q;
+    good = dump-records-good names h rs 0 R F g rows-fit q;
+    aligned = refl;
     most = omega arith;
   }
 
-  module _ (i : ℕ) (x : CameFrom phd (rd .facts) dump (capacity R F) (rd .rows) (rd .refs) i) (c : x .count ≡ i) where
+  module _ (i : ℕ) (x : RowOrigin phd (rd .header) dump (capacity R F) (rd .rows) (rd .refs) i) (c : x .count ≡ i) where
     -- those are the reading's own header facts, and the place where its records begin
-    begins-at : Ahead (rd .facts) dump (first (x .start)) rs
-    begins-at =
-        let u : whole (rd .facts) (x .start) ≡ whole (written-facts h) (length (put-header names h)) = sym (x .opens) ∙ full names h rs 0 R F g enough q in
-        let f : rd .facts ≡ written-facts h = cc in
-        let n : x .start ≡ length (put-header names h) = cc in
-        rw (f, n) begins
+    remain-at-start : RecordsRemain (rd .header) dump (initial-state (x .start)) rs
+    remain-at-start =
+        let u : whole (rd .header) (x .start) ≡ whole (written-header h) (length (encode-header names h)) = sym (x .header-whole) ∙ header-decoded names h rs 0 R F g rows-fit q in
+        let f : rd .header ≡ written-header h = cc in
+        let n : x .start ≡ length (encode-header names h) = cc in
+        rw (f, n) remain-start
 
-    ahead : Ahead (rd .facts) dump (x .before) (drop i rs)
-    ahead = reached (rd .facts) dump R F (x .start) rs begins-at i (x .before) (rw c at (x .reached))
+    remain-at-record : RecordsRemain (rd .header) dump (x .before) (drop i rs)
+    remain-at-record = remain-after (rd .header) dump R F (x .start) rs remain-at-start i (x .before) (rw c at (x .reached))
 
     found-shortest : ShortestAt dump (capacity R F) rd (rec-of names refs (nth rows i)) i
     found-shortest =
-        let o = some-left (rd .facts) dump (x .before) (drop i rs) ahead _ (x .list) (x .note) (x .context) (x .end) (x .gives) in
-        let a : Ahead (rd .facts) dump (x .before) (o .0 ∷ o .1) = rw (o .2) at ahead in
+        let o = record-remains (rd .header) dump (x .before) (drop i rs) remain-at-record _ (x .list) (x .note) (x .context) (x .end) (x .item-is) in
+        let a : RecordsRemain (rd .header) dump (x .before) (o .0 ∷ o .1) = rw (o .2) at remain-at-record in
         let r : o .0 ≡ rec-of names refs (nth rows i) = nth-rec names refs rows i (o .0) (o .1) (o .2) in
         rw (← r) (record {
           found = x;
-          is-read = reads-at (rd .facts) dump (x .before) (o .0) (o .1) a _ (x .list) (x .note) (x .context) (x .end) (x .gives);
-          least = λ s at end y. omega (arith, least-at (rd .facts) dump (x .before) (o .0) (o .1) a _ (x .list) (x .note) (x .context) (x .end) (x .gives) s at end y);
+          is-read = reads-at (rd .header) dump (x .before) (o .0) (o .1) a _ (x .list) (x .note) (x .context) (x .end) (x .item-is);
+          least = λ s at end y. omega (arith, least-at (rd .header) dump (x .before) (o .0) (o .1) a _ (x .list) (x .note) (x .context) (x .end) (x .item-is) s at end y);
         })
 
 -- ---- the promise
 
 -- The record number i of any dump that was written, read with a row for each record and a number for each of their references, is the
 -- shortest of those that are read as the row number i that was passed in.
-pub shortest : (h : Facts) (names refs : List ℕ) (rows : List Row) (room R F i : ℕ) → write-rows h names refs rows room .answer .reply ≡ 0
+pub shortest : (h : Header) (names refs : List ℕ) (rows : List Row) (out-capacity R F i : ℕ) → write-rows h names refs rows out-capacity .answer .reply ≡ 0
     → length rows * row-width ≤ R → length (all-refs (recs names refs rows)) ≤ F → i < length rows
-    → let dump = write-rows h names refs rows room .bytes in
-    ShortestAt dump (capacity R F) (reading dump R F) (rec-of names refs (nth rows i)) i
+    → let dump = write-rows h names refs rows out-capacity .bytes in
+    ShortestAt dump (capacity R F) (read-result dump R F) (rec-of names refs (nth rows i)) i
 unfolding done
-shortest h names refs rows room R F i z p q l =
-    let e = said-0 h names refs rows room z .3 in
-    let n : row-count (reading (dump-of h names refs rows) R F .rows) ≡ length rows = rw e at (round-trip h names refs rows room R F z p q .rows-count) in
-    let b : i < row-count (reading (dump-of h names refs rows) R F .rows) = rw n l in
-    rw e (found-shortest h names refs rows room R F z p q i (came-from (dump-of h names refs rows) R F .each i b) (one-each (dump-of h names refs rows) R F i b))
+shortest h names refs rows out-capacity R F i z p q l =
+    let e = reply-0-means h names refs rows out-capacity z .3 in
+    let n : row-count (read-result (dump-of h names refs rows) R F .rows) ≡ length rows = rw e at (round-trip h names refs rows out-capacity R F z p q .rows-count) in
+    let b : i < row-count (read-result (dump-of h names refs rows) R F .rows) = rw n l in
+    rw e (found-shortest h names refs rows out-capacity R F z p q i (row-origins (dump-of h names refs rows) R F .each i b) (row-record-number (dump-of h names refs rows) R F i b))

@@ -7,48 +7,48 @@ use mathlib.Core.Bool.{Bool, true, false}
 use mathlib.Core.List.{List, [], _∷_, _++_, append-nil}
 use lib.ListN.{length, length-append}
 use Rattle.decode.specs.Numbers.{pick}
-use Rattle.decode.specs.declared.Text.{Text}
+use Rattle.decode.specs.declared.StringSpan.{StringSpan}
 use Rattle.encode.specs.Encode.{join, be}
 use Rattle.encode.specs.NumberRoundTrip.{length-be}
-use Rattle.phd.specs.Phd.{opening}
-use Rattle.phd.specs.declared.Facts.{Facts}
+use Rattle.phd.specs.Phd.{magic}
+use Rattle.phd.specs.declared.Header.{Header}
 use Rattle.phd_check.specs.GoodRows.{vm-text}
-use Rattle.phd_check.specs.WellFormed.{Vm, length-text}
-use Rattle.phd_write.specs.Write.{header-flags, put-preamble, put-vm, put-header}
+use Rattle.phd_check.specs.WellFormed.{VmInBounds, length-vm-text}
+use Rattle.phd_write.specs.Write.{header-flags, encode-preamble, encode-vm, encode-header}
 
-pub length-preamble : (flags : ℕ) → length (put-preamble flags) ≡ 29
-unfolding put-preamble opening
+pub length-preamble : (flags : ℕ) → length (encode-preamble flags) ≡ 29
+unfolding encode-preamble magic
 length-preamble flags = simp (length-append, length-be)
 
 -- the header is the preamble, the VM string and the two bytes 2
-pub header-parts : (names : List ℕ) (h : Facts) → put-header names h ≡ put-preamble (header-flags h) ++ (put-vm names (h .vm) ++ (be 1 2 ++ be 1 2))
-unfolding put-header
+pub header-parts : (names : List ℕ) (h : Header) → encode-header names h ≡ encode-preamble (header-flags h) ++ (encode-vm names (h .vm) ++ (be 1 2 ++ be 1 2))
+unfolding encode-header
 header-parts names h = rw append-nil
 
 -- how many bytes the VM string's record has
-unfoldable pub vm-size : Text → ℕ
-vm-size t = pick (t .there) (3 + t .len) 0
+unfoldable pub vm-size : StringSpan → ℕ
+vm-size t = pick (t .present) (3 + t .len) 0
 
-pub length-vm : (names : List ℕ) (t : Text) → Vm names t → length (put-vm names t) ≡ vm-size t
-unfolding put-vm vm-size
-length-vm names t v = by (t .there) refl
+pub length-vm : (names : List ℕ) (t : StringSpan) → VmInBounds names t → length (encode-vm names t) ≡ vm-size t
+unfolding encode-vm vm-size
+length-vm names t v = by (t .present) refl
   where
-    by : (b : Bool) → t .there ≡ b → length (pick b (join (be 1 4 ∷ be 2 (t .len) ∷ vm-text names t ∷ [])) []) ≡ pick b (3 + t .len) 0
-    by true e = let l = length-text names t v e in simp (length-append, length-be, append-nil) (omega arith)
+    by : (b : Bool) → t .present ≡ b → length (pick b (join (be 1 4 ∷ be 2 (t .len) ∷ vm-text names t ∷ [])) []) ≡ pick b (3 + t .len) 0
+    by true e = let l = length-vm-text names t v e in simp (length-append, length-be, append-nil) (omega arith)
     by false e = refl
 
 -- how many bytes the header has
-unfoldable pub header-size : Facts → ℕ
+unfoldable pub header-size : Header → ℕ
 header-size h = 31 + vm-size (h .vm)
 
-pub length-header : (names : List ℕ) (h : Facts) → Vm names (h .vm) → length (put-header names h) ≡ header-size h
+pub length-header : (names : List ℕ) (h : Header) → VmInBounds names (h .vm) → length (encode-header names h) ≡ header-size h
 unfolding header-size
 length-header names h v = simp (header-parts names h, length-append, length-preamble, length-vm names (h .vm) v, length-be) (omega arith)
 
-pub header-small : (names : List ℕ) (h : Facts) → Vm names (h .vm) → header-size h < 65570
+pub header-small : (names : List ℕ) (h : Header) → VmInBounds names (h .vm) → header-size h < 65570
 unfolding header-size vm-size
-header-small names h v = by (h .vm .there) refl
+header-small names h v = by (h .vm .present) refl
   where
-    by : (b : Bool) → h .vm .there ≡ b → 31 + pick b (3 + h .vm .len) 0 < 65570
+    by : (b : Bool) → h .vm .present ≡ b → 31 + pick b (3 + h .vm .len) 0 < 65570
     by true e = let s = v .short e in omega arith
     by false e = omega arith

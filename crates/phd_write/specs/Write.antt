@@ -7,71 +7,71 @@ use mathlib.Core.List.{List, [], _∷_, _++_}
 use lib.ListN.{length}
 use lib.Dec.{leb, eqb}
 use Rattle.decode.specs.Numbers.{pick, both}
-use Rattle.decode.specs.declared.Text.{Text}
+use Rattle.decode.specs.declared.StringSpan.{StringSpan}
 use Rattle.encode.specs.Encode.{join, be}
-use Rattle.phd.specs.Phd.{limit, opening, empty}
+use Rattle.phd.specs.Phd.{limit, magic, empty-cache}
 use Rattle.phd.specs.declared.cache.Cache.{Cache}
-use Rattle.phd.specs.declared.Facts.{Facts}
+use Rattle.phd.specs.declared.Header.{Header}
 use Rattle.table.specs.Rows.{Rec, recs, rows-of}
 use Rattle.table.specs.declared.Row.{Row}
-use Rattle.phd_check.specs.GoodRows.{good-header, bad-of, vm-text}
-use Rattle.table.specs.CheckOrder.{Outcome, judged}
+use Rattle.phd_check.specs.GoodRows.{good-header, first-bad, vm-text}
+use Rattle.table.specs.CheckOrder.{WriteResult, checked-write}
 use Rattle.table.specs.declared.Answer.{Answer}
 use Rattle.table.specs.declared.Search.the-variants.{NotFound}
-use Rattle.phd_encode.specs.EncodeRecord.{put-record, cache-after}
+use Rattle.phd_encode.specs.EncodeRecord.{encode-record, cache-after}
 
 -- ---- the bytes of a dump
 
 -- the header's flags: 1 W is 64, 2 all objects hashed, 4 from OpenJ9
-abbrev pub flag : Bool → ℕ → ℕ
-flag b n = pick b n 0
+abbrev pub flag-value : Bool → ℕ → ℕ
+flag-value b n = pick b n 0
 
-unfoldable pub header-flags : Facts → ℕ
-header-flags h = flag (eqb (h .word) 64) 1 + flag (h .hashed) 2 + flag (h .openj9) 4
+unfoldable pub header-flags : Header → ℕ
+header-flags h = flag-value (eqb (h .bits) 64) 1 + flag-value (h .hashed) 2 + flag-value (h .openj9) 4
 
 -- the header record of the VM string, whose place and length are those in the name bytes
-unfoldable pub put-vm : List ℕ → Text → List ℕ
-put-vm names t = pick (t .there) (join (be 1 4 ∷ be 2 (t .len) ∷ vm-text names t ∷ [])) []
+unfoldable pub encode-vm : List ℕ → StringSpan → List ℕ
+encode-vm names t = pick (t .present) (join (be 1 4 ∷ be 2 (t .len) ∷ vm-text names t ∷ [])) []
 
 -- the opening string, the version, the flags and the byte 1
-unfoldable pub put-preamble : ℕ → List ℕ
-put-preamble flags = join (be 2 18 ∷ opening ∷ be 4 6 ∷ be 4 flags ∷ be 1 1 ∷ [])
+unfoldable pub encode-preamble : ℕ → List ℕ
+encode-preamble flags = join (be 2 18 ∷ magic ∷ be 4 6 ∷ be 4 flags ∷ be 1 1 ∷ [])
 
 -- these; the VM string; the byte 2 that ends the header and the one that begins the body
-unfoldable pub put-header : List ℕ → Facts → List ℕ
-put-header names h = join (put-preamble (header-flags h) ∷ put-vm names (h .vm) ∷ be 1 2 ∷ be 1 2 ∷ [])
+unfoldable pub encode-header : List ℕ → Header → List ℕ
+encode-header names h = join (encode-preamble (header-flags h) ∷ encode-vm names (h .vm) ∷ be 1 2 ∷ be 1 2 ∷ [])
 
 -- Records one after another, and the end tag; the first stands after one at the address `before`, with the cache c.
-unfoldable pub put-records : Facts → ℕ → Cache → List Rec → List ℕ
-put-records h before c [] = be 1 3
-put-records h before c (r ∷ rs) = put-record h before c r ++ put-records h (r .row .address) (cache-after h before c r) rs
+unfoldable pub encode-records : Header → ℕ → Cache → List Rec → List ℕ
+encode-records h before c [] = be 1 3
+encode-records h before c (r ∷ rs) = encode-record h before c r ++ encode-records h (r .row .address) (cache-after h before c r) rs
 
-unfoldable pub put-dump : List ℕ → Facts → List Rec → List ℕ
-put-dump names h rs = put-header names h ++ put-records h 0 empty rs
+unfoldable pub encode-dump : List ℕ → Header → List Rec → List ℕ
+encode-dump names h rs = encode-header names h ++ encode-records h 0 empty-cache rs
 
 -- ---- a writing
 
 -- a dump has room in the output, and is within the size limit
-unfoldable pub has-room : ℕ → List ℕ → Bool
-has-room room dump = both (leb (length dump) room) (leb (length dump) limit)
+unfoldable pub fits-capacity : ℕ → List ℕ → Bool
+fits-capacity out-capacity dump = both (leb (length dump) out-capacity) (leb (length dump) limit)
 
 -- What writing rows and their references under the header h gives, with the name bytes passed in and an output of `room` bytes. The
 -- writer looks for no class.
-unfoldable pub write-rows : Facts → (names refs : List ℕ) → List Row → ℕ → Outcome
-write-rows h names refs rows room =
-    let dump : List ℕ = put-dump names h (recs names refs rows) in
-    judged (good-header h names rows refs) (bad-of h names refs rows) NotFound (has-room room dump) dump
+unfoldable pub write-rows : Header → (names refs : List ℕ) → List Row → ℕ → WriteResult
+write-rows h names refs rows out-capacity =
+    let dump : List ℕ = encode-dump names h (recs names refs rows) in
+    checked-write (good-header h names rows refs) (first-bad h names refs rows) NotFound (fits-capacity out-capacity dump) dump
 
 -- What a query for the size of that dump answers: the same checks in the same order, all but that of the output; the size limit
 -- stays. With 0 the place is how many bytes the dump has.
-unfoldable pub write-rows-size : Facts → (names refs : List ℕ) → List Row → Answer
+unfoldable pub write-rows-size : Header → (names refs : List ℕ) → List Row → Answer
 write-rows-size h names refs rows =
-    let dump : List ℕ = put-dump names h (recs names refs rows) in
-    judged (good-header h names rows refs) (bad-of h names refs rows) NotFound (leb (length dump) limit) dump .answer
+    let dump : List ℕ = encode-dump names h (recs names refs rows) in
+    checked-write (good-header h names rows refs) (first-bad h names refs rows) NotFound (leb (length dump) limit) dump .answer
 
 -- both, of the whole rows of a table
-abbrev pub writing : Facts → (names refs table : List ℕ) → ℕ → Outcome
-writing h names refs table room = write-rows h names refs (rows-of table) room
+abbrev pub write-result : Header → (names refs table : List ℕ) → ℕ → WriteResult
+write-result h names refs table out-capacity = write-rows h names refs (rows-of table) out-capacity
 
-abbrev pub write-sizing : Facts → (names refs table : List ℕ) → Answer
-write-sizing h names refs table = write-rows-size h names refs (rows-of table)
+abbrev pub write-size-result : Header → (names refs table : List ℕ) → Answer
+write-size-result h names refs table = write-rows-size h names refs (rows-of table)

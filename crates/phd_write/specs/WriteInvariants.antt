@@ -9,161 +9,161 @@ use lib.ListN.{length, length-append}
 use Rattle.decode.specs.Numbers.{pick}
 use Rattle.encode.specs.Encode.{be}
 use Rattle.encode.specs.NumberRoundTrip.{length-be}
-use Rattle.encode.specs.Writes.{Puts, Room, Rest, room-first, rest-begins, rest-next, rest-room, rest-ends}
+use Rattle.encode.specs.Writes.{Writes, HasCapacity, Remaining, capacity-first, remaining-start, remaining-next, remaining-capacity, remaining-done}
 use Rattle.table.specs.Table.{row-count}
 use Rattle.table.specs.Rows.{row-at, refs-of, name-of, recs, rows-of}
 use Rattle.table.specs.declared.Row.{Row}
 use Rattle.table.specs.declared.Search.the-variants.{NotFound}
-use Rattle.phd.specs.Phd.{highest, empty, put}
-use Rattle.phd.specs.Shapes.{Word}
+use Rattle.phd.specs.Phd.{max-address, empty-cache, push}
+use Rattle.phd.specs.Shapes.{ValidBits}
 use Rattle.phd.specs.declared.cache.Cache.{Cache}
-use Rattle.phd.specs.declared.Facts.{Facts}
-use Rattle.phd_check.specs.GoodRows.{bad-of}
-use Rattle.phd_plan.specs.FormChoice.{Bounded, measure}
+use Rattle.phd.specs.declared.Header.{Header}
+use Rattle.phd_check.specs.GoodRows.{first-bad}
+use Rattle.phd_plan.specs.FormChoice.{Bounded, plan-input}
 use Rattle.phd_plan.specs.declared.Plan.{Plan}
-use Rattle.phd_encode.specs.EncodeRecord.{put-planned, sized}
-use Rattle.phd_encode.specs.declared.sizes.Sized.{Sized}
-use Rattle.phd_write.specs.Write.{put-records}
-use Rattle.phd_write.specs.RowSteps.{plan-at, left, plan, bytes-at, size-at, cache-on, Halfway, Next, next, left-none}
+use Rattle.phd_encode.specs.EncodeRecord.{encode-planned, record-size}
+use Rattle.phd_encode.specs.declared.sizes.EncodedSize.{EncodedSize}
+use Rattle.phd_write.specs.Write.{encode-records}
+use Rattle.phd_write.specs.RowSteps.{plan-row, bytes-left, nth-plan, nth-bytes, nth-size, cache-after-nth, BetweenRows, RowStep, row-step, bytes-left-end}
 
-module _ (h : Facts) (names refs table : List ℕ) where
+module _ (h : Header) (names refs table : List ℕ) where
   -- all rows and the end tag
-  abbrev pub all : List ℕ
-  all = put-records h 0 empty (recs names refs (rows-of table))
+  abbrev pub all-bytes : List ℕ
+  all-bytes = encode-records h 0 empty-cache (recs names refs (rows-of table))
 
-  begin : bad-of h names refs (rows-of table) ≡ NotFound → Halfway h names refs table 0 0 0
-  unfolding highest
-  begin e = record { at-most = omega arith; none = e; fours = refl; most = omega arith }
+  between-start : first-bad h names refs (rows-of table) ≡ NotFound → BetweenRows h names refs table 0 0 0
+  unfolding max-address
+  between-start e = record { at-most = omega arith; none = e; aligned = refl; most = omega arith }
 
   -- ---- sizing, after a header of so many bytes
 
-  pub record Sizing (header i before total : ℕ) (c : Cache) : Type 0 where
+  pub record SizeLoop (header i before total : ℕ) (c : Cache) : Type 0 where
     pub index : ℕ
-    pub halfway : Halfway h names refs table i index before
+    pub between : BetweenRows h names refs table i index before
     pub few : index ≤ length refs
     pub small : total ≤ 65570 + i * 65664 + index * 8
-    pub sum : total + length (left h names refs table i before c) ≡ header + length all
+    pub sum : total + length (bytes-left h names refs table i before c) ≡ header + length all-bytes
 
-  pub sizing-begins : (header : ℕ) → header < 65570 → bad-of h names refs (rows-of table) ≡ NotFound → Sizing header 0 0 header empty
-  sizing-begins header l e = record { index = 0; halfway = begin e; few = omega arith; small = omega arith; sum = refl }
+  pub size-loop-start : (header : ℕ) → header < 65570 → first-bad h names refs (rows-of table) ≡ NotFound → SizeLoop header 0 0 header empty-cache
+  size-loop-start header l e = record { index = 0; between = between-start e; few = omega arith; small = omega arith; sum = refl }
 
-  pub sizing-next : (header i before total : ℕ) (c : Cache) → Word (h .word) → Sizing header i before total c → i < row-count table
-      → Sizing header (i + 1) (row-at table i .address) (total + size-at h names refs table i before c) (cache-on h names refs table i before c)
-  sizing-next header i before total c w z l =
-      let n : Next h names refs table i (z .index) before c = next h names refs table i (z .index) before c w (z .halfway) l in
+  pub size-loop-step : (header i before total : ℕ) (c : Cache) → ValidBits (h .bits) → SizeLoop header i before total c → i < row-count table
+      → SizeLoop header (i + 1) (row-at table i .address) (total + nth-size h names refs table i before c) (cache-after-nth h names refs table i before c)
+  size-loop-step header i before total c w z l =
+      let n : RowStep h names refs table i (z .index) before c = row-step h names refs table i (z .index) before c w (z .between) l in
       let r : Row = row-at table i in
-      let b = n .begins in
-      let s = n .lent .span in
+      let b = n .first-is-index in
+      let s = n .in-bounds .span in
       let m = n .size-small in
-      let t : total + length (bytes-at h names refs table i before c ++ left h names refs table (i + 1) (r .address) (cache-on h names refs table i before c)) ≡ header + length all = rw (n .more) at (z .sum) in
+      let t : total + length (nth-bytes h names refs table i before c ++ bytes-left h names refs table (i + 1) (r .address) (cache-after-nth h names refs table i before c)) ≡ header + length all-bytes = rw (n .more) at (z .sum) in
       let u = n .size in
       record {
         index = z .index + r .count;
-        halfway = n .halfway;
+        between = n .between;
         few = omega arith;
         small = omega arith;
         sum = omega (arith, rw length-append at t);
       }
 
-  pub sizing-ends : (header i before total : ℕ) (c : Cache) → Sizing header i before total c → row-count table ≤ i → total + 1 ≡ header + length all
-  sizing-ends header i before total c z l = rw (left-none h names refs table i before c l, length-be) at (z .sum)
+  pub size-loop-end : (header i before total : ℕ) (c : Cache) → SizeLoop header i before total c → row-count table ≤ i → total + 1 ≡ header + length all-bytes
+  size-loop-end header i before total c z l = rw (bytes-left-end h names refs table i before c l, length-be) at (z .sum)
 
   -- ---- writing, into an output that was out₀, from the offset at₀ on
 
-  pub record Putting (at₀ : ℕ) (out₀ : List ℕ) (i before to : ℕ) (c : Cache) (out : List ℕ) : Type 0 where
+  pub record EncodeLoop (at₀ : ℕ) (out₀ : List ℕ) (i before to : ℕ) (c : Cache) (out : List ℕ) : Type 0 where
     pub index : ℕ
-    pub halfway : Halfway h names refs table i index before
-    pub rest : Rest out₀ at₀ all out to (left h names refs table i before c)
-    pub room : Room out₀ at₀ all
+    pub between : BetweenRows h names refs table i index before
+    pub rest : Remaining out₀ at₀ all-bytes out to (bytes-left h names refs table i before c)
+    pub capacity : HasCapacity out₀ at₀ all-bytes
 
-  pub putting-begins : (at : ℕ) (out : List ℕ) → Room out at all → bad-of h names refs (rows-of table) ≡ NotFound → Putting at out 0 0 at empty out
-  putting-begins at out l e = record { index = 0; halfway = begin e; rest = rest-begins out at all; room = l }
+  pub encode-loop-start : (at : ℕ) (out : List ℕ) → HasCapacity out at all-bytes → first-bad h names refs (rows-of table) ≡ NotFound → EncodeLoop at out 0 0 at empty-cache out
+  encode-loop-start at out l e = record { index = 0; between = between-start e; rest = remaining-start out at all-bytes; capacity = l }
 
-  module _ (at₀ : ℕ) (out₀ : List ℕ) (i before to : ℕ) (c : Cache) (out : List ℕ) (z : Putting at₀ out₀ i before to c out) where
+  module _ (at₀ : ℕ) (out₀ : List ℕ) (i before to : ℕ) (c : Cache) (out : List ℕ) (z : EncodeLoop at₀ out₀ i before to c out) where
     -- the next row's bytes, and those after them
-    module _ (w : Word (h .word)) (l : i < row-count table) where
-      coming : Next h names refs table i (z .index) before c
-      coming = next h names refs table i (z .index) before c w (z .halfway) l
+    module _ (w : ValidBits (h .bits)) (l : i < row-count table) where
+      this-step : RowStep h names refs table i (z .index) before c
+      this-step = row-step h names refs table i (z .index) before c w (z .between) l
 
-      on : Rest out₀ at₀ all out to (bytes-at h names refs table i before c ++ left h names refs table (i + 1) (row-at table i .address) (cache-on h names refs table i before c))
-      on = rw (coming .more) at (z .rest)
+      progress-split : Remaining out₀ at₀ all-bytes out to (nth-bytes h names refs table i before c ++ bytes-left h names refs table (i + 1) (row-at table i .address) (cache-after-nth h names refs table i before c))
+      progress-split = rw (this-step .more) at (z .rest)
 
       -- the row that is written has room
-      pub putting-room : Room out to (bytes-at h names refs table i before c)
-      putting-room = room-first out to (bytes-at h names refs table i before c) (left h names refs table (i + 1) (row-at table i .address) (cache-on h names refs table i before c)) (rest-room on (z .room))
+      pub encode-loop-capacity : HasCapacity out to (nth-bytes h names refs table i before c)
+      encode-loop-capacity = capacity-first out to (nth-bytes h names refs table i before c) (bytes-left h names refs table (i + 1) (row-at table i .address) (cache-after-nth h names refs table i before c)) (remaining-capacity progress-split (z .capacity))
 
-      pub putting-next : (to′ : ℕ) (out′ : List ℕ) → Puts out to (bytes-at h names refs table i before c) out′ to′
-          → Putting at₀ out₀ (i + 1) (row-at table i .address) to′ (cache-on h names refs table i before c) out′
-      putting-next to′ out′ p = record { index = z .index + row-at table i .count; halfway = coming .halfway; rest = rest-next on p; room = z .room }
+      pub encode-loop-step : (to′ : ℕ) (out′ : List ℕ) → Writes out to (nth-bytes h names refs table i before c) out′ to′
+          → EncodeLoop at₀ out₀ (i + 1) (row-at table i .address) to′ (cache-after-nth h names refs table i before c) out′
+      encode-loop-step to′ out′ p = record { index = z .index + row-at table i .count; between = this-step .between; rest = remaining-next progress-split p; capacity = z .capacity }
 
     -- no row is left: the end tag has room, and ends it
     module _ (l : row-count table ≤ i) where
-      last : Rest out₀ at₀ all out to (be 1 3 ++ [])
-      last = rw (append-nil (be 1 3)) (rw (left-none h names refs table i before c l) at (z .rest))
+      last : Remaining out₀ at₀ all-bytes out to (be 1 3 ++ [])
+      last = rw (append-nil (be 1 3)) (rw (bytes-left-end h names refs table i before c l) at (z .rest))
 
-      pub putting-end-room : Room out to (be 1 3)
-      putting-end-room = room-first out to (be 1 3) [] (rest-room last (z .room))
+      pub end-tag-capacity : HasCapacity out to (be 1 3)
+      end-tag-capacity = capacity-first out to (be 1 3) [] (remaining-capacity last (z .capacity))
 
-      pub putting-ends : (to′ : ℕ) (out′ : List ℕ) → Puts out to (be 1 3) out′ to′ → Puts out₀ at₀ all out′ to′
-      putting-ends to′ out′ p = rest-ends (rest-next last p)
+      pub encode-loop-end : (to′ : ℕ) (out′ : List ℕ) → Writes out to (be 1 3) out′ to′ → Writes out₀ at₀ all-bytes out′ to′
+      encode-loop-end to′ out′ p = remaining-done (remaining-next last p)
 
   -- ---- the next row, as the functions hold it: r is the row, p how it is planned
 
-  module _ (i index before : ℕ) (c : Cache) (n : Next h names refs table i index before c) (r : Row) (e : r ≡ row-at table i) where
-    pub row-lent : r .first + r .count ≤ length refs
-    row-lent = rw e (n .lent .span)
+  module _ (i index before : ℕ) (c : Cache) (n : RowStep h names refs table i index before c) (r : Row) (e : r ≡ row-at table i) where
+    pub row-refs-in-bounds : r .first + r .count ≤ length refs
+    row-refs-in-bounds = rw e (n .in-bounds .span)
 
-    pub row-named : r .place + r .namelen ≤ length names
-    row-named = rw e (n .lent .named)
+    pub row-name-in-bounds : r .place + r .namelen ≤ length names
+    row-name-in-bounds = rw e (n .in-bounds .name-in-bounds)
 
-    pub row-bound : Bounded (measure c before r (refs-of refs r))
-    row-bound = rw e (n .bound)
+    pub row-plan-bounded : Bounded (plan-input c before r (refs-of refs r))
+    row-plan-bounded = rw e (n .bound)
 
-    pub row-short : r .namelen < 2 ^ 16
-    row-short = rw e (n .lent .short)
+    pub row-name-short : r .namelen < 2 ^ 16
+    row-name-short = rw e (n .in-bounds .short)
 
     -- s is how many bytes it has, and whether it is cached
-    module _ (s : Sized) (f : s ≡ sized (plan-at h refs before c r) r) where
-      sized-is : s ≡ sized (plan h names refs table i before c) (row-at table i)
-      sized-is = f ∙ ap (λ (x : Row). sized (plan-at h refs before c x) x) e
+    module _ (s : EncodedSize) (f : s ≡ record-size (plan-row h refs before c r) r) where
+      sized-is : s ≡ record-size (nth-plan h names refs table i before c) (row-at table i)
+      sized-is = f ∙ ap (λ (x : Row). record-size (plan-row h refs before c x) x) e
 
-      cached-is : (k : Cache) → k ≡ pick (s .cached) (put c (r .word)) c → k ≡ cache-on h names refs table i before c
-      unfolding sized
+      cached-is : (k : Cache) → k ≡ pick (s .cached) (push c (r .class)) c → k ≡ cache-after-nth h names refs table i before c
+      unfolding record-size
       cached-is k g = rw (sized-is, e) at g
 
-      pub sizing-on : (header total : ℕ) (k : Cache) → k ≡ pick (s .cached) (put c (r .word)) c
-          → Word (h .word) → Sizing header i before total c → i < row-count table → Sizing header (i + 1) (r .address) (total + s .size) k
-      unfolding sized
-      sizing-on header total k g w z l = rw (cached-is k g, sized-is, e) (sizing-next header i before total c w z l)
+      pub size-loop-row : (header total : ℕ) (k : Cache) → k ≡ pick (s .cached) (push c (r .class)) c
+          → ValidBits (h .bits) → SizeLoop header i before total c → i < row-count table → SizeLoop header (i + 1) (r .address) (total + s .size) k
+      unfolding record-size
+      size-loop-row header total k g w z l = rw (cached-is k g, sized-is, e) (size-loop-step header i before total c w z l)
 
       -- what is added is small: so no sum leaves 64 bits
-      pub sizing-small : (header total : ℕ) → Sizing header i before total c → i < row-count table
+      pub size-loop-bound : (header total : ℕ) → SizeLoop header i before total c → i < row-count table
           → row-count table ≤ 2 ^ 30 → length refs ≤ 2 ^ 30 → total + s .size < 2 ^ 63
-      unfolding sized
-      sizing-small header total z l rs fs =
-          let a : s .size ≡ size-at h names refs table i before c = ap (λ (x : Sized). x .size) sized-is in
+      unfolding record-size
+      size-loop-bound header total z l rs fs =
+          let a : s .size ≡ nth-size h names refs table i before c = ap (λ (x : EncodedSize). x .size) sized-is in
           let b = n .size-small in
-          let d = n .lent .few in
+          let d = n .in-bounds .few in
           let u = z .small in
           let v = z .few in
           omega arith
 
-    module _ (p : Plan) (f : p ≡ plan-at h refs before c r) where
-      plan-is : p ≡ plan h names refs table i before c
-      plan-is = f ∙ ap (plan-at h refs before c) e
+    module _ (p : Plan) (f : p ≡ plan-row h refs before c r) where
+      plan-is : p ≡ nth-plan h names refs table i before c
+      plan-is = f ∙ ap (plan-row h refs before c) e
 
-      bytes-is : put-planned before p r (refs-of refs r) (name-of names r) ≡ bytes-at h names refs table i before c
+      bytes-is : encode-planned before p r (refs-of refs r) (name-of names r) ≡ nth-bytes h names refs table i before c
       bytes-is = rw (plan-is, e)
 
-      cache-is : (k : Cache) → k ≡ pick (p .shape .cached) (put c (r .word)) c → k ≡ cache-on h names refs table i before c
+      cache-is : (k : Cache) → k ≡ pick (p .shape .cached) (push c (r .class)) c → k ≡ cache-after-nth h names refs table i before c
       cache-is k g = rw (plan-is, e) at g
 
-      pub putting-on : (at₀ : ℕ) (out₀ : List ℕ) (to : ℕ) (out : List ℕ) → Putting at₀ out₀ i before to c out → Word (h .word) → i < row-count table
-          → (to′ : ℕ) (out′ : List ℕ) (k : Cache) → Puts out to (put-planned before p r (refs-of refs r) (name-of names r)) out′ to′
-          → k ≡ pick (p .shape .cached) (put c (r .word)) c → Putting at₀ out₀ (i + 1) (r .address) to′ k out′
-      putting-on at₀ out₀ to out z w l to′ out′ k a j =
-          rw (cache-is k j, e) (putting-next at₀ out₀ i before to c out z w l to′ out′ (rw bytes-is at a))
+      pub encode-loop-row : (at₀ : ℕ) (out₀ : List ℕ) (to : ℕ) (out : List ℕ) → EncodeLoop at₀ out₀ i before to c out → ValidBits (h .bits) → i < row-count table
+          → (to′ : ℕ) (out′ : List ℕ) (k : Cache) → Writes out to (encode-planned before p r (refs-of refs r) (name-of names r)) out′ to′
+          → k ≡ pick (p .shape .cached) (push c (r .class)) c → EncodeLoop at₀ out₀ (i + 1) (r .address) to′ k out′
+      encode-loop-row at₀ out₀ to out z w l to′ out′ k a j =
+          rw (cache-is k j, e) (encode-loop-step at₀ out₀ i before to c out z w l to′ out′ (rw bytes-is at a))
 
-      pub putting-fits : (at₀ : ℕ) (out₀ : List ℕ) (to : ℕ) (out : List ℕ) → Putting at₀ out₀ i before to c out → Word (h .word) → i < row-count table
-          → Room out to (put-planned before p r (refs-of refs r) (name-of names r))
-      putting-fits at₀ out₀ to out z w l = rw bytes-is (putting-room at₀ out₀ i before to c out z w l)
+      pub encode-loop-row-capacity : (at₀ : ℕ) (out₀ : List ℕ) (to : ℕ) (out : List ℕ) → EncodeLoop at₀ out₀ i before to c out → ValidBits (h .bits) → i < row-count table
+          → HasCapacity out to (encode-planned before p r (refs-of refs r) (name-of names r))
+      encode-loop-row-capacity at₀ out₀ to out z w l = rw bytes-is (encode-loop-capacity at₀ out₀ i before to c out z w l)

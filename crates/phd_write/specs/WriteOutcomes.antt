@@ -12,29 +12,29 @@ use Rattle.decode.specs.Numbers.{both}
 use Rattle.decode.specs.Values.{both-left, both-right}
 use Rattle.encode.specs.Encode.{be}
 use Rattle.table.specs.Rows.{Rec}
-use Rattle.table.specs.CheckOrder.{Outcome, done, judged, checked, Exact, exact}
-use Rattle.table.specs.SizeQuery.{Split, asked-checked, asked-counts, asked-over, asked-split as by-asked}
+use Rattle.table.specs.CheckOrder.{WriteResult, done, checked-write, checked-input, CheckReplies, check-replies}
+use Rattle.table.specs.SizeQuery.{QueryAgrees, query-refused, query-size, query-too-large, query-agrees-by as by-query}
 use Rattle.table.specs.declared.Answer.{Answer}
 use Rattle.table.specs.declared.Row.{Row}
 use Rattle.table.specs.declared.Search.the-variants.{NotFound}
 use Rattle.phd.specs.Phd.{limit}
 use Rattle.phd.specs.declared.cache.Cache.{Cache}
-use Rattle.phd.specs.declared.Facts.{Facts}
-use Rattle.phd_check.specs.GoodRows.{good-header, bad-of, AllRight}
-use Rattle.phd_encode.specs.EncodeRecord.{put-record, cache-after}
-use Rattle.phd_write.specs.Write.{put-records, has-room, write-rows, write-rows-size}
-use Rattle.phd_write.specs.WriteTerms.{dump-of, TooLong, Ends}
+use Rattle.phd.specs.declared.Header.{Header}
+use Rattle.phd_check.specs.GoodRows.{good-header, first-bad, TablesGood}
+use Rattle.phd_encode.specs.EncodeRecord.{encode-record, cache-after}
+use Rattle.phd_write.specs.Write.{encode-records, fits-capacity, write-rows, write-rows-size}
+use Rattle.phd_write.specs.WriteTerms.{dump-of, TooLong, EndsWithEndTag}
 
 -- ---- the end tag
 
 -- it is the last byte
-pub ends-after : (xs ys : List ℕ) → Ends ys → Ends (xs ++ ys)
-ends-after xs ys e = record { before = xs ++ e .before; all = append-assoc xs (e .before) (3 ∷ []) ∙ ap (λ (l : List ℕ). xs ++ l) (e .all) }
+pub ends-append : (xs ys : List ℕ) → EndsWithEndTag ys → EndsWithEndTag (xs ++ ys)
+ends-append xs ys e = record { before = xs ++ e .before; all = append-assoc xs (e .before) (3 ∷ []) ∙ ap (λ (l : List ℕ). xs ++ l) (e .all) }
 
-pub records-end : (h : Facts) (before : ℕ) (c : Cache) (rs : List Rec) → Ends (put-records h before c rs)
-unfolding put-records be
-records-end h before c [] = record { before = []; all = refl }
-records-end h before c (r ∷ rs) = ends-after (put-record h before c r) _ (records-end h (r .row .address) (cache-after h before c r) rs)
+pub encode-records-end : (h : Header) (before : ℕ) (c : Cache) (rs : List Rec) → EndsWithEndTag (encode-records h before c rs)
+unfolding encode-records be
+encode-records-end h before c [] = record { before = []; all = refl }
+encode-records-end h before c (r ∷ rs) = ends-append (encode-record h before c r) _ (encode-records-end h (r .row .address) (cache-after h before c r) rs)
 
 -- ---- the ways
 
@@ -51,77 +51,77 @@ which : (a b : Bool) → both a b ≡ false → (a ≡ false) ⊎ (b ≡ false)
 which true b e = inr e
 which false b e = inl refl
 
-pub has : (room : ℕ) (dump : List ℕ) → length dump ≤ room → length dump ≤ limit → has-room room dump ≡ true
-unfolding has-room
-has room dump l m = both-true _ _ (le-leb _ _ l) (le-leb _ _ m)
+pub fits-capacity-true : (out-capacity : ℕ) (dump : List ℕ) → length dump ≤ out-capacity → length dump ≤ limit → fits-capacity out-capacity dump ≡ true
+unfolding fits-capacity
+fits-capacity-true out-capacity dump l m = both-true _ _ (le-leb _ _ l) (le-leb _ _ m)
 
-pub lacks : (room : ℕ) (dump : List ℕ) → TooLong room dump → has-room room dump ≡ false
-unfolding has-room
-lacks room dump (inl p) = not-both (leb (length dump) room) (leb (length dump) limit) (inl (lt-leb (length dump) room p))
-lacks room dump (inr p) = not-both (leb (length dump) room) (leb (length dump) limit) (inr (lt-leb (length dump) limit p))
+pub fits-capacity-false : (out-capacity : ℕ) (dump : List ℕ) → TooLong out-capacity dump → fits-capacity out-capacity dump ≡ false
+unfolding fits-capacity
+fits-capacity-false out-capacity dump (inl p) = not-both (leb (length dump) out-capacity) (leb (length dump) limit) (inl (lt-leb (length dump) out-capacity p))
+fits-capacity-false out-capacity dump (inr p) = not-both (leb (length dump) out-capacity) (leb (length dump) limit) (inr (lt-leb (length dump) limit p))
 
-pub has-it : (room : ℕ) (dump : List ℕ) → has-room room dump ≡ true → (length dump ≤ room) × (length dump ≤ limit)
-unfolding has-room
-has-it room dump e =
-    (leb-true _ _ (both-left (leb (length dump) room) (leb (length dump) limit) e), leb-true _ _ (both-right (leb (length dump) room) (leb (length dump) limit) e))
+pub fits-capacity-bounds : (out-capacity : ℕ) (dump : List ℕ) → fits-capacity out-capacity dump ≡ true → (length dump ≤ out-capacity) × (length dump ≤ limit)
+unfolding fits-capacity
+fits-capacity-bounds out-capacity dump e =
+    (leb-true _ _ (both-left (leb (length dump) out-capacity) (leb (length dump) limit) e), leb-true _ _ (both-right (leb (length dump) out-capacity) (leb (length dump) limit) e))
 
-pub lacks-it : (room : ℕ) (dump : List ℕ) → has-room room dump ≡ false → TooLong room dump
-unfolding has-room
-lacks-it room dump e = by (which (leb (length dump) room) (leb (length dump) limit) e)
+pub fits-capacity-fails : (out-capacity : ℕ) (dump : List ℕ) → fits-capacity out-capacity dump ≡ false → TooLong out-capacity dump
+unfolding fits-capacity
+fits-capacity-fails out-capacity dump e = by (which (leb (length dump) out-capacity) (leb (length dump) limit) e)
   where
-    by : (leb (length dump) room ≡ false) ⊎ (leb (length dump) limit ≡ false) → TooLong room dump
+    by : (leb (length dump) out-capacity ≡ false) ⊎ (leb (length dump) limit ≡ false) → TooLong out-capacity dump
     by (inl p) = inl (leb-false _ _ p)
     by (inr p) = inr (leb-false _ _ p)
 
-module _ (h : Facts) (names refs : List ℕ) (rows : List Row) (room : ℕ) where
+module _ (h : Header) (names refs : List ℕ) (rows : List Row) (out-capacity : ℕ) where
   abbrev dump : List ℕ
   dump = dump-of h names refs rows
 
-  abbrev given : Outcome
-  given = write-rows h names refs rows room
+  abbrev outcome : WriteResult
+  outcome = write-rows h names refs rows out-capacity
 
   -- by the tests, each reply exactly in its case
-  pub by-tests : Exact (good-header h names rows refs) (bad-of h names refs rows) NotFound (has-room room dump) dump given
+  pub write-by-checks : CheckReplies (good-header h names rows refs) (first-bad h names refs rows) NotFound (fits-capacity out-capacity dump) dump outcome
   unfolding write-rows
-  by-tests = exact _ _ _ _ _
+  write-by-checks = check-replies _ _ _ _ _
 
   -- what holds where a dump was written
-  pub said-0 : given .answer .reply ≡ 0 → (AllRight h names refs rows) × (length dump ≤ room) × (length dump ≤ limit) × (given ≡ done dump)
-  said-0 z =
-      let g = by-tests .all-good .0 z in
-      let l = has-it room dump (g .3) in
-      ((g .0, g .1), l .0, l .1, by-tests .written z)
+  pub reply-0-means : outcome .answer .reply ≡ 0 → (TablesGood h names refs rows) × (length dump ≤ out-capacity) × (length dump ≤ limit) × (outcome ≡ done dump)
+  reply-0-means z =
+      let g = write-by-checks .all-good .0 z in
+      let l = fits-capacity-bounds out-capacity dump (g .3) in
+      ((g .0, g .1), l .0, l .1, write-by-checks .written z)
 
 -- ---- asking for the size
 
-twice : (b : Bool) → b ≡ both b b
-twice true = refl
-twice false = refl
+both-self : (b : Bool) → b ≡ both b b
+both-self true = refl
+both-self false = refl
 
-module _ (h : Facts) (names refs : List ℕ) (rows : List Row) where
+module _ (h : Header) (names refs : List ℕ) (rows : List Row) where
   -- by the first two tests
-  pub check-stops : (w : Answer) → w ≡ checked (good-header h names rows refs) (bad-of h names refs rows) → (w .reply ≡ 0 → ⊥) → w ≡ write-rows-size h names refs rows
+  pub check-refusal : (w : Answer) → w ≡ checked-input (good-header h names rows refs) (first-bad h names refs rows) → (w .reply ≡ 0 → ⊥) → w ≡ write-rows-size h names refs rows
   unfolding write-rows-size
-  check-stops w e z = asked-checked _ _ _ _ _ w e z
+  check-refusal w e z = query-refused _ _ _ _ _ w e z
 
   -- by the size limit
-  pub over : AllRight h names refs rows → limit < length (dump-of h names refs rows) → record { reply = 17; place = 0 } ≡ write-rows-size h names refs rows
+  pub size-over-limit : TablesGood h names refs rows → limit < length (dump-of h names refs rows) → record { reply = 17; place = 0 } ≡ write-rows-size h names refs rows
   unfolding write-rows-size
-  over a l = asked-over _ _ _ _ _ (a .0) (a .1) refl (lt-leb _ _ l)
+  size-over-limit a l = query-too-large _ _ _ _ _ (a .0) (a .1) refl (lt-leb _ _ l)
 
-  pub counts : AllRight h names refs rows → length (dump-of h names refs rows) ≤ limit
+  pub size-within-limit : TablesGood h names refs rows → length (dump-of h names refs rows) ≤ limit
       → record { reply = 0; place = length (dump-of h names refs rows) } ≡ write-rows-size h names refs rows
   unfolding write-rows-size
-  counts a l = asked-counts _ _ _ _ _ (a .0) (a .1) refl (le-leb _ _ l)
+  size-within-limit a l = query-size _ _ _ _ _ (a .0) (a .1) refl (le-leb _ _ l)
 
   -- a size query is a write whose output is as long as the size limit
-  pub as-written : write-rows-size h names refs rows ≡ write-rows h names refs rows limit .answer
-  unfolding write-rows write-rows-size has-room
-  as-written =
-      ap (λ b. judged (good-header h names rows refs) (bad-of h names refs rows) NotFound b (dump-of h names refs rows) .answer)
-      (twice (leb (length (dump-of h names refs rows)) limit))
+  pub size-query-as-write : write-rows-size h names refs rows ≡ write-rows h names refs rows limit .answer
+  unfolding write-rows write-rows-size fits-capacity
+  size-query-as-write =
+      ap (λ b. checked-write (good-header h names rows refs) (first-bad h names refs rows) NotFound b (dump-of h names refs rows) .answer)
+      (both-self (leb (length (dump-of h names refs rows)) limit))
 
   -- what it says of a write
-  pub asked-split : (w : Answer) (room : ℕ) → w ≡ write-rows-size h names refs rows → Split w room (write-rows h names refs rows room)
-  unfolding write-rows write-rows-size has-room
-  asked-split w room e = by-asked _ _ _ _ _ w room e
+  pub size-query-agrees : (w : Answer) (out-capacity : ℕ) → w ≡ write-rows-size h names refs rows → QueryAgrees w out-capacity (write-rows h names refs rows out-capacity)
+  unfolding write-rows write-rows-size fits-capacity
+  size-query-agrees w out-capacity e = by-query _ _ _ _ _ w out-capacity e

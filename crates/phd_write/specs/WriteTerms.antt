@@ -1,38 +1,38 @@
--- What the promises about writing speak of, beside `writing` itself.
+-- What the promises about writing speak of, beside `write-result` itself.
 -- A reader must believe these definitions.
 use mathlib.Core.Path.{_≡_}
 use mathlib.Core.Logic.{_⊎_}
 use Prim.Native.Nat.{ℕ, _<_}
 use mathlib.Core.List.{List, [], _∷_, _++_}
 use lib.ListN.{length}
-use Rattle.table.specs.Buffer.{stored}
+use Rattle.table.specs.Buffer.{overwrite}
 use Rattle.table.specs.Rows.{recs}
 use Rattle.table.specs.declared.Answer.{Answer}
 use Rattle.table.specs.declared.Row.{Row}
 use Rattle.phd.specs.Phd.{limit}
-use Rattle.phd.specs.declared.Facts.{Facts}
-use Rattle.phd_write.specs.Write.{put-dump, writing}
+use Rattle.phd.specs.declared.Header.{Header}
+use Rattle.phd_write.specs.Write.{encode-dump, write-result}
 
 -- ---- of rows
 
 -- the bytes of rows, in order, under their header
-abbrev pub dump-of : Facts → (names refs : List ℕ) → List Row → List ℕ
-dump-of h names refs rows = put-dump names h (recs names refs rows)
+abbrev pub dump-of : Header → (names refs : List ℕ) → List Row → List ℕ
+dump-of h names refs rows = encode-dump names h (recs names refs rows)
 
 -- ---- of a call
 
 -- What the contract of `write` says of a call: its answer a, and the output out, which is out′ afterwards.
-pub record AfterWrite (header : Facts) (names refs rows out : List ℕ) (a : Answer) (out′ : List ℕ) : Type 0 where
-  pub is : a ≡ writing header names refs rows (length out) .answer
-  pub output : out′ ≡ stored out (writing header names refs rows (length out) .bytes)
+pub record AfterWrite (header : Header) (names refs rows out : List ℕ) (a : Answer) (out′ : List ℕ) : Type 0 where
+  pub is : a ≡ write-result header names refs rows (length out) .answer
+  pub output : out′ ≡ overwrite out (write-result header names refs rows (length out) .bytes)
 
 -- ---- of a dump
 
 -- it is longer than the room, or than the size limit
 abbrev pub TooLong : ℕ → List ℕ → Type 0
-TooLong room bytes = (room < length bytes) ⊎ (limit < length bytes)
+TooLong out-capacity bytes = (out-capacity < length bytes) ⊎ (limit < length bytes)
 
 -- its last byte is the end tag, 3
-pub record Ends (bytes : List ℕ) : Type 0 where
+pub record EndsWithEndTag (bytes : List ℕ) : Type 0 where
   pub before : List ℕ
   pub all : before ++ (3 ∷ []) ≡ bytes

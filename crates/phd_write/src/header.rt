@@ -2,27 +2,27 @@
 ghost use mathlib.Core.Path.{_≡_};
 ghost use Prim.Native.Nat.{_≤_};
 ghost use lib.ListN.{length};
-ghost use Rattle.encode.specs.Writes.{Puts, Room};
-ghost use Rattle.phd_write.specs.Write.{flag as flagOf, header-flags, put-preamble, put-vm, put-header};
-ghost use Rattle.phd_check.specs.WellFormed.{Vm};
-use decode::Text;
-use phd::Facts;
+ghost use Rattle.encode.specs.Writes.{Writes, HasCapacity};
+ghost use Rattle.phd_write.specs.Write.{flag-value, header-flags, encode-preamble, encode-vm, encode-header};
+ghost use Rattle.phd_check.specs.WellFormed.{VmInBounds};
+use decode::StringSpan;
+use phd::Header;
 
 // How many bytes it has.
-pub fn size(h: Facts, names: &[u8]) -> usize
-    requires { ⌜ Vm (now names) (h .vm) ⌝ }
-    ensures { λ r. ⌜ r ≡ length (put-header (now (names .entry)) h) ⌝ }
+pub fn header_size(h: Header, names: &[u8]) -> usize
+    requires { ⌜ VmInBounds (now names) (h .vm) ⌝ }
+    ensures { λ r. ⌜ r ≡ length (encode-header (now (names .entry)) h) ⌝ }
 {
     let vm = h.vm;
-    if vm.there {
+    if vm.present {
         return 34 + vm.len;
     }
     31
 }
 
 // What a flag adds to the flags: its number if it is set, else 0.
-fn flag(set: bool, n: u64) -> u64
-    ensures is { λ r. ⌜ r ≡ flagOf set n ⌝ }
+fn flag_value(set: bool, n: u64) -> u64
+    ensures is { λ r. ⌜ r ≡ flag-value set n ⌝ }
     ensures most { λ r. ⌜ r ≤ n ⌝ }
 {
     if set {
@@ -32,48 +32,48 @@ fn flag(set: bool, n: u64) -> u64
 }
 
 // Its flags.
-fn flags(h: Facts) -> u64
+fn header_flags(h: Header) -> u64
     ensures { λ r. ⌜ r ≡ header-flags h ⌝ }
 {
-    flag(h.word == 64, 1) + flag(h.hashed, 2) + flag(h.openj9, 4)
+    flag_value(h.bits == 64, 1) + flag_value(h.hashed, 2) + flag_value(h.openj9, 4)
 }
 
 // Writes the opening string, the version, the flags and the byte 1.
-fn put_preamble(out: &mut [u8], flags: u64) -> usize
-    requires { ⌜ Room (now out) 0 (put-preamble flags) ⌝ }
-    ensures { λ r. ⌜ Puts (now (out .entry)) 0 (put-preamble flags) (now (out .exit)) r ⌝ }
+fn encode_preamble(out: &mut [u8], flags: u64) -> usize
+    requires { ⌜ HasCapacity (now out) 0 (encode-preamble flags) ⌝ }
+    ensures { λ r. ⌜ Writes (now (out .entry)) 0 (encode-preamble flags) (now (out .exit)) r ⌝ }
 {
-    let opening = encode::put(out, 0, 2, 18);
-    let version = encode::put_all(out, opening, &phd::magic::OPENING);
-    let bits = encode::put(out, version, 4, 6);
-    let one = encode::put(out, bits, 4, flags);
-    encode::put(out, one, 1, 1)
+    let opening = encode::encode_be(out, 0, 2, 18);
+    let version = encode::encode_bytes(out, opening, &phd::magic::MAGIC);
+    let bits = encode::encode_be(out, version, 4, 6);
+    let one = encode::encode_be(out, bits, 4, flags);
+    encode::encode_be(out, one, 1, 1)
 }
 
 // Writes the VM string's record, if there is one.
-fn put_vm(out: &mut [u8], at: usize, vm: Text, names: &[u8]) -> usize
-    requires { ⌜ Vm (now names) vm ⌝ }
-    requires { ⌜ Room (now out) at (put-vm (now names) vm) ⌝ }
-    ensures { λ r. ⌜ Puts (now (out .entry)) at (put-vm (now (names .entry)) vm) (now (out .exit)) r ⌝ }
+fn encode_vm(out: &mut [u8], at: usize, vm: StringSpan, names: &[u8]) -> usize
+    requires { ⌜ VmInBounds (now names) vm ⌝ }
+    requires { ⌜ HasCapacity (now out) at (encode-vm (now names) vm) ⌝ }
+    ensures { λ r. ⌜ Writes (now (out .entry)) at (encode-vm (now (names .entry)) vm) (now (out .exit)) r ⌝ }
 {
-    if vm.there {
+    if vm.present {
         let place = vm.place;
         let n = vm.len;
-        let len = encode::put(out, at, 1, 4);
-        let text = encode::put(out, len, 2, n as u64);
-        return encode::put_bytes(out, text, names, place, n);
+        let len = encode::encode_be(out, at, 1, 4);
+        let text = encode::encode_be(out, len, 2, n as u64);
+        return encode::encode_slice(out, text, names, place, n);
     }
     at
 }
 
 // Writes the header, and returns the offset after it.
-pub fn put(out: &mut [u8], h: Facts, names: &[u8]) -> usize
-    requires { ⌜ Vm (now names) (h .vm) ⌝ }
-    requires { ⌜ Room (now out) 0 (put-header (now names) h) ⌝ }
-    ensures { λ r. ⌜ Puts (now (out .entry)) 0 (put-header (now (names .entry)) h) (now (out .exit)) r ⌝ }
+pub fn encode_header(out: &mut [u8], h: Header, names: &[u8]) -> usize
+    requires { ⌜ VmInBounds (now names) (h .vm) ⌝ }
+    requires { ⌜ HasCapacity (now out) 0 (encode-header (now names) h) ⌝ }
+    ensures { λ r. ⌜ Writes (now (out .entry)) 0 (encode-header (now (names .entry)) h) (now (out .exit)) r ⌝ }
 {
-    let vm = put_preamble(out, flags(h));
-    let end = put_vm(out, vm, h.vm, names);
-    let body = encode::put(out, end, 1, 2);
-    encode::put(out, body, 1, 2)
+    let vm = encode_preamble(out, header_flags(h));
+    let end = encode_vm(out, vm, h.vm, names);
+    let body = encode::encode_be(out, end, 1, 2);
+    encode::encode_be(out, body, 1, 2)
 }

@@ -12,17 +12,17 @@
 //     rest kept|changed                               the tables behind what each of these readings stored
 //
 // A file that fills the buffer of 4,096 bytes has `too large` in the place of all that.
-use phd_read::Reading;
-use samples_print::say;
-use samples_print::tell;
-use samples_print::tell_reading;
-use samples_print::tell_whole;
-use samples_print::used;
+use phd_read::ReadAnswer;
+use samples_print::print_number;
+use samples_print::print_read;
+use samples_print::print_read_answer;
+use samples_print::print_text;
+use samples_print::used_numbers;
 ghost use Prim.Native.Nat.{_≤_};
 ghost use lib.ListN.{length};
 
 // Room for 48 rows, with five numbers too few for one more, and for 70 references.
-const ROWS: usize = 48 * table::ROW + 5;
+const ROWS: usize = 48 * table::ROW_WIDTH + 5;
 
 const REFS: usize = 70;
 
@@ -31,12 +31,12 @@ const UNTOUCHED: u64 = 0x5EED_5EED_5EED_5EED;
 
 // A reading, and whether it kept the tables behind what it stored.
 struct Trial {
-    reading: Reading,
-    kept: bool,
+    answer: ReadAnswer,
+    unchanged: bool,
 }
 
 // Whether all numbers of a table from an index on are untouched.
-fn kept(table: &[u64], from: usize) -> bool {
+fn is_unchanged(table: &[u64], from: usize) -> bool {
     let mut i = from;
     while i < table.len() {
         if table[i] != UNTOUCHED {
@@ -48,105 +48,106 @@ fn kept(table: &[u64], from: usize) -> bool {
 }
 
 // A reading into untouched tables.
-fn tried(dump: &[u8], rows: &mut [u64], refs: &mut [u64]) -> Trial {
+fn read_into(dump: &[u8], rows: &mut [u64], refs: &mut [u64]) -> Trial {
     let r = phd_read::read(dump, rows, refs);
-    let rest = kept(rows, used(rows, r.rows, table::ROW)) && kept(refs, r.refs);
+    let rest = is_unchanged(rows, used_numbers(rows, r.rows, table::ROW_WIDTH))
+        && is_unchanged(refs, r.refs);
     Trial {
-        reading: r,
-        kept: rest,
+        answer: r,
+        unchanged: rest,
     }
 }
 
 // A reading of the first n bytes, of which only the answer is wanted.
-fn tried_cut(dump: &[u8], n: usize) -> Trial
+fn read_cut(dump: &[u8], n: usize) -> Trial
     requires { ⌜ n ≤ length (now dump) ⌝ }
 {
     let mut rows = [UNTOUCHED; ROWS];
     let mut refs = [UNTOUCHED; REFS];
-    tried(&dump[0..n], &mut rows, &mut refs)
+    read_into(&dump[0..n], &mut rows, &mut refs)
 }
 
 // Whether two readings say the same, but for the missing bytes.
-fn same(a: Reading, b: Reading) -> bool {
-    let f = a.facts;
-    let g = b.facts;
+fn same(a: ReadAnswer, b: ReadAnswer) -> bool {
+    let f = a.header;
+    let g = b.header;
     a.reply == b.reply
         && a.place == b.place
         && a.rows == b.rows
         && a.refs == b.refs
-        && f.word == g.word
+        && f.bits == g.bits
 }
 
-fn tell_cut(n: usize, r: Reading) {
-    tell(b"cut ", n as u64);
-    say(b" ");
-    tell_reading(r);
+fn print_cut(n: usize, r: ReadAnswer) {
+    print_number(b"cut ", n as u64);
+    print_text(b" ");
+    print_read_answer(r);
 }
 
 // The first n bytes, after those of one byte less.
-fn tell_next_cut(dump: &[u8], n: usize, last: Trial) -> Trial
+fn print_next_cut(dump: &[u8], n: usize, last: Trial) -> Trial
     requires { ⌜ n ≤ length (now dump) ⌝ }
 {
-    let t = tried_cut(dump, n);
-    let r = t.reading;
-    if !same(r, last.reading) {
-        tell_cut(n, r);
+    let t = read_cut(dump, n);
+    let r = t.answer;
+    if !same(r, last.answer) {
+        print_cut(n, r);
     }
     Trial {
-        reading: r,
-        kept: t.kept && last.kept,
+        answer: r,
+        unchanged: t.unchanged && last.unchanged,
     }
 }
 
 // Every cut of a dump, and whether all of them kept the rest of the tables.
-fn tell_cuts(dump: &[u8]) -> bool {
-    let mut last = tried_cut(dump, 0);
-    tell_cut(0, last.reading);
+fn print_cuts(dump: &[u8]) -> bool {
+    let mut last = read_cut(dump, 0);
+    print_cut(0, last.answer);
     let mut n: usize = 0;
     while n < dump.len() {
         n += 1;
-        last = tell_next_cut(dump, n, last);
+        last = print_next_cut(dump, n, last);
     }
-    last.kept
+    last.unchanged
 }
 
 // How many bytes are missing of the first n, in lines of 32 such numbers.
-fn tell_lack(dump: &[u8], n: usize)
+fn print_missing_at(dump: &[u8], n: usize)
     requires { ⌜ n ≤ length (now dump) ⌝ }
 {
-    let t = tried_cut(dump, n);
-    let r = t.reading;
+    let t = read_cut(dump, n);
+    let r = t.answer;
     if n % 32 == 0 {
-        say(b"missing");
+        print_text(b"missing");
     }
-    tell(b" ", r.missing as u64);
+    print_number(b" ", r.missing as u64);
     if n % 32 == 31 || n == dump.len() {
-        say(b"\n");
+        print_text(b"\n");
     }
 }
 
 // How many bytes are missing of every cut of a dump.
-fn tell_missing(dump: &[u8]) {
+fn print_missing(dump: &[u8]) {
     let mut n: usize = 0;
     while n < dump.len() {
-        tell_lack(dump, n);
+        print_missing_at(dump, n);
         n += 1;
     }
-    tell_lack(dump, dump.len());
+    print_missing_at(dump, dump.len());
 }
 
 fn show(dump: &[u8]) {
     let mut rows = [UNTOUCHED; ROWS];
     let mut refs = [UNTOUCHED; REFS];
-    let t = tried(dump, &mut rows, &mut refs);
-    let r = t.reading;
-    tell_whole(r, &rows, &refs);
-    let rest = tell_cuts(dump) && t.kept;
-    tell_missing(dump);
+    let t = read_into(dump, &mut rows, &mut refs);
+    let r = t.answer;
+    print_read(r, &rows, &refs);
+    let rest = print_cuts(dump) && t.unchanged;
+    print_missing(dump);
     if rest {
-        say(b"rest kept\n");
+        print_text(b"rest kept\n");
     } else {
-        say(b"rest changed\n");
+        print_text(b"rest changed\n");
     }
 }
 
@@ -159,10 +160,10 @@ fn sample(name: &[u8]) {
     let mut dump = io::buffer();
     let n = io::read_full(fd, &mut dump);
     libc::close(fd);
-    say(name);
-    say(b"\n");
+    print_text(name);
+    print_text(b"\n");
     if 4096 <= n {
-        say(b"too large\n");
+        print_text(b"too large\n");
         return;
     }
     show(&dump[..n]);

@@ -9,80 +9,80 @@ use native.Mathlib.Decide.{decLe}
 use mathlib.Core.Logic.{_⊎_, inl, inr}
 use mathlib.Core.List.{List, _++_}
 use lib.ListN.{length, length-append}
-use Rattle.decode.specs.Layout.{Outcome, whole, stops, run, inside}
+use Rattle.decode.specs.Layout.{Outcome, whole, stops, run, end-in-bounds}
 use Rattle.decode.specs.Values.{Refuses}
 use Rattle.table.specs.Table.{row-width, row-count}
-use Rattle.reader.specs.Reader.{Capacity, over, item, Format, ItemOf, State, Next, ended, onto, found, step, first, nothing, reading}
-use Rattle.reader.specs.Steps.{Lawful, Either, step-end, step-stop, step-item, step-no-row, step-no-refs, step-by, reading-holds}
-use Rattle.reader.specs.WithinCapacity.{whole-on, stop-reply}
+use Rattle.reader.specs.Reader.{Capacity, end-item, item, Format, ItemOf, State, Transition, ended, append-item, next-item, step, initial-state, no-records, read-result}
+use Rattle.reader.specs.Steps.{Lawful, OnTransition, step-end, step-stop, step-item, step-no-row, step-no-refs, step-cases, read-induction}
+use Rattle.reader.specs.WithinCapacity.{whole-rows-append, stop-reply}
 
--- The header has `opening` bytes at least, and a record `each` for its row, if it has one, and one for each of its references.
-pub record LeastBytes (D : Format) (opening each : ℕ) : Type 0 where
-  pub header : (s : List ℕ) (h : D .Facts) (n : ℕ) → run (D .header) s 0 ≡ whole h n → opening ≤ n
-  pub entry : (h : D .Facts) (c : D .Context) (index : ℕ) (s : List ℕ) (at : ℕ) (r rs : List ℕ) (m : D .Note) (k : D .Context) (e : ℕ)
-      → run (D .entry h c index) s at ≡ whole (item r rs m k) e → at + (row-count r * each + length rs) ≤ e
+-- The header has `magic` bytes at least, and a record `each` for its row, if it has one, and one for each of its references.
+pub record LeastBytes (D : Format) (min-header min-record : ℕ) : Type 0 where
+  pub header : (s : List ℕ) (h : D .Header) (n : ℕ) → run (D .header) s 0 ≡ whole h n → min-header ≤ n
+  pub entry : (h : D .Header) (c : D .Context) (index : ℕ) (s : List ℕ) (at : ℕ) (r rs : List ℕ) (m : D .Note) (k : D .Context) (e : ℕ)
+      → run (D .entry h c index) s at ≡ whole (item r rs m k) e → at + (row-count r * min-record + length rs) ≤ e
 
 -- the rows of a table and of what is appended to whole rows
-rows-more : (rows r : List ℕ) → length rows % row-width ≡ 0 → row-count (rows ++ r) ≡ row-count rows + row-count r
+row-count-append : (rows r : List ℕ) → length rows % row-width ≡ 0 → row-count (rows ++ r) ≡ row-count rows + row-count r
 unfolding row-count
-rows-more rows r w = simp length-append (omega arith)
+row-count-append rows r w = simp length-append (omega arith)
 
-module _ (D : Format) (lawful : Lawful D) (opening each : ℕ) (least : LeastBytes D opening each) (s : List ℕ) (A : Capacity) where
+module _ (D : Format) (lawful : Lawful D) (min-header min-record : ℕ) (least : LeastBytes D min-header min-record) (s : List ℕ) (A : Capacity) where
   -- between records: what the tables hold has its bytes before the place reached
   record BytesBefore (st : State D) : Type 0 where
     pub whole-rows : length (st .rows) % row-width ≡ 0
-    pub bytes : opening + (row-count (st .rows) * each + length (st .refs)) ≤ st .at
+    pub bytes : min-header + (row-count (st .rows) * min-record + length (st .refs)) ≤ st .at
     pub within : st .at ≤ length s
 
-  begun : (h : D .Facts) (n : ℕ) → run (D .header) s 0 ≡ whole h n → BytesBefore (first D (D .start h) n)
-  unfolding first row-count
-  begun h n e =
+  bytes-before-start : (h : D .Header) (n : ℕ) → run (D .header) s 0 ≡ whole h n → BytesBefore (initial-state D (D .start h) n)
+  unfolding initial-state row-count
+  bytes-before-start h n e =
       let l = least .header s h n e in
-      record { whole-rows = refl; bytes = omega arith; within = inside (D .header) s 0 h n (omega arith) e }
+      record { whole-rows = refl; bytes = omega arith; within = end-in-bounds (D .header) s 0 h n (omega arith) e }
 
   -- a record more
-  module _ (h : D .Facts) (st : State D) (g : BytesBefore st) (r rs : List ℕ) (m : D .Note) (c : D .Context) (n : ℕ)
-      (e : found D h s st ≡ whole (item r rs m c) n) where
-    going-on : BytesBefore (onto st r rs c n)
-    going-on =
+  module _ (h : D .Header) (st : State D) (g : BytesBefore st) (r rs : List ℕ) (m : D .Note) (c : D .Context) (n : ℕ)
+      (e : next-item D h s st ≡ whole (item r rs m c) n) where
+    bytes-before-next : BytesBefore (append-item st r rs c n)
+    bytes-before-next =
         let l = least .entry h (st .context) (length (st .refs)) s (st .at) r rs m c n e in
-        let p = lawful .forth h (st .context) (length (st .refs)) s (st .at) _ n e in
-        let k : row-count (st .rows ++ r) * each ≡ row-count (st .rows) * each + row-count r * each =
-        rw (rows-more (st .rows) r (g .whole-rows), add-mul) in
+        let p = lawful .advances h (st .context) (length (st .refs)) s (st .at) _ n e in
+        let k : row-count (st .rows ++ r) * min-record ≡ row-count (st .rows) * min-record + row-count r * min-record =
+        rw (row-count-append (st .rows) r (g .whole-rows), add-mul) in
         record {
-          whole-rows = whole-on (st .rows) r (g .whole-rows) (lawful .row h (st .context) (length (st .refs)) s (st .at) r rs m c n e);
+          whole-rows = whole-rows-append (st .rows) r (g .whole-rows) (lawful .row h (st .context) (length (st .refs)) s (st .at) r rs m c n e);
           bytes = simp length-append (omega (arith, g .bytes));
           within = p .1;
         }
 
   -- What a reading stores has its bytes in the dump, after the header's.
-  pub most-stored : row-count (reading D s A .rows) * each + length (reading D s A .refs) ≤ length s - opening
-  unfolding ended nothing row-count
-  most-stored =
-      reading-holds D s A (λ h st. BytesBefore st) (λ r. row-count (r .rows) * each + length (r .refs) ≤ length s - opening)
-      (omega arith) (λ w e. omega arith) begun
-      (λ h st g. step-by D (Either BytesBefore (λ r. row-count (r .rows) * each + length (r .refs) ≤ length s - opening)) h s A st
-      (λ n e. held st g) (λ r rs m c n e p q. going-on h st g r rs m c n e) (held st g) (held st g) (λ w e. held st g))
+  pub stored-bound : row-count (read-result D s A .rows) * min-record + length (read-result D s A .refs) ≤ length s - min-header
+  unfolding ended no-records row-count
+  stored-bound =
+      read-induction D s A (λ h st. BytesBefore st) (λ r. row-count (r .rows) * min-record + length (r .refs) ≤ length s - min-header)
+      (omega arith) (λ w e. omega arith) bytes-before-start
+      (λ h st g. step-cases D (OnTransition BytesBefore (λ r. row-count (r .rows) * min-record + length (r .refs) ≤ length s - min-header)) h s A st
+      (λ n e. held st g) (λ r rs m c n e p q. bytes-before-next h st g r rs m c n e) (held st g) (held st g) (λ w e. held st g))
       (λ h st g. held st g)
     where
-      held : (st : State D) → BytesBefore st → row-count (st .rows) * each + length (st .refs) ≤ length s - opening
+      held : (st : State D) → BytesBefore st → row-count (st .rows) * min-record + length (st .refs) ≤ length s - min-header
       held st g = omega (arith, g .bytes, g .within)
 
   -- ---- enough capacity
 
   -- a row for as many as the dump can give, and a number for each reference that it can give
   abbrev pub RowsEnough : Type 0
-  RowsEnough = (length s - opening) / each * row-width ≤ A .rows
+  RowsEnough = (length s - min-header) / min-record * row-width ≤ A .rows
 
   abbrev pub RefsEnough : Type 0
-  RefsEnough = length s - opening ≤ A .refs
+  RefsEnough = length s - min-header ≤ A .refs
 
-  module _ (some : 0 < each) (st : State D) (g : BytesBefore st) where
+  module _ (some : 0 < min-record) (st : State D) (g : BytesBefore st) where
     -- whole rows, and references, with their bytes in the dump fit
     rows-fit : RowsEnough → length (st .rows) ≤ A .rows
     unfolding row-count
     rows-fit h =
-        let l : row-count (st .rows) ≤ (length s - opening) / each = le-div-iff-mul-le some .1 (omega (arith, g .bytes, g .within)) in
+        let l : row-count (st .rows) ≤ (length s - min-header) / min-record = le-div-iff-mul-le some .1 (omega (arith, g .bytes, g .within)) in
         omega (arith, g .whole-rows, l)
 
     refs-fit : RefsEnough → length (st .refs) ≤ A .refs
@@ -90,27 +90,27 @@ module _ (D : Format) (lawful : Lawful D) (opening each : ℕ) (least : LeastByt
 
   -- Whatever holds of 0, 1, 2 and the replies that the format's layouts refuse with holds of a reading's reply: if it holds of 13, or
   -- there are rows enough, and if it holds of 14, or there is enough for references.
-  module _ (some : 0 < each) (P : ℕ → Type 0) (done : P 0) (cut : P 1) (long : P 2) (head : Refuses P (D .header))
-      (body : (h : D .Facts) (c : D .Context) (index : ℕ) → Refuses P (D .entry h c index)) (rows : RowsEnough ⊎ P 13) (refs : RefsEnough ⊎ P 14) where
-    abbrev Goes : Next D → Type 0
-    Goes = Either BytesBefore (λ r. P (r .reply))
+  module _ (some : 0 < min-record) (P : ℕ → Type 0) (done : P 0) (cut : P 1) (long : P 2) (head : Refuses P (D .header))
+      (body : (h : D .Header) (c : D .Context) (index : ℕ) → Refuses P (D .entry h c index)) (rows : RowsEnough ⊎ P 13) (refs : RefsEnough ⊎ P 14) where
+    abbrev BytesOrReply : Transition D → Type 0
+    BytesOrReply = OnTransition BytesBefore (λ r. P (r .reply))
 
-    module _ (h : D .Facts) (st : State D) (g : BytesBefore st) (r rs : List ℕ) (m : D .Note) (c : D .Context) (n : ℕ)
-        (e : found D h s st ≡ whole (item r rs m c) n) where
-      on : BytesBefore (onto st r rs c n)
-      on = going-on h st g r rs m c n e
+    module _ (h : D .Header) (st : State D) (g : BytesBefore st) (r rs : List ℕ) (m : D .Note) (c : D .Context) (n : ℕ)
+        (e : next-item D h s st ≡ whole (item r rs m c) n) where
+      on : BytesBefore (append-item st r rs c n)
+      on = bytes-before-next h st g r rs m c n e
 
-      by-rows : A .rows < length (st .rows) + length r → RowsEnough ⊎ P 13 → Goes (step D h s A st)
+      by-rows : A .rows < length (st .rows) + length r → RowsEnough ⊎ P 13 → BytesOrReply (step D h s A st)
       unfolding ended
       by-rows p (inl l) = absurd (let k : length (st .rows) + length r ≤ A .rows = rw length-append at (rows-fit some _ on l) in omega arith)
       by-rows p (inr x) = rw (step-no-row D h s A st r rs m c n e p) x
 
-      by-refs : length (st .rows) + length r ≤ A .rows → A .refs < length (st .refs) + length rs → RefsEnough ⊎ P 14 → Goes (step D h s A st)
+      by-refs : length (st .rows) + length r ≤ A .rows → A .refs < length (st .refs) + length rs → RefsEnough ⊎ P 14 → BytesOrReply (step D h s A st)
       unfolding ended
       by-refs p q (inl l) = absurd (let k : length (st .refs) + length rs ≤ A .refs = rw length-append at (refs-fit some _ on l) in omega arith)
       by-refs p q (inr x) = rw (step-no-refs D h s A st r rs m c n e p q) x
 
-      by-item : Goes (step D h s A st)
+      by-item : BytesOrReply (step D h s A st)
       by-item = elim (decLe (length (st .rows) + length r) (A .rows)) [
         | no p ↦ by-rows (omega arith) rows
         | yes p ↦ elim (decLe (length (st .refs) + length rs) (A .refs)) [
@@ -119,15 +119,15 @@ module _ (D : Format) (lawful : Lawful D) (opening each : ℕ) (least : LeastByt
         ]
       ]
 
-    by-found : (h : D .Facts) (st : State D) (g : BytesBefore st) (o : Outcome (ItemOf D)) → found D h s st ≡ o → Goes (step D h s A st)
+    by-outcome : (h : D .Header) (st : State D) (g : BytesBefore st) (o : Outcome (ItemOf D)) → next-item D h s st ≡ o → BytesOrReply (step D h s A st)
     unfolding ended
-    by-found h st g (whole over n) e = rw (step-end D h s A st n e) done
-    by-found h st g (whole (item r rs m c) n) e = by-item h st g r rs m c n e
-    by-found h st g (stops w) e = rw (step-stop D h s A st w e) (stop-reply (D .entry h (st .context) (length (st .refs))) cut (body h _ _) s (st .at) w e)
+    by-outcome h st g (whole end-item n) e = rw (step-end D h s A st n e) done
+    by-outcome h st g (whole (item r rs m c) n) e = by-item h st g r rs m c n e
+    by-outcome h st g (stops w) e = rw (step-stop D h s A st w e) (stop-reply (D .entry h (st .context) (length (st .refs))) cut (body h _ _) s (st .at) w e)
 
-    pub never-full : P (reading D s A .reply)
-    unfolding ended nothing
-    never-full =
-        reading-holds D s A (λ h st. BytesBefore st) (λ r. P (r .reply)) long (λ w e. stop-reply (D .header) cut head s 0 w e) begun
-        (λ h st g. by-found h st g (found D h s st) refl)
+    pub reply-when-enough : P (read-result D s A .reply)
+    unfolding ended no-records
+    reply-when-enough =
+        read-induction D s A (λ h st. BytesBefore st) (λ r. P (r .reply)) long (λ w e. stop-reply (D .header) cut head s 0 w e) bytes-before-start
+        (λ h st g. by-outcome h st g (next-item D h s st) refl)
         (λ h st g. done)

@@ -1,6 +1,6 @@
 -- Where a stored row came from, of any format: its offset is the place of a record, reading one record there, from the state
 -- before it, gives that row, and the offsets grow strictly.
--- A reader must believe `offset-of`, `After`, `CameFrom` and `Traced`.
+-- A reader must believe `offset-of`, `StateAfter`, `RowOrigin` and `AllRowOrigins`.
 use mathlib.Core.Path.{_≡_, refl, sym, ap, subst, _∙_}
 use Prim.Native.Nat.{ℕ, zero, suc, _+_, _-_, _*_, _%_, _≤_, _<_}
 use native.Mathlib.Nat.{zero-add, suc-add}
@@ -9,32 +9,32 @@ use native.Mathlib.Omega.{arith}
 use mathlib.Core.List.{List, [], _∷_, _++_, append-nil}
 use lib.ListN.{length, getD, take, length-append}
 use lib.Seq.{take-append-le, take-at, length-take-le}
-use Rattle.decode.specs.Layout.{whole, run, inside}
-use Rattle.table.specs.Table.{row-width, offset-number, row-count, row-of, number, whole-more, seam, row-before, number-before, row-last, number-last, every-row}
-use Rattle.reader.specs.Reader.{Capacity, item, Format, ItemOf, State, Result, Next, go, halt, ended, onto, found, step, first, nothing, reading}
-use Rattle.reader.specs.Prefixes.{Begins, begins-more}
-use Rattle.reader.specs.Steps.{Rowed, rowless, rowed, Lawful, step-item, step-by, Onward, step-onward, Either, reading-holds}
+use Rattle.decode.specs.Layout.{whole, run, end-in-bounds}
+use Rattle.table.specs.Table.{row-width, offset-number, row-count, row-slice, number, whole-append, whole-length, row-slice-append, number-append, row-slice-last, number-last, every-row-snoc}
+use Rattle.reader.specs.Reader.{Capacity, item, Format, ItemOf, State, Result, Transition, go, halt, ended, append-item, next-item, step, initial-state, no-records, read-result}
+use Rattle.reader.specs.Prefixes.{Prefix, prefix-append}
+use Rattle.reader.specs.Steps.{ValidRow, empty-row, full-row, Lawful, step-item, step-cases, Advances, step-advances, OnTransition, read-induction}
 
 -- the offset of the row number i
 abbrev pub offset-of : List ℕ → ℕ → ℕ
 offset-of rows i = number rows i offset-number
 
 -- the state after i records, the first record being at n
-abbrev pub After : (D : Format) → D .Facts → List ℕ → (A : Capacity) (n i : ℕ) → State D → Type 0
-After D h s A n zero st = st ≡ first D (D .start h) n
-After D h s A n (suc i) st = (before : State D) × (After D h s A n i before) × (step D h s A before ≡ go st)
+abbrev pub StateAfter : (D : Format) → D .Header → List ℕ → (A : Capacity) (n i : ℕ) → State D → Type 0
+StateAfter D h s A n zero st = st ≡ initial-state D (D .start h) n
+StateAfter D h s A n (suc i) st = (before : State D) × (StateAfter D h s A n i before) × (step D h s A before ≡ go st)
 
 -- Where the row number i came from, of the tables of capacity A that a reading of s fills.
-pub record CameFrom (D : Format) (h : D .Facts) (s : List ℕ) (A : Capacity) (rows refs : List ℕ) (i : ℕ) : Type 0 where
+pub record RowOrigin (D : Format) (h : D .Header) (s : List ℕ) (A : Capacity) (rows refs : List ℕ) (i : ℕ) : Type 0 where
   -- the header is whole, and the first record is after it
   pub start : ℕ
-  pub opens : run (D .header) s 0 ≡ whole h start
+  pub header-whole : run (D .header) s 0 ≡ whole h start
   -- the state before the row's record, after so many records: the tables hold the rows before, and their references
   pub count : ℕ
   pub before : State D
-  pub reached : After D h s A start count before
+  pub reached : StateAfter D h s A start count before
   pub rows-before : before .rows ≡ take (i * row-width) rows
-  pub refs-before : Begins (before .refs) refs
+  pub refs-before : Prefix (before .refs) refs
   -- the offset is the place of the record
   pub offset : offset-of rows i ≡ before .at
   -- reading one record there, from that state, gives the row
@@ -42,56 +42,56 @@ pub record CameFrom (D : Format) (h : D .Facts) (s : List ℕ) (A : Capacity) (r
   pub note : D .Note
   pub context : D .Context
   pub end : ℕ
-  pub gives : found D h s before ≡ whole (item (row-of rows i) list note context) end
+  pub item-is : next-item D h s before ≡ whole (item (row-slice rows i) list note context) end
 
 -- What holds of the offsets that a reading of s stores.
-pub record Traced (D : Format) (s : List ℕ) (A : Capacity) (r : Result D) : Type 0 where
-  pub each : (i : ℕ) → i < row-count (r .rows) → CameFrom D (r .facts) s A (r .rows) (r .refs) i
+pub record AllRowOrigins (D : Format) (s : List ℕ) (A : Capacity) (r : Result D) : Type 0 where
+  pub each : (i : ℕ) → i < row-count (r .rows) → RowOrigin D (r .header) s A (r .rows) (r .refs) i
   -- they lie within the dump, and grow strictly
   pub inside : (i : ℕ) → i < row-count (r .rows) → offset-of (r .rows) i < length s
-  pub grow : (i j : ℕ) → i < j → j < row-count (r .rows) → offset-of (r .rows) i < offset-of (r .rows) j
+  pub increasing : (i j : ℕ) → i < j → j < row-count (r .rows) → offset-of (r .rows) i < offset-of (r .rows) j
 
 -- ---- one record more
 
 -- what holds between records: of the tables, and of the state
-record Rows (D : Format) (h : D .Facts) (s : List ℕ) (A : Capacity) (at : ℕ) (rows refs : List ℕ) : Type 0 where
+record OriginRows (D : Format) (h : D .Header) (s : List ℕ) (A : Capacity) (at : ℕ) (rows refs : List ℕ) : Type 0 where
   pub whole-rows : length rows % row-width ≡ 0
-  pub each : (i : ℕ) → i < row-count rows → CameFrom D h s A rows refs i
-  pub behind : (i : ℕ) → i < row-count rows → offset-of rows i < at
-  pub grow : (i j : ℕ) → i < j → j < row-count rows → offset-of rows i < offset-of rows j
+  pub each : (i : ℕ) → i < row-count rows → RowOrigin D h s A rows refs i
+  pub offset-lt : (i : ℕ) → i < row-count rows → offset-of rows i < at
+  pub increasing : (i j : ℕ) → i < j → j < row-count rows → offset-of rows i < offset-of rows j
 
-record Going (D : Format) (h : D .Facts) (s : List ℕ) (A : Capacity) (st : State D) : Type 0 where
+record OriginState (D : Format) (h : D .Header) (s : List ℕ) (A : Capacity) (st : State D) : Type 0 where
   pub start : ℕ
-  pub opens : run (D .header) s 0 ≡ whole h start
+  pub header-whole : run (D .header) s 0 ≡ whole h start
   pub count : ℕ
-  pub here : After D h s A start count st
+  pub here : StateAfter D h s A start count st
   pub within : st .at ≤ length s
-  pub rows : Rows D h s A (st .at) (st .rows) (st .refs)
+  pub rows : OriginRows D h s A (st .at) (st .rows) (st .refs)
 
-module _ (D : Format) (lawful : Lawful D) (h : D .Facts) (s : List ℕ) (A : Capacity) where
-  begun : (n : ℕ) → run (D .header) s 0 ≡ whole h n → Going D h s A (first D (D .start h) n)
-  unfolding first row-count
-  begun n e = record {
+module _ (D : Format) (lawful : Lawful D) (h : D .Header) (s : List ℕ) (A : Capacity) where
+  origin-start : (n : ℕ) → run (D .header) s 0 ≡ whole h n → OriginState D h s A (initial-state D (D .start h) n)
+  unfolding initial-state row-count
+  origin-start n e = record {
     start = n;
-    opens = e;
+    header-whole = e;
     count = 0;
     here = refl;
-    within = inside (D .header) s 0 h n (omega arith) e;
+    within = end-in-bounds (D .header) s 0 h n (omega arith) e;
     rows = record {
       whole-rows = refl;
       each = λ i l. absurd (omega arith);
-      behind = λ i l. absurd (omega arith);
-      grow = λ i j l k. absurd (omega arith);
+      offset-lt = λ i l. absurd (omega arith);
+      increasing = λ i j l k. absurd (omega arith);
     };
   }
 
-  ends : (st : State D) (reply place missing : ℕ) → Going D h s A st → Traced D s A (ended h st reply place missing)
+  origin-end : (st : State D) (reply place missing : ℕ) → OriginState D h s A st → AllRowOrigins D s A (ended h st reply place missing)
   unfolding ended
-  ends st reply place missing g =
-      record { each = g .rows .each; inside = λ i l. omega (arith, g .rows .behind i l, g .within); grow = g .rows .grow }
+  origin-end st reply place missing g =
+      record { each = g .rows .each; inside = λ i l. omega (arith, g .rows .offset-lt i l, g .within); increasing = g .rows .increasing }
 
-  module _ (st : State D) (g : Going D h s A st) (r rs : List ℕ) (m : D .Note) (c : D .Context) (n : ℕ)
-      (e : found D h s st ≡ whole (item r rs m c) n)
+  module _ (st : State D) (g : OriginState D h s A st) (r rs : List ℕ) (m : D .Note) (c : D .Context) (n : ℕ)
+      (e : next-item D h s st ≡ whole (item r rs m c) n)
       (p : length (st .rows) + length r ≤ A .rows) (q : length (st .refs) + length rs ≤ A .refs) where
     abbrev rows : List ℕ
     rows = st .rows
@@ -99,259 +99,259 @@ module _ (D : Format) (lawful : Lawful D) (h : D .Facts) (s : List ℕ) (A : Cap
     w : length rows % row-width ≡ 0
     w = g .rows .whole-rows
 
-    forth : (st .at < n) × (n ≤ length s)
-    forth = lawful .forth h (st .context) (length (st .refs)) s (st .at) _ n e
+    in-dump : (st .at < n) × (n ≤ length s)
+    in-dump = lawful .advances h (st .context) (length (st .refs)) s (st .at) _ n e
 
     -- a record with no row: the rows keep where they came from
-    rows-kept : Rows D h s A n rows (st .refs ++ rs)
-    rows-kept = record {
+    origin-rows-no-row : OriginRows D h s A n rows (st .refs ++ rs)
+    origin-rows-no-row = record {
       whole-rows = w;
       each = λ i b. let x = g .rows .each i b in record {
         start = x .start;
-        opens = x .opens;
+        header-whole = x .header-whole;
         count = x .count;
         before = x .before;
         reached = x .reached;
         rows-before = x .rows-before;
-        refs-before = begins-more (x .refs-before) rs;
+        refs-before = prefix-append (x .refs-before) rs;
         offset = x .offset;
         list = x .list;
         note = x .note;
         context = x .context;
         end = x .end;
-        gives = x .gives;
+        item-is = x .item-is;
       };
-      behind = λ i b. omega (arith, g .rows .behind i b, forth .0);
-      grow = g .rows .grow;
+      offset-lt = λ i b. omega (arith, g .rows .offset-lt i b, in-dump .0);
+      increasing = g .rows .increasing;
     }
 
     -- a record with a row
     module _ (l : length r ≡ row-width) (o : getD r offset-number 0 ≡ st .at) where
-      earlier : (i : ℕ) → i < row-count rows → offset-of (rows ++ r) i ≡ offset-of rows i
-      earlier i b = number-before rows r w l i offset-number b (omega arith)
+      offset-append : (i : ℕ) → i < row-count rows → offset-of (rows ++ r) i ≡ offset-of rows i
+      offset-append i b = number-append rows r w l i offset-number b (omega arith)
 
-      here-is : offset-of (rows ++ r) (row-count rows) ≡ st .at
-      here-is = number-last rows r w l offset-number ∙ o
+      offset-last : offset-of (rows ++ r) (row-count rows) ≡ st .at
+      offset-last = number-last rows r w l offset-number ∙ o
 
       -- the rows before keep where they came from, and the last came from here
-      kept : (i : ℕ) → i < row-count rows → CameFrom D h s A (rows ++ r) (st .refs ++ rs) i
-      kept i b =
+      origin-append : (i : ℕ) → i < row-count rows → RowOrigin D h s A (rows ++ r) (st .refs ++ rs) i
+      origin-append i b =
           let x = g .rows .each i b in
           record {
             start = x .start;
-            opens = x .opens;
+            header-whole = x .header-whole;
             count = x .count;
             before = x .before;
             reached = x .reached;
-            rows-before = x .rows-before ∙ sym (take-append-le (i * row-width) rows r (omega (arith, seam rows r w l)));
-            refs-before = begins-more (x .refs-before) rs;
-            offset = earlier i b ∙ x .offset;
+            rows-before = x .rows-before ∙ sym (take-append-le (i * row-width) rows r (omega (arith, whole-length rows r w l)));
+            refs-before = prefix-append (x .refs-before) rs;
+            offset = offset-append i b ∙ x .offset;
             list = x .list;
             note = x .note;
             context = x .context;
             end = x .end;
-            gives = rw (row-before rows r w l i b) (x .gives);
+            item-is = rw (row-slice-append rows r w l i b) (x .item-is);
           }
 
-      last : CameFrom D h s A (rows ++ r) (st .refs ++ rs) (row-count rows)
-      last = record {
+      origin-last : RowOrigin D h s A (rows ++ r) (st .refs ++ rs) (row-count rows)
+      origin-last = record {
         start = g .start;
-        opens = g .opens;
+        header-whole = g .header-whole;
         count = g .count;
         before = st;
         reached = g .here;
-        rows-before = sym (take-at rows r (row-count rows * row-width) (seam rows r w l));
+        rows-before = sym (take-at rows r (row-count rows * row-width) (whole-length rows r w l));
         refs-before = record { more = rs; all = refl };
-        offset = here-is;
+        offset = offset-last;
         list = rs;
         note = m;
         context = c;
         end = n;
-        gives = rw (row-last rows r w l) e;
+        item-is = rw (row-slice-last rows r w l) e;
       }
 
-      rows-more : Rows D h s A n (rows ++ r) (st .refs ++ rs)
-      rows-more = record {
-        whole-rows = whole-more rows r w l;
-        each = every-row rows r w l (CameFrom D h s A (rows ++ r) (st .refs ++ rs)) kept last;
-        behind = every-row rows r w l (λ i. offset-of (rows ++ r) i < n)
-            (λ i b. rw (earlier i b) (omega (arith, g .rows .behind i b, forth .0)))
-            (rw here-is (forth .0));
-        grow = λ i j b k. every-row rows r w l (λ j. (i : ℕ) → i < j → offset-of (rows ++ r) i < offset-of (rows ++ r) j)
-            (λ j k i b. rw (earlier i (omega arith), earlier j k) (g .rows .grow i j b k))
-            (λ i b. rw (earlier i b, here-is) (g .rows .behind i b)) j k i b;
+      origin-rows-row : OriginRows D h s A n (rows ++ r) (st .refs ++ rs)
+      origin-rows-row = record {
+        whole-rows = whole-append rows r w l;
+        each = every-row-snoc rows r w l (RowOrigin D h s A (rows ++ r) (st .refs ++ rs)) origin-append origin-last;
+        offset-lt = every-row-snoc rows r w l (λ i. offset-of (rows ++ r) i < n)
+            (λ i b. rw (offset-append i b) (omega (arith, g .rows .offset-lt i b, in-dump .0)))
+            (rw offset-last (in-dump .0));
+        increasing = λ i j b k. every-row-snoc rows r w l (λ j. (i : ℕ) → i < j → offset-of (rows ++ r) i < offset-of (rows ++ r) j)
+            (λ j k i b. rw (offset-append i (omega arith), offset-append j k) (g .rows .increasing i j b k))
+            (λ i b. rw (offset-append i b, offset-last) (g .rows .offset-lt i b)) j k i b;
       }
 
-    rows-on : Rowed (st .at) r → Rows D h s A n (rows ++ r) (st .refs ++ rs)
-    rows-on (rowless z) = rw (no-row r z, append-nil) rows-kept
+    origin-rows-next : ValidRow (st .at) r → OriginRows D h s A n (rows ++ r) (st .refs ++ rs)
+    origin-rows-next (empty-row z) = rw (no-row r z, append-nil) origin-rows-no-row
       where
         no-row : (r : List ℕ) → length r ≡ 0 → r ≡ []
         no-row [] z = refl
         no-row (x ∷ xs) z = absurd (omega arith)
-    rows-on (rowed l o) = rows-more l o
+    origin-rows-next (full-row l o) = origin-rows-row l o
 
-    going-on : Going D h s A (onto st r rs c n)
-    going-on = record {
+    origin-next : OriginState D h s A (append-item st r rs c n)
+    origin-next = record {
       start = g .start;
-      opens = g .opens;
+      header-whole = g .header-whole;
       count = suc (g .count);
       here = (st, g .here, step-item D h s A st r rs m c n e p q);
-      within = forth .1;
-      rows = rows-on (lawful .row h (st .context) (length (st .refs)) s (st .at) r rs m c n e);
+      within = in-dump .1;
+      rows = origin-rows-next (lawful .row h (st .context) (length (st .refs)) s (st .at) r rs m c n e);
     }
 
 -- ---- the whole reading
 
-traced-none : (D : Format) (s : List ℕ) (A : Capacity) (reply missing : ℕ) → Traced D s A (nothing D reply missing)
-unfolding nothing row-count
-traced-none D s A reply missing =
-    record { each = λ i l. absurd (omega arith); inside = λ i l. absurd (omega arith); grow = λ i j l k. absurd (omega arith) }
+row-origins-none : (D : Format) (s : List ℕ) (A : Capacity) (reply missing : ℕ) → AllRowOrigins D s A (no-records D reply missing)
+unfolding no-records row-count
+row-origins-none D s A reply missing =
+    record { each = λ i l. absurd (omega arith); inside = λ i l. absurd (omega arith); increasing = λ i j l k. absurd (omega arith) }
 
 -- So it is of any bytes, and any tables.
-pub reading-traced : (D : Format) → Lawful D → (s : List ℕ) (A : Capacity) → Traced D s A (reading D s A)
-reading-traced D lawful s A =
-    reading-holds D s A (λ h st. Going D h s A st) (Traced D s A)
-    (traced-none D s A 2 0)
-    (λ w e. traced-none D s A _ _)
-    (λ h n e. begun D lawful h s A n e)
-    (λ h st g. step-by D (Either (Going D h s A) (Traced D s A)) h s A st
-    (λ n e. ends D lawful h s A st 0 n 0 g)
-    (going-on D lawful h s A st g)
-    (ends D lawful h s A st 13 (st .at) 0 g)
-    (ends D lawful h s A st 14 (st .at) 0 g)
-    (λ w e. ends D lawful h s A st _ (st .at) _ g))
-    (λ h st g. ends D lawful h s A st 0 (st .at) 0 g)
+pub read-row-origins : (D : Format) → Lawful D → (s : List ℕ) (A : Capacity) → AllRowOrigins D s A (read-result D s A)
+read-row-origins D lawful s A =
+    read-induction D s A (λ h st. OriginState D h s A st) (AllRowOrigins D s A)
+    (row-origins-none D s A 2 0)
+    (λ w e. row-origins-none D s A _ _)
+    (λ h n e. origin-start D lawful h s A n e)
+    (λ h st g. step-cases D (OnTransition (OriginState D h s A) (AllRowOrigins D s A)) h s A st
+    (λ n e. origin-end D lawful h s A st 0 n 0 g)
+    (origin-next D lawful h s A st g)
+    (origin-end D lawful h s A st 13 (st .at) 0 g)
+    (origin-end D lawful h s A st 14 (st .at) 0 g)
+    (λ w e. origin-end D lawful h s A st _ (st .at) _ g))
+    (λ h st g. origin-end D lawful h s A st 0 (st .at) 0 g)
 
 -- ---- records one after another
 
 -- a format whose every record has a row
-abbrev pub Always : Format → Type 0
-Always D =
-    (h : D .Facts) (c : D .Context) (index : ℕ) (s : List ℕ) (at : ℕ) (r rs : List ℕ) (m : D .Note) (k : D .Context) (e : ℕ)
+abbrev pub AlwaysRow : Format → Type 0
+AlwaysRow D =
+    (h : D .Header) (c : D .Context) (index : ℕ) (s : List ℕ) (at : ℕ) (r rs : List ℕ) (m : D .Note) (k : D .Context) (e : ℕ)
     → run (D .entry h c index) s at ≡ whole (item r rs m k) e → length r ≡ row-width
 
-module _ (D : Format) (h : D .Facts) (s : List ℕ) (A : Capacity) where
+module _ (D : Format) (h : D .Header) (s : List ℕ) (A : Capacity) where
   -- the steps lead to one state
-  one-state : (n i : ℕ) (a b : State D) → After D h s A n i a → After D h s A n i b → a ≡ b
-  one-state n zero a b p q = p ∙ sym q
-  one-state n (suc i) a b p q =
-      let e : p .0 ≡ q .0 = one-state n i (p .0) (q .0) (p .1) (q .1) in
+  state-after-unique : (n i : ℕ) (a b : State D) → StateAfter D h s A n i a → StateAfter D h s A n i b → a ≡ b
+  state-after-unique n zero a b p q = p ∙ sym q
+  state-after-unique n (suc i) a b p q =
+      let e : p .0 ≡ q .0 = state-after-unique n i (p .0) (q .0) (p .1) (q .1) in
       let g : step D h s A (q .0) ≡ go a = rw e at (p .2) in
       let y : go a ≡ go b = sym g ∙ q .2 in
       cc
 
   -- a step on leads to the end of the record that was found
-  module _ (st : State D) (i : ItemOf D) (n : ℕ) (e : found D h s st ≡ whole i n) where
-    abbrev Behind : Next D → Type 0
-    Behind (go st′) = st′ .at ≡ n
-    Behind (halt r) = Unit {0}
+  module _ (st : State D) (i : ItemOf D) (n : ℕ) (e : next-item D h s st ≡ whole i n) where
+    abbrev EndsAt : Transition D → Type 0
+    EndsAt (go st′) = st′ .at ≡ n
+    EndsAt (halt r) = Unit {0}
 
-    behind : Behind (step D h s A st)
-    behind =
-        step-by D Behind h s A st (λ m g. tt)
+    step-ends-at : EndsAt (step D h s A st)
+    step-ends-at =
+        step-cases D EndsAt h s A st (λ m g. tt)
         (λ r rs m c k g _ _. let y : whole (item r rs m c) k ≡ whole i n = sym g ∙ e in let x : k ≡ n = cc in x)
         tt tt (λ w g. tt)
 
-    step-behind : (st′ : State D) → step D h s A st ≡ go st′ → st′ .at ≡ n
-    step-behind st′ g = rw g at behind
+    step-place : (st′ : State D) → step D h s A st ≡ go st′ → st′ .at ≡ n
+    step-place st′ g = rw g at step-ends-at
 
   -- a step on keeps the rows
   module _ (st : State D) where
-    abbrev Keeps : Next D → Type 0
-    Keeps (go st′) = length (st .rows) ≤ length (st′ .rows)
-    Keeps (halt r) = Unit {0}
+    abbrev RowsGrow : Transition D → Type 0
+    RowsGrow (go st′) = length (st .rows) ≤ length (st′ .rows)
+    RowsGrow (halt r) = Unit {0}
 
-    step-keeps : Keeps (step D h s A st)
-    step-keeps = step-by D Keeps h s A st (λ m g. tt) (λ r rs m c k g _ _. simp length-append (omega arith)) tt tt (λ w g. tt)
+    step-rows-grow : RowsGrow (step D h s A st)
+    step-rows-grow = step-cases D RowsGrow h s A st (λ m g. tt) (λ r rs m c k g _ _. simp length-append (omega arith)) tt tt (λ w g. tt)
 
-  after-keeps : (n i j : ℕ) (a b : State D) → After D h s A n i a → After D h s A n (j + i) b → length (a .rows) ≤ length (b .rows)
-  after-keeps n i zero a b p q = let e : a ≡ b = one-state n i a b p (rw zero-add at q) in rw e (omega arith)
-  after-keeps n i (suc j) a b p q =
-      let t : After D h s A n (suc (j + i)) b = rw (suc-add j i) at q in
-      let l = after-keeps n i j a (t .0) p (t .1) in
-      let k : length (t .0 .rows) ≤ length (b .rows) = rw (t .2) at (step-keeps (t .0)) in
+  after-rows-grow : (n i j : ℕ) (a b : State D) → StateAfter D h s A n i a → StateAfter D h s A n (j + i) b → length (a .rows) ≤ length (b .rows)
+  after-rows-grow n i zero a b p q = let e : a ≡ b = state-after-unique n i a b p (rw zero-add at q) in rw e (omega arith)
+  after-rows-grow n i (suc j) a b p q =
+      let t : StateAfter D h s A n (suc (j + i)) b = rw (suc-add j i) at q in
+      let l = after-rows-grow n i j a (t .0) p (t .1) in
+      let k : length (t .0 .rows) ≤ length (b .rows) = rw (t .2) at (step-rows-grow (t .0)) in
       omega arith
 
   module _ (lawful : Lawful D) where
     -- from a state a step leads on, and no later state is before its end
-    later : (n i j : ℕ) (a b : State D) → After D h s A n i a → After D h s A n (suc (j + i)) b
+    later-place : (n i j : ℕ) (a b : State D) → StateAfter D h s A n i a → StateAfter D h s A n (suc (j + i)) b
         → (st : State D) × (step D h s A a ≡ go st) × (st .at ≤ b .at)
-    later n i zero a b p q =
-        let t : After D h s A n (suc i) b = rw zero-add at q in
-        let e : t .0 ≡ a = one-state n i (t .0) a (t .1) p in
+    later-place n i zero a b p q =
+        let t : StateAfter D h s A n (suc i) b = rw zero-add at q in
+        let e : t .0 ≡ a = state-after-unique n i (t .0) a (t .1) p in
         (b, rw e at (t .2), omega arith)
-    later n i (suc j) a b p q =
-        let t : After D h s A n (suc (suc (j + i))) b = rw (suc-add j i) at q in
-        let m = later n i j a (t .0) p (t .1) in
-        let o : Onward (t .0) s (go b) = rw (t .2) at (step-onward D lawful h s A (t .0)) in
+    later-place n i (suc j) a b p q =
+        let t : StateAfter D h s A n (suc (suc (j + i))) b = rw (suc-add j i) at q in
+        let m = later-place n i j a (t .0) p (t .1) in
+        let o : Advances (t .0) s (go b) = rw (t .2) at (step-advances D lawful h s A (t .0)) in
         (m .0, m .1, omega (arith, m .2, o .0))
 
     -- A record ends at or before the offset of every later row.
-    pub ends-before : (rows refs : List ℕ) (i j : ℕ) → i < j → j < row-count rows → (x : CameFrom D h s A rows refs i) (y : CameFrom D h s A rows refs j)
+    pub record-ends-before : (rows refs : List ℕ) (i j : ℕ) → i < j → j < row-count rows → (x : RowOrigin D h s A rows refs i) (y : RowOrigin D h s A rows refs j)
         → x .end ≤ offset-of rows j
     unfolding row-count
-    ends-before rows refs i j l b x y =
-        let u : whole h (y .start) ≡ whole h (x .start) = sym (y .opens) ∙ x .opens in
+    record-ends-before rows refs i j l b x y =
+        let u : whole h (y .start) ≡ whole h (x .start) = sym (y .header-whole) ∙ x .header-whole in
         let m : y .start ≡ x .start = cc in
-        let q : After D h s A (x .start) (y .count) (y .before) = rw m at (y .reached) in
+        let q : StateAfter D h s A (x .start) (y .count) (y .before) = rw m at (y .reached) in
         let f : length (x .before .rows) ≡ i * row-width = ap length (x .rows-before) ∙ length-take-le (i * row-width) rows (omega arith) in
         let g : length (y .before .rows) ≡ j * row-width = ap length (y .rows-before) ∙ length-take-le (j * row-width) rows (omega arith) in
         elim (decLe (y .count) (x .count)) [
           | yes c ↦
               let e : x .count - y .count + y .count ≡ x .count = omega arith in
-              let k = after-keeps (x .start) (y .count) (x .count - y .count) (y .before) (x .before) q (rw e (x .reached)) in
+              let k = after-rows-grow (x .start) (y .count) (x .count - y .count) (y .before) (x .before) q (rw e (x .reached)) in
               absurd (omega arith)
           | no c ↦
               let e : suc (y .count - suc (x .count) + x .count) ≡ y .count = omega arith in
-              let t = later (x .start) (x .count) (y .count - suc (x .count)) (x .before) (y .before) (x .reached) (subst (λ (k : ℕ). After D h s A (x .start) k (y .before)) (sym e) q) in
-              let z = step-behind (x .before) _ (x .end) (x .gives) (t .0) (t .1) in
+              let t = later-place (x .start) (x .count) (y .count - suc (x .count)) (x .before) (y .before) (x .reached) (subst (λ (k : ℕ). StateAfter D h s A (x .start) k (y .before)) (sym e) q) in
+              let z = step-place (x .before) _ (x .end) (x .item-is) (t .0) (t .1) in
               omega (arith, t .2, y .offset, z)
         ]
 
   -- ---- where every record has a row
 
-  module _ (always : Always D) where
+  module _ (always : AlwaysRow D) where
     -- a step on adds one row
     module _ (st : State D) where
-      abbrev Adds : Next D → Type 0
-      Adds (go st′) = length (st′ .rows) ≡ length (st .rows) + row-width
-      Adds (halt r) = Unit {0}
+      abbrev AddsRow : Transition D → Type 0
+      AddsRow (go st′) = length (st′ .rows) ≡ length (st .rows) + row-width
+      AddsRow (halt r) = Unit {0}
 
-      adds : Adds (step D h s A st)
-      adds =
-          step-by D Adds h s A st (λ m g. tt)
+      step-adds-row : AddsRow (step D h s A st)
+      step-adds-row =
+          step-cases D AddsRow h s A st (λ m g. tt)
           (λ r rs m c k g _ _. let l = always h (st .context) (length (st .refs)) s (st .at) r rs m c k g in simp length-append (omega arith))
           tt tt (λ w g. tt)
 
     -- so after i records there are i rows
-    after-rows : (n i : ℕ) (st : State D) → After D h s A n i st → length (st .rows) ≡ i * row-width
-    unfolding first
+    after-rows : (n i : ℕ) (st : State D) → StateAfter D h s A n i st → length (st .rows) ≡ i * row-width
+    unfolding initial-state
     after-rows n zero st a = rw a
     after-rows n (suc i) st a =
         let l = after-rows n i (a .0) (a .1) in
-        let k : length (st .rows) ≡ length (a .0 .rows) + row-width = rw (a .2) at (adds (a .0)) in
+        let k : length (st .rows) ≡ length (a .0 .rows) + row-width = rw (a .2) at (step-adds-row (a .0)) in
         omega arith
 
-    module _ (rows refs : List ℕ) (i : ℕ) (b : i < row-count rows) (x : CameFrom D h s A rows refs i) where
+    module _ (rows refs : List ℕ) (i : ℕ) (b : i < row-count rows) (x : RowOrigin D h s A rows refs i) where
       -- The row number i came from the record number i.
-      pub counted : x .count ≡ i
+      pub origin-count : x .count ≡ i
       unfolding row-count
-      counted =
+      origin-count =
           let l = after-rows (x .start) (x .count) (x .before) (x .reached) in
           let k : length (x .before .rows) ≡ length (take (i * row-width) rows) = ap length (x .rows-before) in
           let j : length (take (i * row-width) rows) ≡ i * row-width = length-take-le (i * row-width) rows (omega arith) in
           omega arith
 
     -- A record reaches to the offset of the next row.
-    pub next-behind : (rows refs : List ℕ) (i : ℕ) → suc i < row-count rows → (x : CameFrom D h s A rows refs i) (y : CameFrom D h s A rows refs (suc i))
+    pub next-offset-end : (rows refs : List ℕ) (i : ℕ) → suc i < row-count rows → (x : RowOrigin D h s A rows refs i) (y : RowOrigin D h s A rows refs (suc i))
         → offset-of rows (suc i) ≡ x .end
-    next-behind rows refs i b x y =
-        let u : whole h (y .start) ≡ whole h (x .start) = sym (y .opens) ∙ x .opens in
+    next-offset-end rows refs i b x y =
+        let u : whole h (y .start) ≡ whole h (x .start) = sym (y .header-whole) ∙ x .header-whole in
         let m : y .start ≡ x .start = cc in
-        let j = counted rows refs i (omega arith) x in
-        let k = counted rows refs (suc i) b y in
-        let a : After D h s A (x .start) i (x .before) = rw j at (x .reached) in
-        let p : After D h s A (x .start) (suc i) (y .before) = rw (m, k) at (y .reached) in
-        let e : p .0 ≡ x .before = one-state (x .start) i (p .0) (x .before) (p .1) a in
+        let j = origin-count rows refs i (omega arith) x in
+        let k = origin-count rows refs (suc i) b y in
+        let a : StateAfter D h s A (x .start) i (x .before) = rw j at (x .reached) in
+        let p : StateAfter D h s A (x .start) (suc i) (y .before) = rw (m, k) at (y .reached) in
+        let e : p .0 ≡ x .before = state-after-unique (x .start) i (p .0) (x .before) (p .1) a in
         let g : step D h s A (x .before) ≡ go (y .before) = rw e at (p .2) in
-        y .offset ∙ step-behind (x .before) _ (x .end) (x .gives) (y .before) g
+        y .offset ∙ step-place (x .before) _ (x .end) (x .item-is) (y .before) g

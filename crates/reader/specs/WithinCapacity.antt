@@ -10,34 +10,34 @@ use Rattle.decode.specs.Values.{Refuses}
 use Rattle.decode.specs.declared.Stop.{Stop}
 use Rattle.decode.specs.declared.Stop.the-variants.{Cut, Refused}
 use Rattle.table.specs.Table.{row-width}
-use Rattle.reader.specs.Reader.{Capacity, Format, ended, nothing, reading}
-use Rattle.reader.specs.Steps.{Rowed, rowless, rowed, Lawful, Either, step-by, reading-holds, tables-hold}
+use Rattle.reader.specs.Reader.{Capacity, Format, ended, no-records, read-result}
+use Rattle.reader.specs.Steps.{ValidRow, empty-row, full-row, Lawful, OnTransition, step-cases, read-induction, read-tables}
 
 -- the tables within their capacity, and whole rows only
-pub record Kept (A : Capacity) (rows refs : List ℕ) : Type 0 where
+pub record WithinCapacity (A : Capacity) (rows refs : List ℕ) : Type 0 where
   pub rows-fit : length rows ≤ A .rows
   pub refs-fit : length refs ≤ A .refs
   pub whole-rows : length rows % row-width ≡ 0
 
-pub whole-on : {at : ℕ} (rows r : List ℕ) → length rows % row-width ≡ 0 → Rowed at r → length (rows ++ r) % row-width ≡ 0
-whole-on rows r w (rowless e) = simp length-append (omega arith)
-whole-on rows r w (rowed e _) = simp length-append (omega arith)
+pub whole-rows-append : {at : ℕ} (rows r : List ℕ) → length rows % row-width ≡ 0 → ValidRow at r → length (rows ++ r) % row-width ≡ 0
+whole-rows-append rows r w (empty-row e) = simp length-append (omega arith)
+whole-rows-append rows r w (full-row e _) = simp length-append (omega arith)
 
 -- A reading stores no more than the capacity, and whole rows only.
-pub reading-keeps : (D : Format) → Lawful D → (s : List ℕ) (A : Capacity) → Kept A (reading D s A .rows) (reading D s A .refs)
-reading-keeps D lawful s A =
-    tables-hold D s A (λ _ rows refs. Kept A rows refs)
+pub read-within-capacity : (D : Format) → Lawful D → (s : List ℕ) (A : Capacity) → WithinCapacity A (read-result D s A .rows) (read-result D s A .refs)
+read-within-capacity D lawful s A =
+    read-tables D s A (λ _ rows refs. WithinCapacity A rows refs)
     (λ h rows refs c at r rs m k n t e p q. record {
       rows-fit = simp length-append (omega arith);
       refs-fit = simp length-append (omega arith);
-      whole-rows = whole-on rows r (t .whole-rows) (lawful .row h c (length refs) s at r rs m k n e);
+      whole-rows = whole-rows-append rows r (t .whole-rows) (lawful .row h c (length refs) s at r rs m k n e);
     })
     (λ h. record { rows-fit = omega arith; refs-fit = omega arith; whole-rows = refl })
 
 -- ---- replies
 
 -- What holds of every reply: of those that a reading gives by itself, and of those that the format's layouts refuse with.
-pub record Replies (P : ℕ → Type 0) : Type 0 where
+pub record OwnReplies (P : ℕ → Type 0) : Type 0 where
   pub done : P 0
   pub cut : P 1
   pub long : P 2
@@ -50,12 +50,12 @@ unfolding reply-of
 stop-reply l cut g s at (Cut n) e = cut
 stop-reply l cut g s at (Refused r) e = g .each s at r e
 
-pub reading-replies : (D : Format) (P : ℕ → Type 0) → Replies P → Refuses P (D .header)
-    → ((h : D .Facts) (c : D .Context) (index : ℕ) → Refuses P (D .entry h c index))
-    → (s : List ℕ) (A : Capacity) → P (reading D s A .reply)
-unfolding ended nothing
-reading-replies D P own g k s A =
-    reading-holds D s A (λ h st. Unit {0}) (λ r. P (r .reply)) (own .long) (λ w e. stop-reply (D .header) (own .cut) g s 0 w e) (λ h n e. tt)
-    (λ h st _. step-by D (Either (λ x. Unit {0}) (λ r. P (r .reply))) h s A st (λ n e. own .done) (λ r rs m c n e p q. tt) (own .no-row) (own .no-refs)
+pub read-replies : (D : Format) (P : ℕ → Type 0) → OwnReplies P → Refuses P (D .header)
+    → ((h : D .Header) (c : D .Context) (index : ℕ) → Refuses P (D .entry h c index))
+    → (s : List ℕ) (A : Capacity) → P (read-result D s A .reply)
+unfolding ended no-records
+read-replies D P own g k s A =
+    read-induction D s A (λ h st. Unit {0}) (λ r. P (r .reply)) (own .long) (λ w e. stop-reply (D .header) (own .cut) g s 0 w e) (λ h n e. tt)
+    (λ h st _. step-cases D (OnTransition (λ x. Unit {0}) (λ r. P (r .reply))) h s A st (λ n e. own .done) (λ r rs m c n e p q. tt) (own .no-row) (own .no-refs)
     (λ w e. stop-reply (D .entry h (st .context) (length (st .refs))) (own .cut) (k h _ _) s (st .at) w e))
     (λ h st _. own .done)

@@ -6,11 +6,11 @@ use Prim.Native.Nat.{ℕ, suc, _+_, _-_, _≤_, _<_}
 use native.Mathlib.Omega.{arith}
 use lib.ListN.{length, getD, take, drop, set}
 use lib.Seq.{sets}
-use Rattle.decode.specs.Slices.{part-next}
+use Rattle.decode.specs.Slices.{slice-next}
 
-pub next-stored : (refs s : List ℕ) (from n to i : ℕ) → i < n → from + n ≤ length s
+pub sets-slice-next : (refs s : List ℕ) (from n to i : ℕ) → i < n → from + n ≤ length s
     → sets refs (to + i) (take (n - i) (drop (from + i) s))
     ≡ sets (set refs (to + i) (getD s (from + i) 0)) (to + (i + 1)) (take (n - (i + 1)) (drop (from + (i + 1)) s))
-next-stored refs s from n to i h l =
+sets-slice-next refs s from n to i h l =
     let g : suc (to + i) ≡ to + (i + 1) = omega arith in
-    rw (part-next s from n i h l, ← g)
+    rw (slice-next s from n i h l, ← g)

@@ -8,13 +8,13 @@ ghost use mathlib.Core.Path.{_≡_};
 ghost use Prim.Native.Nat.{_+_, _*_, _≤_};
 ghost use lib.ListN.{length, take, drop};
 ghost use lib.Seq.{sets};
-ghost use Rattle.table.specs.Buffer.{stored};
+ghost use Rattle.table.specs.Buffer.{overwrite};
 ghost use Rattle.table.specs.Table.{row-width};
-ghost use Rattle.reader.specs.Reader.{limit, capacity, nothing as nothingOf, reading};
+ghost use Rattle.reader.specs.Reader.{limit, capacity, no-records, read-result};
 ghost use Rattle.reader_toy.specs.Toy.{row, toy};
 ghost use Rattle.reader.specs.declared.StepResult.the-variants.{End};
-ghost use Rattle.reader_toy.specs.ReaderSpecs.{answer, records-from, width, Fits, Lies, Does};
-use decode::Piece;
+ghost use Rattle.reader_toy.specs.ReaderSpecs.{answer, records-from, record-row-width, CursorValid, RecordAt, StepContract};
+use decode::NumberRead;
 use reader::StepResult;
 
 // The byte that a dump begins with.
@@ -22,7 +22,7 @@ pub const LETTER: u64 = 0x54;
 
 // What a reading answers: the reply and its place, how many bytes the field lacked where the dump is cut, how many rows and
 // references were stored, and the header's letter.
-pub struct Reading {
+pub struct ReadAnswer {
     pub reply: u64,
     pub place: usize,
     pub missing: usize,
@@ -41,35 +41,35 @@ struct Cursor {
 
 // What a step returns: its result, and the cursor after it.
 struct Stepped {
-    how: StepResult,
+    result: StepResult,
     cursor: Cursor,
 }
 
 // Returns the step that ends the reading.
-fn ends(k: Cursor, reply: u64, place: usize, missing: usize) -> Stepped
-    ensures { λ r. ⌜ r ≡ record { how = End reply place missing; cursor = k } ⌝ }
+fn end_step(k: Cursor, reply: u64, place: usize, missing: usize) -> Stepped
+    ensures { λ r. ⌜ r ≡ record { result = End reply place missing; cursor = k } ⌝ }
 {
     Stepped {
-        how: StepResult::End(reply, place, missing),
+        result: StepResult::End(reply, place, missing),
         cursor: k,
     }
 }
 
 // Returns how many numbers the row has of a record whose first byte is b.
-fn row_width(b: u8) -> usize
-    ensures { λ r. ⌜ r ≡ width b ⌝ }
+fn record_row_width(b: u8) -> usize
+    ensures { λ r. ⌜ r ≡ record-row-width b ⌝ }
 {
     if b % 2 == 0 {
         return 0;
     }
-    table::ROW
+    table::ROW_WIDTH
 }
 
 // Stores the row of a record of n bytes, if it has one, and returns how many rows are stored then.
 fn store_row(rows: &mut [u64], letter: u64, k: Cursor, n: usize, b: u8) -> usize
-    requires { ⌜ k .rows * row-width + width b ≤ length (now rows) ⌝ }
+    requires { ⌜ k .rows * row-width + record-row-width b ≤ length (now rows) ⌝ }
     ensures is { λ _. ⌜ now (rows .exit) ≡ sets (now (rows .entry)) (k .rows * row-width) (row letter (k .count) n b (k .at)) ⌝ }
-    ensures counts { λ r. ⌜ r * row-width ≡ k .rows * row-width + width b ⌝ }
+    ensures counts { λ r. ⌜ r * row-width ≡ k .rows * row-width + record-row-width b ⌝ }
 {
     if b % 2 == 0 {
         return k.rows;
@@ -77,7 +77,7 @@ fn store_row(rows: &mut [u64], letter: u64, k: Cursor, n: usize, b: u8) -> usize
     let len = n as u64;
     let at = k.at as u64;
     let row = [letter, k.count, len, 0, 0, 0, 0, 0, 0, 0, 0, 0, at];
-    table::store_row(rows, k.rows * table::ROW, row);
+    table::store_row(rows, k.rows * table::ROW_WIDTH, row);
     k.rows + 1
 }
 
@@ -103,21 +103,21 @@ fn store(
     from: usize,
     n: usize,
 ) -> Stepped
-    requires { ⌜ Fits (now s) (now rows) (now refs) k ⌝ }
-    requires { ⌜ Lies letter (now s) k from n ⌝ }
-    ensures { λ r. ⌜ Does letter (now (s .entry)) k (now (rows .entry)) (now (refs .entry)) (now (rows .exit)) (now (refs .exit)) (r .cursor) (r .how) ⌝ }
+    requires { ⌜ CursorValid (now s) (now rows) (now refs) k ⌝ }
+    requires { ⌜ RecordAt letter (now s) k from n ⌝ }
+    ensures { λ r. ⌜ StepContract letter (now (s .entry)) k (now (rows .entry)) (now (refs .entry)) (now (rows .exit)) (now (refs .exit)) (r .cursor) (r .result) ⌝ }
 {
     let b = s[from];
-    if rows.len() - k.rows * table::ROW < row_width(b) {
-        return ends(k, 13, k.at, 0);
+    if rows.len() - k.rows * table::ROW_WIDTH < record_row_width(b) {
+        return end_step(k, 13, k.at, 0);
     }
     if refs.len() - k.refs < n {
-        return ends(k, 14, k.at, 0);
+        return end_step(k, 14, k.at, 0);
     }
     let count = store_row(rows, letter, k, n, b);
     store_refs(s, from, n, refs, k.refs);
     Stepped {
-        how: StepResult::Continue,
+        result: StepResult::Continue,
         cursor: Cursor {
             at: from + n,
             count: k.count + 1,
@@ -129,31 +129,31 @@ fn store(
 
 // Reads one record: the end of the reading, or the record stored.
 fn step(s: &[u8], letter: u64, rows: &mut [u64], refs: &mut [u64], k: Cursor) -> Stepped
-    requires { ⌜ Fits (now s) (now rows) (now refs) k ⌝ }
-    ensures { λ r. ⌜ Does letter (now (s .entry)) k (now (rows .entry)) (now (refs .entry)) (now (rows .exit)) (now (refs .exit)) (r .cursor) (r .how) ⌝ }
+    requires { ⌜ CursorValid (now s) (now rows) (now refs) k ⌝ }
+    ensures { λ r. ⌜ StepContract letter (now (s .entry)) k (now (rows .entry)) (now (refs .entry)) (now (rows .exit)) (now (refs .exit)) (r .cursor) (r .result) ⌝ }
 {
     match decode::field(s, k.at, 1) {
-        Piece::Is(n, from) => {
+        NumberRead::Is(n, from) => {
             if n == 0 {
-                return ends(k, 0, from, 0);
+                return end_step(k, 0, from, 0);
             }
             let len = n as usize;
             let left = s.len() - from;
             if left < len {
-                return ends(k, 1, k.at, len - left);
+                return end_step(k, 1, k.at, len - left);
             }
             store(s, letter, rows, refs, k, from, len)
         }
-        Piece::Stops(w) => ends(k, decode::reply_of(w), k.at, decode::missing_of(w)),
+        NumberRead::Stops(w) => end_step(k, decode::reply_of(w), k.at, decode::missing_of(w)),
     }
 }
 
 // Reads the records of a dump, from the offset of the first on.
-fn read_records(s: &[u8], letter: u64, at: usize, rows: &mut [u64], refs: &mut [u64]) -> Reading
+fn read_records(s: &[u8], letter: u64, at: usize, rows: &mut [u64], refs: &mut [u64]) -> ReadAnswer
     requires { ⌜ (at ≤ length (now s)) × (length (now s) ≤ limit) ⌝ }
     ensures is { λ r. ⌜ r ≡ answer (records-from letter (now (s .entry)) at (now (rows .entry)) (now (refs .entry))) ⌝ }
-    ensures rows { λ _. ⌜ now (rows .exit) ≡ stored (now (rows .entry)) (records-from letter (now (s .entry)) at (now (rows .entry)) (now (refs .entry)) .rows) ⌝ }
-    ensures refs { λ _. ⌜ now (refs .exit) ≡ stored (now (refs .entry)) (records-from letter (now (s .entry)) at (now (rows .entry)) (now (refs .entry)) .refs) ⌝ }
+    ensures rows { λ _. ⌜ now (rows .exit) ≡ overwrite (now (rows .entry)) (records-from letter (now (s .entry)) at (now (rows .entry)) (now (refs .entry)) .rows) ⌝ }
+    ensures refs { λ _. ⌜ now (refs .exit) ≡ overwrite (now (refs .entry)) (records-from letter (now (s .entry)) at (now (rows .entry)) (now (refs .entry)) .refs) ⌝ }
 {
     let mut cursor = Cursor {
         at: at,
@@ -163,14 +163,14 @@ fn read_records(s: &[u8], letter: u64, at: usize, rows: &mut [u64], refs: &mut [
     };
     loop {
         let done = step(s, letter, rows, refs, cursor);
-        let how = done.how;
+        let result = done.result;
         let next = done.cursor;
-        match how {
+        match result {
             StepResult::Continue => {
                 cursor = next;
             }
             StepResult::End(reply, place, missing) => {
-                return Reading {
+                return ReadAnswer {
                     reply: reply,
                     place: place,
                     missing: missing,
@@ -184,10 +184,10 @@ fn read_records(s: &[u8], letter: u64, at: usize, rows: &mut [u64], refs: &mut [
 }
 
 // Returns the answer of a reading that stops before the records.
-fn nothing(reply: u64, missing: usize) -> Reading
-    ensures { λ r. ⌜ r ≡ answer (nothingOf toy reply missing) ⌝ }
+fn no_records(reply: u64, missing: usize) -> ReadAnswer
+    ensures { λ r. ⌜ r ≡ answer (no-records toy reply missing) ⌝ }
 {
-    Reading {
+    ReadAnswer {
         reply: reply,
         place: 0,
         missing: missing,
@@ -199,16 +199,16 @@ fn nothing(reply: u64, missing: usize) -> Reading
 
 // Reads a dump: its rows go to the start of `rows`, `table::ROW` numbers to each, and its references to the start of `refs`.
 // What a table holds after them stays as it was.
-pub fn read(dump: &[u8], rows: &mut [u64], refs: &mut [u64]) -> Reading
-    ensures is { λ r. ⌜ r ≡ answer (reading toy (now (dump .entry)) (capacity (length (now (rows .entry))) (length (now (refs .entry))))) ⌝ }
-    ensures rows { λ _. ⌜ now (rows .exit) ≡ stored (now (rows .entry)) (reading toy (now (dump .entry)) (capacity (length (now (rows .entry))) (length (now (refs .entry)))) .rows) ⌝ }
-    ensures refs { λ _. ⌜ now (refs .exit) ≡ stored (now (refs .entry)) (reading toy (now (dump .entry)) (capacity (length (now (rows .entry))) (length (now (refs .entry)))) .refs) ⌝ }
+pub fn read(dump: &[u8], rows: &mut [u64], refs: &mut [u64]) -> ReadAnswer
+    ensures is { λ r. ⌜ r ≡ answer (read-result toy (now (dump .entry)) (capacity (length (now (rows .entry))) (length (now (refs .entry))))) ⌝ }
+    ensures rows { λ _. ⌜ now (rows .exit) ≡ overwrite (now (rows .entry)) (read-result toy (now (dump .entry)) (capacity (length (now (rows .entry))) (length (now (refs .entry)))) .rows) ⌝ }
+    ensures refs { λ _. ⌜ now (refs .exit) ≡ overwrite (now (refs .entry)) (read-result toy (now (dump .entry)) (capacity (length (now (rows .entry))) (length (now (refs .entry)))) .refs) ⌝ }
 {
     if reader::LIMIT < dump.len() {
-        return nothing(2, 0);
+        return no_records(2, 0);
     }
     match decode::exactly(dump, 0, 1, LETTER, 3) {
-        Piece::Is(letter, at) => read_records(dump, letter, at, rows, refs),
-        Piece::Stops(w) => nothing(decode::reply_of(w), decode::missing_of(w)),
+        NumberRead::Is(letter, at) => read_records(dump, letter, at, rows, refs),
+        NumberRead::Stops(w) => no_records(decode::reply_of(w), decode::missing_of(w)),
     }
 }

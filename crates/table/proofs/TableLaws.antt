@@ -10,9 +10,9 @@ use lib.Dec.{T, ltb, lit<}
 use Rattle.table.specs.Table.{row-width, row-count}
 
 -- a row lies within the table
-pub row-room : (rows : List ℕ) (i : ℕ) → i < row-count rows → i * row-width + row-width ≤ length rows
+pub row-in-bounds : (rows : List ℕ) (i : ℕ) → i < row-count rows → i * row-width + row-width ≤ length rows
 unfolding row-count
-row-room rows i h = omega arith
+row-in-bounds rows i h = omega arith
 
 -- the numbers of a part of the table that is a row
 pub number-at : (rows : List ℕ) (at k : ℕ) → T (ltb k row-width) → getD (take (at + row-width - at) (drop at rows)) k 0 ≡ getD rows (at + k) 0
@@ -21,9 +21,9 @@ number-at rows at k t =
     rw (getD-take, getD-drop)
 
 -- the next of a row's numbers
-pub store-next : (table row : List ℕ) (at i : ℕ) → i < length row
+pub sets-next : (table row : List ℕ) (at i : ℕ) → i < length row
     → sets table (at + i) (drop i row) ≡ sets (set table (at + i) (getD row i 0)) (at + (i + 1)) (drop (i + 1) row)
-store-next table row at i h =
+sets-next table row at i h =
     let e : suc (at + i) ≡ at + (i + 1) = omega arith in
     let f : suc i ≡ i + 1 = omega arith in
     let x : ℕ = getD row i 0 in

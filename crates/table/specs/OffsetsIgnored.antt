@@ -1,26 +1,26 @@
 -- Tables that differ in the offsets of their rows, and after their last whole row, alone have the same rows. So whatever is a
 -- function of the rows ignores the offsets.
--- A reader must believe `Alike`.
+-- A reader must believe `EqualExceptOffsets`.
 use mathlib.Core.Path.{_≡_, refl}
 use Prim.Native.Nat.{ℕ, zero, suc, _+_, _≤_, _<_}
 use native.Mathlib.Omega.{arith}
 use mathlib.Core.List.{List}
 use Rattle.table.specs.Table.{row-width, offset-number, row-count, number}
-use Rattle.table.specs.Rows.{row-by, rows-from, rows-of}
+use Rattle.table.specs.Rows.{row-ext, rows-from, rows-of}
 
-pub record Alike (rows rows′ : List ℕ) : Type 0 where
+pub record EqualExceptOffsets (rows rows′ : List ℕ) : Type 0 where
   -- as many whole rows
   pub count : row-count rows ≡ row-count rows′
   -- every number of a row but its offset is the same
   pub numbers : (i k : ℕ) → i < row-count rows → k < row-width → (k ≡ offset-number → ⊥)
       → number rows i k ≡ number rows′ i k
 
-module _ {rows rows′ : List ℕ} (a : Alike rows rows′) where
-  from-alike : (n i : ℕ) → i + n ≤ row-count rows → rows-from rows i n ≡ rows-from rows′ i n
+module _ {rows rows′ : List ℕ} (a : EqualExceptOffsets rows rows′) where
+  rows-from-equal : (n i : ℕ) → i + n ≤ row-count rows → rows-from rows i n ≡ rows-from rows′ i n
   unfolding rows-from
-  from-alike zero i l = refl
-  from-alike (suc n) i l = rw (row-by rows rows′ i i (λ k. a .numbers i k (omega arith)), from-alike n (suc i) (omega arith))
+  rows-from-equal zero i l = refl
+  rows-from-equal (suc n) i l = rw (row-ext rows rows′ i i (λ k. a .numbers i k (omega arith)), rows-from-equal n (suc i) (omega arith))
 
-  pub same-rows : rows-of rows ≡ rows-of rows′
+  pub rows-of-equal : rows-of rows ≡ rows-of rows′
   unfolding rows-of
-  same-rows = rw (← a .count) (from-alike (row-count rows) 0 (omega arith))
+  rows-of-equal = rw (← a .count) (rows-from-equal (row-count rows) 0 (omega arith))

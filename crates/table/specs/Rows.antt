@@ -10,7 +10,7 @@ use mathlib.Core.List.{List, [], _∷_, _++_}
 use lib.Dec.{eqb}
 use lib.ListN.{length, getD, take, drop, length-append}
 use lib.Seq.{getD-drop, take-all}
-use Rattle.table.specs.Table.{row-width, offset-number, row-count, number, one-more, number-before, number-last, number-after}
+use Rattle.table.specs.Table.{row-width, offset-number, row-count, number, row-count-snoc, number-append, number-last, number-cons}
 use Rattle.table.specs.declared.Row.{Row}
 
 -- ---- a row
@@ -22,7 +22,7 @@ row-at rows i =
     record {
       kind = n 0;
       address = n 1;
-      word = n 2;
+      class = n 2;
       hashkind = n 3;
       hash = n 4;
       first = n 5;
@@ -35,11 +35,11 @@ row-at rows i =
     }
 
 -- a row whose numbers are all 0
-abbrev pub no-row : Row
-no-row = record {
+abbrev pub zero-row : Row
+zero-row = record {
   kind = 0;
   address = 0;
-  word = 0;
+  class = 0;
   hashkind = 0;
   hash = 0;
   first = 0;
@@ -52,8 +52,8 @@ no-row = record {
 }
 
 -- whether a row is of a kind: 1 class, 2 object, 3 object array, 4 primitive array
-abbrev pub of-kind : ℕ → Row → Bool
-of-kind k r = eqb (r .kind) k
+abbrev pub is-kind : ℕ → Row → Bool
+is-kind k r = eqb (r .kind) k
 
 -- a row's references, out of the second table; its name, out of the dump or of the name bytes passed in
 unfoldable pub refs-of : List ℕ → Row → List ℕ
@@ -75,7 +75,7 @@ rows-of table = rows-from table 0 (row-count table)
 
 -- the row number i of a list
 abbrev pub nth : List Row → ℕ → Row
-nth rows i = getD rows i no-row
+nth rows i = getD rows i zero-row
 
 -- every row of a list satisfies P
 abbrev pub All : (Row → Type 0) → List Row → Type 0
@@ -85,11 +85,11 @@ All P (r ∷ rows) = P r × All P rows
 -- ---- the records
 
 -- a row without its name's place
-unfoldable pub bare : Row → Row
-bare r = record {
+unfoldable pub without-place : Row → Row
+without-place r = record {
   kind = r .kind;
   address = r .address;
-  word = r .word;
+  class = r .class;
   hashkind = r .hashkind;
   hash = r .hash;
   first = r .first;
@@ -108,7 +108,7 @@ pub record Rec : Type 0 where
   pub name : List ℕ
 
 unfoldable pub rec-of : List ℕ → List ℕ → Row → Rec
-rec-of names refs r = record { row = bare r; refs = refs-of refs r; name = name-of names r }
+rec-of names refs r = record { row = without-place r; refs = refs-of refs r; name = name-of names r }
 
 -- the records of rows
 unfoldable pub recs : List ℕ → List ℕ → List Row → List Rec
@@ -123,20 +123,20 @@ first-recs n names refs table = recs names refs (take n (rows-of table))
 unfoldable pub numbers : ℕ → ℕ → Rec → List ℕ
 numbers place offset r =
     let n = r .row in
-    n .kind ∷ n .address ∷ n .word ∷ n .hashkind ∷ n .hash ∷ n .first ∷ n .count ∷ n .size ∷ n .len ∷ place ∷ n .namelen ∷ n .prim
+    n .kind ∷ n .address ∷ n .class ∷ n .hashkind ∷ n .hash ∷ n .first ∷ n .count ∷ n .size ∷ n .len ∷ place ∷ n .namelen ∷ n .prim
     ∷ offset ∷ []
 
 -- ---- laws of a row
 
 -- a row is what its numbers are, whatever its offset
-pub row-by : (rows rows′ : List ℕ) (i i′ : ℕ) → ((k : ℕ) → k < row-width → (k ≡ offset-number → ⊥) → number rows i k ≡ number rows′ i′ k) → row-at rows i ≡ row-at rows′ i′
+pub row-ext : (rows rows′ : List ℕ) (i i′ : ℕ) → ((k : ℕ) → k < row-width → (k ≡ offset-number → ⊥) → number rows i k ≡ number rows′ i′ k) → row-at rows i ≡ row-at rows′ i′
 unfolding row-at
-row-by rows rows′ i i′ e =
+row-ext rows rows′ i i′ e =
     let n : (k : ℕ) → k < offset-number → number rows i k ≡ number rows′ i′ k = λ k b. e k (omega arith) (λ z. omega arith) in
     λ j. record {
       kind = n 0 (omega arith) j;
       address = n 1 (omega arith) j;
-      word = n 2 (omega arith) j;
+      class = n 2 (omega arith) j;
       hashkind = n 3 (omega arith) j;
       hash = n 4 (omega arith) j;
       first = n 5 (omega arith) j;
@@ -172,26 +172,26 @@ drop-from table (suc n) (suc i) k =
     let f : suc n - suc i ≡ n - i = omega arith in
     rw (e, f) (drop-from table n i (suc k))
 
-left-from : (table : List ℕ) (i : ℕ) → rows-left table i ≡ rows-from table i (row-count table - i)
+rows-left-from : (table : List ℕ) (i : ℕ) → rows-left table i ≡ rows-from table i (row-count table - i)
 unfolding rows-of
-left-from table i = rw zero-add at (drop-from table (row-count table) i 0)
+rows-left-from table i = rw zero-add at (drop-from table (row-count table) i 0)
 
 module _ (table : List ℕ) (i : ℕ) where
   -- one more row, and those after it
-  pub left-next : i < row-count table → rows-left table i ≡ row-at table i ∷ rows-left table (i + 1)
+  pub rows-left-next : i < row-count table → rows-left table i ≡ row-at table i ∷ rows-left table (i + 1)
   unfolding rows-from
-  left-next l =
+  rows-left-next l =
       let e : row-count table - i ≡ suc (row-count table - (i + 1)) = omega arith in
-      rw (left-from table i, left-from table (i + 1), e, add-one)
+      rw (rows-left-from table i, rows-left-from table (i + 1), e, add-one)
 
   -- none is left
-  pub left-none : row-count table ≤ i → rows-left table i ≡ []
+  pub rows-left-none : row-count table ≤ i → rows-left table i ≡ []
   unfolding rows-from
-  left-none l = let e : row-count table - i ≡ 0 = omega arith in rw (left-from table i, e)
+  rows-left-none l = let e : row-count table - i ≡ 0 = omega arith in rw (rows-left-from table i, e)
 
   -- the row number i of the list
   pub nth-row : i < row-count table → nth (rows-of table) i ≡ row-at table i
-  nth-row l = rw add-zero at (sym (getD-drop i (rows-of table) 0 no-row)) ∙ rw (left-next l)
+  nth-row l = rw add-zero at (sym (getD-drop i (rows-of table) 0 zero-row)) ∙ rw (rows-left-next l)
 
 -- what holds of every row holds of each by its number
 module _ (P : Row → Type 0) where
@@ -205,52 +205,52 @@ module _ (P : Row → Type 0) where
 
 -- rows after a first one
 module _ (row table : List ℕ) (l : length row ≡ row-width) where
-  from-after : (n i : ℕ) → rows-from (row ++ table) (suc i) n ≡ rows-from table i n
+  rows-from-cons : (n i : ℕ) → rows-from (row ++ table) (suc i) n ≡ rows-from table i n
   unfolding rows-from
-  from-after zero i = refl
-  from-after (suc n) i = rw (row-by (row ++ table) table (suc i) i (λ k _ _. number-after row table l i k), from-after n (suc i))
+  rows-from-cons zero i = refl
+  rows-from-cons (suc n) i = rw (row-ext (row ++ table) table (suc i) i (λ k _ _. number-cons row table l i k), rows-from-cons n (suc i))
 
-  pub rows-after : rows-of (row ++ table) ≡ row-at (row ++ table) 0 ∷ rows-of table
+  pub rows-of-cons : rows-of (row ++ table) ≡ row-at (row ++ table) 0 ∷ rows-of table
   unfolding rows-of rows-from row-count
-  rows-after =
+  rows-of-cons =
       let c : row-count (row ++ table) ≡ suc (row-count table) = simp length-append (omega arith) in
-      rw (c, from-after (row-count table) 0)
+      rw (c, rows-from-cons (row-count table) 0)
 
 -- a row after whole rows is the last of the list
 module _ (table row : List ℕ) (whole : length table % row-width ≡ 0) (l : length row ≡ row-width) where
-  before-same : (n i : ℕ) → i + n ≤ row-count table → rows-from (table ++ row) i n ≡ rows-from table i n
+  rows-from-append : (n i : ℕ) → i + n ≤ row-count table → rows-from (table ++ row) i n ≡ rows-from table i n
   unfolding rows-from
-  before-same zero i b = refl
-  before-same (suc n) i b =
-      rw (row-by (table ++ row) table i i (λ k m _. number-before table row whole l i k (omega arith) m), before-same n (suc i) (omega arith))
+  rows-from-append zero i b = refl
+  rows-from-append (suc n) i b =
+      rw (row-ext (table ++ row) table i i (λ k m _. number-append table row whole l i k (omega arith) m), rows-from-append n (suc i) (omega arith))
 
-  from-last : (t : List ℕ) (n i : ℕ) → rows-from t i (suc n) ≡ rows-from t i n ++ (row-at t (i + n) ∷ [])
+  rows-from-snoc : (t : List ℕ) (n i : ℕ) → rows-from t i (suc n) ≡ rows-from t i n ++ (row-at t (i + n) ∷ [])
   unfolding rows-from
-  from-last t zero i = rw add-zero
-  from-last t (suc n) i = let e : i + suc n ≡ suc i + n = omega arith in ap (λ (x : List Row). row-at t i ∷ x) (rw e (from-last t n (suc i)))
+  rows-from-snoc t zero i = rw add-zero
+  rows-from-snoc t (suc n) i = let e : i + suc n ≡ suc i + n = omega arith in ap (λ (x : List Row). row-at t i ∷ x) (rw e (rows-from-snoc t n (suc i)))
 
-  pub rows-last : rows-of (table ++ row) ≡ rows-of table ++ (row-at row 0 ∷ [])
+  pub rows-of-snoc : rows-of (table ++ row) ≡ rows-of table ++ (row-at row 0 ∷ [])
   unfolding rows-of
-  rows-last =
+  rows-of-snoc =
       rw (
-        one-more table row whole l,
-        from-last (table ++ row) (row-count table) 0,
-        before-same (row-count table) 0 (omega arith),
+        row-count-snoc table row whole l,
+        rows-from-snoc (table ++ row) (row-count table) 0,
+        rows-from-append (row-count table) 0 (omega arith),
         zero-add,
-        row-by (table ++ row) row (row-count table) 0 (λ k _ _. rw zero-add (number-last table row whole l k)),
+        row-ext (table ++ row) row (row-count table) 0 (λ k _ _. rw zero-add (number-last table row whole l k)),
       )
 
 -- the records of as many rows as a table has are those of all its rows
-pub all-recs : (names refs table : List ℕ) → first-recs (row-count table) names refs table ≡ recs names refs (rows-of table)
-all-recs names refs table = rw (take-all (row-count table) (rows-of table) (omega (arith, length-rows table)))
+pub first-recs-all : (names refs table : List ℕ) → first-recs (row-count table) names refs table ≡ recs names refs (rows-of table)
+first-recs-all names refs table = rw (take-all (row-count table) (rows-of table) (omega (arith, length-rows table)))
 
 -- the row of a record's numbers, with a table after them, is the record's
-pub row-numbers : (place offset : ℕ) (r : Rec) (table : List ℕ) → r .row .place ≡ 0 → bare (row-at (numbers place offset r ++ table) 0) ≡ r .row
-unfolding bare row-at numbers
-row-numbers place offset r table z = λ j. record {
+pub row-at-numbers : (place offset : ℕ) (r : Rec) (table : List ℕ) → r .row .place ≡ 0 → without-place (row-at (numbers place offset r ++ table) 0) ≡ r .row
+unfolding without-place row-at numbers
+row-at-numbers place offset r table z = λ j. record {
   kind = r .row .kind;
   address = r .row .address;
-  word = r .row .word;
+  class = r .row .class;
   hashkind = r .row .hashkind;
   hash = r .row .hash;
   first = r .row .first;

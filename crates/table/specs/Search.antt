@@ -1,5 +1,5 @@
 -- The first row that satisfies a property: the search by a test, that it returns that row, and a loop that makes it.
--- A reader must believe `first-from` and the record `First`.
+-- A reader must believe `first-from` and the record `IsFirst`.
 use mathlib.Core.Path.{_≡_, refl}
 use mathlib.Core.Logic.{_↔_}
 use Prim.Native.Nat.{ℕ, zero, suc, _+_, _≤_, _<_}
@@ -11,7 +11,7 @@ use mathlib.Core.List.{List, [], _∷_}
 use lib.ListN.{length}
 use Rattle.decode.specs.Numbers.{pick}
 use Rattle.table.specs.Table.{row-count}
-use Rattle.table.specs.Rows.{row-at, no-row, rows-of, nth, rows-left, left-next, left-none, length-rows, nth-row}
+use Rattle.table.specs.Rows.{row-at, zero-row, rows-of, nth, rows-left, rows-left-next, rows-left-none, length-rows, nth-row}
 use Rattle.table.specs.declared.Row.{Row}
 use Rattle.table.specs.declared.Search.{Search}
 use Rattle.table.specs.declared.Search.the-variants.{At, NotFound}
@@ -28,17 +28,17 @@ first-row test rows = first-from test 0 rows
 -- the row that was found; where none was, all its numbers are 0
 unfoldable pub found-row : List Row → Search → Row
 found-row rows (At i) = nth rows i
-found-row rows NotFound = no-row
+found-row rows NotFound = zero-row
 
 -- The row number i is one of the rows, it satisfies P, and none before it does.
-pub record First (P : Row → Type 0) (rows : List Row) (i : ℕ) : Type 0 where
+pub record IsFirst (P : Row → Type 0) (rows : List Row) (i : ℕ) : Type 0 where
   pub inside : i < length rows
-  pub so : P (nth rows i)
+  pub holds : P (nth rows i)
   pub before : (k : ℕ) → k < i → P (nth rows k) → ⊥
 
 -- no row does
-abbrev pub None : (Row → Type 0) → List Row → Type 0
-None P rows = (i : ℕ) → i < length rows → P (nth rows i) → ⊥
+abbrev pub NoneSatisfies : (Row → Type 0) → List Row → Type 0
+NoneSatisfies P rows = (i : ℕ) → i < length rows → P (nth rows i) → ⊥
 
 -- ---- the search returns the first row
 
@@ -47,100 +47,100 @@ module _ (P : Row → Type 0) (test : Row → Bool) (is : (r : Row) → (test r 
   fails r e p = let t = is r .1 p in let z : _≡_ {A = ℕ} 0 1 = cc in omega arith
 
   -- what was found, of rows counted from number i on
-  abbrev Says : ℕ → List Row → Search → Type 0
-  Says i rows (At k) = (i ≤ k) × ((j : ℕ) → i + j ≡ k → First P rows j)
-  Says i rows NotFound = None P rows
+  abbrev SearchMeans : ℕ → List Row → Search → Type 0
+  SearchMeans i rows (At k) = (i ≤ k) × ((j : ℕ) → i + j ≡ k → IsFirst P rows j)
+  SearchMeans i rows NotFound = NoneSatisfies P rows
 
   -- one row more before them
-  more : (i : ℕ) (r : Row) (rows : List Row) (b : Bool) → test r ≡ b → (f : Search) → Says (suc i) rows f → Says i (r ∷ rows) (pick b (At i) f)
-  more i r rows true e f s = (omega arith, λ j q. at-first j (omega arith))
+  search-means-cons : (i : ℕ) (r : Row) (rows : List Row) (b : Bool) → test r ≡ b → (f : Search) → SearchMeans (suc i) rows f → SearchMeans i (r ∷ rows) (pick b (At i) f)
+  search-means-cons i r rows true e f s = (omega arith, λ j q. at-first j (omega arith))
     where
-      at-first : (j : ℕ) → j ≡ 0 → First P (r ∷ rows) j
-      at-first zero q = record { inside = omega arith; so = is r .0 e; before = λ k l. absurd (omega arith) }
+      at-first : (j : ℕ) → j ≡ 0 → IsFirst P (r ∷ rows) j
+      at-first zero q = record { inside = omega arith; holds = is r .0 e; before = λ k l. absurd (omega arith) }
       at-first (suc j) q = absurd (omega arith)
-  more i r rows false e (At k) s = (omega (arith, s .0), at)
+  search-means-cons i r rows false e (At k) s = (omega (arith, s .0), at)
     where
-      at : (j : ℕ) → i + j ≡ k → First P (r ∷ rows) j
+      at : (j : ℕ) → i + j ≡ k → IsFirst P (r ∷ rows) j
       at zero q = absurd (omega (arith, s .0))
       at (suc j) q =
           let a = s .1 j (omega arith) in
-          record { inside = omega (arith, a .inside); so = a .so; before = before (a .before) }
+          record { inside = omega (arith, a .inside); holds = a .holds; before = before (a .before) }
         where
           before : ((k : ℕ) → k < j → P (nth rows k) → ⊥) → (k : ℕ) → k < suc j → P (nth (r ∷ rows) k) → ⊥
           before b zero l = fails r e
           before b (suc k) l = b k (omega arith)
-  more i r rows false e NotFound s = none
+  search-means-cons i r rows false e NotFound s = none
     where
-      none : None P (r ∷ rows)
+      none : NoneSatisfies P (r ∷ rows)
       none zero l = fails r e
       none (suc j) l = s j (omega arith)
 
-  says : (rows : List Row) (i : ℕ) → Says i rows (first-from test i rows)
+  search-means : (rows : List Row) (i : ℕ) → SearchMeans i rows (first-from test i rows)
   unfolding first-from
-  says [] i = λ j l. absurd (omega arith)
-  says (r ∷ rows) i = more i r rows (test r) refl (first-from test (suc i) rows) (says rows (suc i))
+  search-means [] i = λ j l. absurd (omega arith)
+  search-means (r ∷ rows) i = search-means-cons i r rows (test r) refl (first-from test (suc i) rows) (search-means rows (suc i))
 
   -- there is only one first row
-  one : (rows : List Row) (i k : ℕ) → First P rows i → First P rows k → i ≡ k
-  one rows i k a b =
-      let l : k < suc i = lt-of-not-le (λ m. b .before i m (a .so)) in
-      let m : i < suc k = lt-of-not-le (λ l. a .before k l (b .so)) in
+  first-unique : (rows : List Row) (i k : ℕ) → IsFirst P rows i → IsFirst P rows k → i ≡ k
+  first-unique rows i k a b =
+      let l : k < suc i = lt-of-not-le (λ m. b .before i m (a .holds)) in
+      let m : i < suc k = lt-of-not-le (λ l. a .before k l (b .holds)) in
       omega arith
 
-  given : (rows : List Row) (f : Search) → Says 0 rows f → ((i : ℕ) → (f ≡ At i) ↔ First P rows i) × ((f ≡ NotFound) ↔ None P rows)
-  given rows (At k) s =
-      let a : First P rows k = s .1 k (omega arith) in (
-        λ i. (λ e. let q : k ≡ i = cc in rw q at a, λ b. let q : k ≡ i = one rows k i a b in rw q),
-        (λ e. let z : _≡_ {A = ℕ} 0 1 = cc in absurd (omega arith), λ n. absurd (n k (a .inside) (a .so))),
+  search-means-iff : (rows : List Row) (f : Search) → SearchMeans 0 rows f → ((i : ℕ) → (f ≡ At i) ↔ IsFirst P rows i) × ((f ≡ NotFound) ↔ NoneSatisfies P rows)
+  search-means-iff rows (At k) s =
+      let a : IsFirst P rows k = s .1 k (omega arith) in (
+        λ i. (λ e. let q : k ≡ i = cc in rw q at a, λ b. let q : k ≡ i = first-unique rows k i a b in rw q),
+        (λ e. let z : _≡_ {A = ℕ} 0 1 = cc in absurd (omega arith), λ n. absurd (n k (a .inside) (a .holds))),
       )
-  given rows NotFound s = (
-    λ i. (λ e. let z : _≡_ {A = ℕ} 0 1 = cc in absurd (omega arith), λ b. absurd (s i (b .inside) (b .so))),
+  search-means-iff rows NotFound s = (
+    λ i. (λ e. let z : _≡_ {A = ℕ} 0 1 = cc in absurd (omega arith), λ b. absurd (s i (b .inside) (b .holds))),
     (λ _. s, λ _. refl),
   )
 
   -- the search finds the first such row, and nothing exactly where there is none
-  pub first-is : (rows : List Row) (i : ℕ) → (first-row test rows ≡ At i) ↔ First P rows i
-  first-is rows = given rows (first-row test rows) (says rows 0) .0
+  pub first-row-at : (rows : List Row) (i : ℕ) → (first-row test rows ≡ At i) ↔ IsFirst P rows i
+  first-row-at rows = search-means-iff rows (first-row test rows) (search-means rows 0) .0
 
-  pub none-is : (rows : List Row) → (first-row test rows ≡ NotFound) ↔ None P rows
-  none-is rows = given rows (first-row test rows) (says rows 0) .1
+  pub first-row-none : (rows : List Row) → (first-row test rows ≡ NotFound) ↔ NoneSatisfies P rows
+  first-row-none rows = search-means-iff rows (first-row test rows) (search-means rows 0) .1
 
 -- the row that was found is one of the rows
-pub found-below : (test : Row → Bool) (rows : List Row) (i : ℕ) → first-row test rows ≡ At i → i < length rows
-found-below test rows i e = first-is (λ r. test r ≡ true) test (λ r. (λ t. t, λ t. t)) rows i .0 e .inside
+pub found-in-bounds : (test : Row → Bool) (rows : List Row) (i : ℕ) → first-row test rows ≡ At i → i < length rows
+found-in-bounds test rows i e = first-row-at (λ r. test r ≡ true) test (λ r. (λ t. t, λ t. t)) rows i .0 e .inside
 
 -- of a table's rows: its number, and which row it is
 module _ (test : Row → Bool) (table : List ℕ) (i : ℕ) (e : first-row test (rows-of table) ≡ At i) where
-  pub found-in : i < row-count table
-  found-in = rw (length-rows table) at (found-below test (rows-of table) i e)
+  pub found-in-table : i < row-count table
+  found-in-table = rw (length-rows table) at (found-in-bounds test (rows-of table) i e)
 
-  pub found-is : found-row (rows-of table) (first-row test (rows-of table)) ≡ row-at table i
+  pub found-row-at : found-row (rows-of table) (first-row test (rows-of table)) ≡ row-at table i
   unfolding found-row
-  found-is = rw e (nth-row table i found-in)
+  found-row-at = rw e (nth-row table i found-in-table)
 
 -- ---- a loop over a table, row by row
 
 -- the rows from number i on give what all of them give
-abbrev pub Searched : (Row → Bool) → List ℕ → ℕ → Type 0
-Searched test table i = (i ≤ row-count table) × (first-from test i (rows-left table i) ≡ first-row test (rows-of table))
+abbrev pub SearchInvariant : (Row → Bool) → List ℕ → ℕ → Type 0
+SearchInvariant test table i = (i ≤ row-count table) × (first-from test i (rows-left table i) ≡ first-row test (rows-of table))
 
-pub search-begins : (test : Row → Bool) (table : List ℕ) → Searched test table 0
-search-begins test table = (omega arith, refl)
+pub search-start : (test : Row → Bool) (table : List ℕ) → SearchInvariant test table 0
+search-start test table = (omega arith, refl)
 
 module _ (test : Row → Bool) (table : List ℕ) (i : ℕ) where
   row-step : i < row-count table → first-from test i (rows-left table i) ≡ pick (test (row-at table i)) (At i) (first-from test (i + 1) (rows-left table (i + 1)))
   unfolding first-from
-  row-step l = rw (left-next table i l, add-one)
+  row-step l = rw (rows-left-next table i l, add-one)
 
   -- the row number i, which is r, passes
-  pub search-found : (r : Row) → Searched test table i → i < row-count table → r ≡ row-at table i → test r ≡ true → At i ≡ first-row test (rows-of table)
+  pub search-found : (r : Row) → SearchInvariant test table i → i < row-count table → r ≡ row-at table i → test r ≡ true → At i ≡ first-row test (rows-of table)
   search-found r s l e t = cc (row-step l, s .1)
 
   -- it fails
-  pub search-next : (r : Row) → Searched test table i → i < row-count table → r ≡ row-at table i → test r ≡ false → Searched test table (i + 1)
+  pub search-next : (r : Row) → SearchInvariant test table i → i < row-count table → r ≡ row-at table i → test r ≡ false → SearchInvariant test table (i + 1)
   search-next r s l e t = (omega arith, cc (row-step l, s .1))
 
   -- no row is left
-  pub search-ends : Searched test table i → row-count table ≤ i → NotFound ≡ first-row test (rows-of table)
+  pub search-done : SearchInvariant test table i → row-count table ≤ i → NotFound ≡ first-row test (rows-of table)
   unfolding first-from
-  search-ends s l = rw (left-none table i l) at (s .1)
+  search-done s l = rw (rows-left-none table i l) at (s .1)

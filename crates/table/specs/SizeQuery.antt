@@ -1,5 +1,5 @@
 -- A size query and the write that follows it: the query makes the same checks in the same order, all but that of the output's
--- capacity. A reader must believe the record `Split`. Assumes nothing.
+-- capacity. A reader must believe the record `QueryAgrees`. Assumes nothing.
 use mathlib.Core.Path.{_≡_, refl, sym, ap}
 use mathlib.Core.Logic.{_↔_}
 use Prim.Native.Nat.{ℕ, _≤_, _<_}
@@ -11,29 +11,29 @@ use native.Mathlib.Omega.{arith}
 use native.Mathlib.Decide.{decLe}
 use borrow.Author.Tests.{le-leb, lt-leb}
 use Rattle.decode.specs.Numbers.{both}
-use Rattle.table.specs.CheckOrder.{Outcome, refused, done, judged, checked, checked-stops}
+use Rattle.table.specs.CheckOrder.{WriteResult, refused, done, checked-write, checked-input, checked-input-refused}
 use Rattle.table.specs.declared.Search.{Search}
 use Rattle.table.specs.declared.Search.the-variants.{At, NotFound}
 use Rattle.table.specs.declared.Answer.{Answer}
 
 -- Between the answer of a size query and what a write of the same rows, with `room` bytes of output, gives.
-pub record Split (asked : Answer) (room : ℕ) (w : Outcome) : Type 0 where
+pub record QueryAgrees (query : Answer) (capacity : ℕ) (w : WriteResult) : Type 0 where
   -- the write answers 0 exactly where the query answers 0 and the output holds the count
-  pub done : (w .answer .reply ≡ 0) ↔ ((asked .reply ≡ 0) × (asked .place ≤ room))
+  pub done : (w .answer .reply ≡ 0) ↔ ((query .reply ≡ 0) × (query .place ≤ capacity))
   -- then both answers are the same, and the count is how many bytes are written
-  pub same : w .answer .reply ≡ 0 → w .answer ≡ asked
-  pub count : w .answer .reply ≡ 0 → length (w .bytes) ≡ asked .place
+  pub same : w .answer .reply ≡ 0 → w .answer ≡ query
+  pub count : w .answer .reply ≡ 0 → length (w .bytes) ≡ query .place
   -- a count that the output does not hold is 17 at 0
-  pub too-small : asked .reply ≡ 0 → room < asked .place → w ≡ refused 17 0
+  pub too-small : query .reply ≡ 0 → capacity < query .place → w ≡ refused 17 0
   -- what the query refuses, the write refuses alike
-  pub refusal : (asked .reply ≡ 0 → ⊥) → w ≡ refused (asked .reply) (asked .place)
+  pub refusal : (query .reply ≡ 0 → ⊥) → w ≡ refused (query .reply) (query .place)
   -- and a write's answer other than 17 is the query's
-  pub other : (w .answer .reply ≡ 17 → ⊥) → w .answer ≡ asked
+  pub other : (w .answer .reply ≡ 17 → ⊥) → w .answer ≡ query
 
 -- a refusal of both
-refusing : (reply place room : ℕ) → (reply ≡ 0 → ⊥) → Split (refused reply place .answer) room (refused reply place)
+refused-agrees : (reply place capacity : ℕ) → (reply ≡ 0 → ⊥) → QueryAgrees (refused reply place .answer) capacity (refused reply place)
 unfolding refused
-refusing reply place room n = record {
+refused-agrees reply place capacity n = record {
   done = (λ z. absurd (n z), λ e. absurd (n (e .0)));
   same = λ z. absurd (n z);
   count = λ z. absurd (n z);
@@ -43,9 +43,9 @@ refusing reply place room n = record {
 }
 
 -- bytes that the query counts: they are written, or the output does not hold them
-written : (bytes : List ℕ) (room : ℕ) → length bytes ≤ room → Split (done bytes .answer) room (done bytes)
+done-agrees : (bytes : List ℕ) (capacity : ℕ) → length bytes ≤ capacity → QueryAgrees (done bytes .answer) capacity (done bytes)
 unfolding done
-written bytes room l = record {
+done-agrees bytes capacity l = record {
   done = (λ _. (refl, l), λ _. refl);
   same = λ _. refl;
   count = λ _. refl;
@@ -54,9 +54,9 @@ written bytes room l = record {
   other = λ _. refl;
 }
 
-without : (bytes : List ℕ) (room : ℕ) → room < length bytes → Split (done bytes .answer) room (refused 17 0)
+capacity-agrees : (bytes : List ℕ) (capacity : ℕ) → capacity < length bytes → QueryAgrees (done bytes .answer) capacity (refused 17 0)
 unfolding done refused
-without bytes room l = record {
+capacity-agrees bytes capacity l = record {
   done = (λ z. absurd (omega arith), λ e. absurd (omega (arith, e .1)));
   same = λ z. absurd (omega arith);
   count = λ z. absurd (omega arith);
@@ -66,43 +66,43 @@ without bytes room l = record {
 }
 
 -- Of any checks: beside all that the query checks, the write checks whether the output holds the bytes.
-pub split : (good : Bool) (bad lost : Search) (within : Bool) (bytes : List ℕ) (room : ℕ)
-    → Split (judged good bad lost within bytes .answer) room (judged good bad lost (both (leb (length bytes) room) within) bytes)
-unfolding judged
-split false bad lost within bytes room = refusing 15 0 room (λ z. omega arith)
-split true (At i) lost within bytes room = refusing 16 i room (λ z. omega arith)
-split true NotFound (At i) within bytes room = refusing 18 i room (λ z. omega arith)
-split true NotFound NotFound within bytes room = elim (decLe (length bytes) room) [
-  | yes l ↦ rw (le-leb (length bytes) room l) (fitting within l)
-  | no l ↦ rw (lt-leb (length bytes) room (omega arith)) (lacking within (omega arith))
+pub query-agrees : (good : Bool) (bad class-missing : Search) (within : Bool) (bytes : List ℕ) (capacity : ℕ)
+    → QueryAgrees (checked-write good bad class-missing within bytes .answer) capacity (checked-write good bad class-missing (both (leb (length bytes) capacity) within) bytes)
+unfolding checked-write
+query-agrees false bad class-missing within bytes capacity = refused-agrees 15 0 capacity (λ z. omega arith)
+query-agrees true (At i) class-missing within bytes capacity = refused-agrees 16 i capacity (λ z. omega arith)
+query-agrees true NotFound (At i) within bytes capacity = refused-agrees 18 i capacity (λ z. omega arith)
+query-agrees true NotFound NotFound within bytes capacity = elim (decLe (length bytes) capacity) [
+  | yes l ↦ rw (le-leb (length bytes) capacity l) (fitting within l)
+  | no l ↦ rw (lt-leb (length bytes) capacity (omega arith)) (lacking within (omega arith))
 ]
   where
-    fitting : (b : Bool) → length bytes ≤ room → Split (judged true NotFound NotFound b bytes .answer) room (judged true NotFound NotFound b bytes)
-    fitting true l = written bytes room l
-    fitting false l = refusing 17 0 room (λ z. omega arith)
+    fitting : (b : Bool) → length bytes ≤ capacity → QueryAgrees (checked-write true NotFound NotFound b bytes .answer) capacity (checked-write true NotFound NotFound b bytes)
+    fitting true l = done-agrees bytes capacity l
+    fitting false l = refused-agrees 17 0 capacity (λ z. omega arith)
 
-    lacking : (b : Bool) → room < length bytes → Split (judged true NotFound NotFound b bytes .answer) room (refused 17 0)
-    lacking true l = without bytes room l
-    lacking false l = refusing 17 0 room (λ z. omega arith)
+    lacking : (b : Bool) → capacity < length bytes → QueryAgrees (checked-write true NotFound NotFound b bytes .answer) capacity (refused 17 0)
+    lacking true l = capacity-agrees bytes capacity l
+    lacking false l = refused-agrees 17 0 capacity (λ z. omega arith)
 
 -- ---- the query's answer, by the checks as a function makes them
 
-module _ (good : Bool) (bad lost : Search) (within : Bool) (bytes : List ℕ) where
+module _ (good : Bool) (bad class-missing : Search) (within : Bool) (bytes : List ℕ) where
   -- by the first two tests
-  pub asked-checked : (w : Answer) → w ≡ checked good bad → (w .reply ≡ 0 → ⊥) → w ≡ judged good bad lost within bytes .answer
+  pub query-refused : (w : Answer) → w ≡ checked-input good bad → (w .reply ≡ 0 → ⊥) → w ≡ checked-write good bad class-missing within bytes .answer
   unfolding refused
-  asked-checked w e z = ap (λ (o : Outcome). o .answer) (sym (checked-stops good bad lost within bytes w e z))
+  query-refused w e z = ap (λ (o : WriteResult). o .answer) (sym (checked-input-refused good bad class-missing within bytes w e z))
 
   -- where all of them hold, the count of the bytes, or 17 where they are too many
-  pub asked-counts : good ≡ true → bad ≡ NotFound → lost ≡ NotFound → within ≡ true → record { reply = 0; place = length bytes } ≡ judged good bad lost within bytes .answer
-  unfolding judged done
-  asked-counts p q r s = rw (p, q, r, s)
+  pub query-size : good ≡ true → bad ≡ NotFound → class-missing ≡ NotFound → within ≡ true → record { reply = 0; place = length bytes } ≡ checked-write good bad class-missing within bytes .answer
+  unfolding checked-write done
+  query-size p q r s = rw (p, q, r, s)
 
-  pub asked-over : good ≡ true → bad ≡ NotFound → lost ≡ NotFound → within ≡ false → record { reply = 17; place = 0 } ≡ judged good bad lost within bytes .answer
-  unfolding judged refused
-  asked-over p q r s = rw (p, q, r, s)
+  pub query-too-large : good ≡ true → bad ≡ NotFound → class-missing ≡ NotFound → within ≡ false → record { reply = 17; place = 0 } ≡ checked-write good bad class-missing within bytes .answer
+  unfolding checked-write refused
+  query-too-large p q r s = rw (p, q, r, s)
 
   -- what it says of a write
-  pub asked-split : (asked : Answer) (room : ℕ) → asked ≡ judged good bad lost within bytes .answer
-      → Split asked room (judged good bad lost (both (leb (length bytes) room) within) bytes)
-  asked-split asked room e = rw e (split good bad lost within bytes room)
+  pub query-agrees-by : (query : Answer) (capacity : ℕ) → query ≡ checked-write good bad class-missing within bytes .answer
+      → QueryAgrees query capacity (checked-write good bad class-missing (both (leb (length bytes) capacity) within) bytes)
+  query-agrees-by query capacity e = rw e (query-agrees good bad class-missing within bytes capacity)

@@ -1,5 +1,5 @@
 -- A table is a slice of numbers, thirteen to a row: how many rows it has, the numbers of each, and what one row more changes.
--- A reader must believe `row-width`, `offset-number`, `row-count`, `row-of` and `number`.
+-- A reader must believe `row-width`, `offset-number`, `row-count`, `row-slice` and `number`.
 use mathlib.Core.Path.{_≡_, sym, _∙_}
 use Prim.Native.Nat.{ℕ, suc, _+_, _*_, _/_, _%_, _<_}
 use native.Mathlib.Nat.{eq-or-lt-of-le}
@@ -22,55 +22,55 @@ unfoldable pub row-count : List ℕ → ℕ
 row-count rows = length rows / row-width
 
 -- the numbers of the row number i, from 0, and its number k
-abbrev pub row-of : List ℕ → ℕ → List ℕ
-row-of rows i = take row-width (drop (i * row-width) rows)
+abbrev pub row-slice : List ℕ → ℕ → List ℕ
+row-slice rows i = take row-width (drop (i * row-width) rows)
 
 abbrev pub number : List ℕ → ℕ → ℕ → ℕ
 number rows i k = getD rows (i * row-width + k) 0
 
-pub number-in : (rows : List ℕ) (i k : ℕ) → k < row-width → number rows i k ≡ getD (row-of rows i) k 0
-number-in rows i k l = sym (getD-take row-width (drop (i * row-width) rows) k 0 l ∙ getD-drop (i * row-width) rows k 0)
+pub number-row-slice : (rows : List ℕ) (i k : ℕ) → k < row-width → number rows i k ≡ getD (row-slice rows i) k 0
+number-row-slice rows i k l = sym (getD-take row-width (drop (i * row-width) rows) k 0 l ∙ getD-drop (i * row-width) rows k 0)
 
 -- one row more, after whole rows
 module _ (rows r : List ℕ) (whole : length rows % row-width ≡ 0) (w : length r ≡ row-width) where
-  pub whole-more : length (rows ++ r) % row-width ≡ 0
-  whole-more = simp length-append (omega arith)
+  pub whole-append : length (rows ++ r) % row-width ≡ 0
+  whole-append = simp length-append (omega arith)
 
-  pub one-more : row-count (rows ++ r) ≡ suc (row-count rows)
+  pub row-count-snoc : row-count (rows ++ r) ≡ suc (row-count rows)
   unfolding row-count
-  one-more = simp length-append (omega arith)
+  row-count-snoc = simp length-append (omega arith)
 
-  pub seam : length rows ≡ row-count rows * row-width
+  pub whole-length : length rows ≡ row-count rows * row-width
   unfolding row-count
-  seam = omega arith
+  whole-length = omega arith
 
   -- the rows before it stay
-  pub row-before : (i : ℕ) → i < row-count rows → row-of (rows ++ r) i ≡ row-of rows i
+  pub row-slice-append : (i : ℕ) → i < row-count rows → row-slice (rows ++ r) i ≡ row-slice rows i
   unfolding row-count
-  row-before i l =
+  row-slice-append i l =
       rw (drop-append-le (i * row-width) rows r (omega arith), take-append-le row-width (drop (i * row-width) rows) r (simp length-drop (omega arith)))
 
-  pub number-before : (i k : ℕ) → i < row-count rows → k < row-width → number (rows ++ r) i k ≡ number rows i k
+  pub number-append : (i k : ℕ) → i < row-count rows → k < row-width → number (rows ++ r) i k ≡ number rows i k
   unfolding row-count
-  number-before i k l b = rw (List·getD-append rows r 0 (i * row-width + k) (omega arith))
+  number-append i k l b = rw (List·getD-append rows r 0 (i * row-width + k) (omega arith))
 
   -- and it is the last
-  pub row-last : row-of (rows ++ r) (row-count rows) ≡ r
-  row-last = rw (drop-at rows r (row-count rows * row-width) seam) (take-all row-width r (omega arith))
+  pub row-slice-last : row-slice (rows ++ r) (row-count rows) ≡ r
+  row-slice-last = rw (drop-at rows r (row-count rows * row-width) whole-length) (take-all row-width r (omega arith))
 
   pub number-last : (k : ℕ) → number (rows ++ r) (row-count rows) k ≡ getD r k 0
-  number-last k = rw (← seam) (getD-append-add rows r k 0)
+  number-last k = rw (← whole-length) (getD-append-add rows r k 0)
 
   -- so what holds of each of those before, and of the last, holds of every row
-  pub every-row : (P : ℕ → Type 0) → ((i : ℕ) → i < row-count rows → P i) → P (row-count rows) → (i : ℕ) → i < row-count (rows ++ r) → P i
-  every-row P each last i l = by i (eq-or-lt-of-le (omega (arith, one-more)))
+  pub every-row-snoc : (P : ℕ → Type 0) → ((i : ℕ) → i < row-count rows → P i) → P (row-count rows) → (i : ℕ) → i < row-count (rows ++ r) → P i
+  every-row-snoc P each last i l = by i (eq-or-lt-of-le (omega (arith, row-count-snoc)))
     where
       by : (j : ℕ) → (j ≡ row-count rows) ⊎ (j < row-count rows) → P j
       by j (inl e) = rw e last
       by j (inr b) = each j b
 
 -- rows after a first one
-pub number-after : (row rows : List ℕ) → length row ≡ row-width → (i k : ℕ) → number (row ++ rows) (suc i) k ≡ number rows i k
-number-after row rows l i k =
+pub number-cons : (row rows : List ℕ) → length row ≡ row-width → (i k : ℕ) → number (row ++ rows) (suc i) k ≡ number rows i k
+number-cons row rows l i k =
     let e : suc i * row-width + k ≡ length row + (i * row-width + k) = omega arith in
     rw (e, getD-append-add row rows (i * row-width + k) 0)

@@ -9,7 +9,7 @@ ghost use Rattle.table.specs.Table.{row-width, row-count};
 ghost use Rattle.table.specs.Rows.{row-at};
 
 // The numbers of a row.
-pub const ROW: usize = 13;
+pub const ROW_WIDTH: usize = 13;
 
 // A row by its numbers, without the last, the offset of its record, which no writer looks at.
 pub struct Row {
@@ -17,7 +17,7 @@ pub struct Row {
     pub kind: u64,
     pub address: u64,
     // the class word, of a class its superclass
-    pub word: u64,
+    pub class: u64,
     // 0 none, 1 hashed with no stored hash, 2 a stored 32-bit hash, 3 a 16-bit hash
     pub hashkind: u64,
     pub hash: u64,
@@ -50,12 +50,12 @@ pub fn row_at(rows: &[u64], i: usize) -> Row
     requires { ⌜ i < row-count (now rows) ⌝ }
     ensures { λ r. ⌜ r ≡ row-at (now (rows .entry)) i ⌝ }
 {
-    let at = i * ROW;
-    let row = &rows[at..at + ROW];
+    let at = i * ROW_WIDTH;
+    let row = &rows[at..at + ROW_WIDTH];
     Row {
         kind: row[0],
         address: row[1],
-        word: row[2],
+        class: row[2],
         hashkind: row[3],
         hash: row[4],
         first: row[5],
@@ -69,12 +69,12 @@ pub fn row_at(rows: &[u64], i: usize) -> Row
 }
 
 // Stores the numbers of a row at an offset of a table.
-pub fn store_row(table: &mut [u64], at: usize, row: [u64; ROW])
+pub fn store_row(table: &mut [u64], at: usize, row: [u64; ROW_WIDTH])
     requires { ⌜ (at + row-width ≤ length (now table)) × (length row ≡ row-width) ⌝ }
     ensures { λ _. ⌜ now (table .exit) ≡ sets (now (table .entry)) at row ⌝ }
 {
     let mut i: usize = 0;
-    while i < ROW {
+    while i < ROW_WIDTH {
         table[at + i] = row[i];
         i += 1;
     }

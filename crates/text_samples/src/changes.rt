@@ -7,11 +7,11 @@
 //     2    the references
 //
 // What is there or not is a number other than 0, or 0. Of two changes of one number the last counts.
-use decode::Piece;
-use decode::Text;
-use phd::Facts;
-use phd_read::Reading;
-use samples_print::within;
+use decode::NumberRead;
+use decode::StringSpan;
+use phd::Header;
+use phd_read::ReadAnswer;
+use samples_print::at_most;
 ghost use Prim.Native.Nat.{_≤_, _+_};
 ghost use lib.ListN.{length};
 ghost use Rattle.io.specs.Counts.{Counts};
@@ -20,13 +20,13 @@ ghost use Rattle.io.specs.Counts.{Counts};
 const CHANGE: usize = 24;
 
 // Where the changes begin; at the file's end, if the dump was not read to its end tag.
-pub fn place(s: &[u8], r: Reading) -> usize
+pub fn place(s: &[u8], r: ReadAnswer) -> usize
     ensures { λ n. ⌜ n ≤ length (now (s .entry)) ⌝ }
 {
     if r.reply != 0 {
         return s.len();
     }
-    within(r.place, s)
+    at_most(r.place, s)
 }
 
 // The number at a place of a file.
@@ -34,8 +34,8 @@ fn number(s: &[u8], at: usize) -> u64
     requires { ⌜ at ≤ length (now s) ⌝ }
 {
     match decode::field(s, at, 8) {
-        Piece::Is(n, _) => n,
-        Piece::Stops(_) => 0,
+        NumberRead::Is(n, _) => n,
+        NumberRead::Stops(_) => 0,
     }
 }
 
@@ -69,16 +69,16 @@ fn changed_bit(s: &[u8], from: usize, index: u64, is: bool) -> bool
 }
 
 // The header, after all changes.
-pub fn header(s: &[u8], from: usize, facts: Facts) -> Facts
+pub fn header(s: &[u8], from: usize, header: Header) -> Header
     requires { ⌜ from ≤ length (now s) ⌝ }
 {
-    let vm = facts.vm;
-    Facts {
-        word: changed(s, from, 0, 0, facts.word),
-        hashed: changed_bit(s, from, 1, facts.hashed),
-        openj9: changed_bit(s, from, 2, facts.openj9),
-        vm: Text {
-            there: changed_bit(s, from, 3, vm.there),
+    let vm = header.vm;
+    Header {
+        bits: changed(s, from, 0, 0, header.bits),
+        hashed: changed_bit(s, from, 1, header.hashed),
+        openj9: changed_bit(s, from, 2, header.openj9),
+        vm: StringSpan {
+            present: changed_bit(s, from, 3, vm.present),
             place: changed(s, from, 0, 4, vm.place as u64) as usize,
             len: changed(s, from, 0, 5, vm.len as u64) as usize,
         },
@@ -86,7 +86,7 @@ pub fn header(s: &[u8], from: usize, facts: Facts) -> Facts
 }
 
 // How many numbers of a table are lent, after all changes; at most all of it.
-pub fn lent(s: &[u8], from: usize, index: u64, is: usize, table: &[u64]) -> usize
+pub fn passed_length(s: &[u8], from: usize, index: u64, is: usize, table: &[u64]) -> usize
     requires { ⌜ from ≤ length (now s) ⌝ }
     ensures { λ r. ⌜ Counts r (now (table .entry)) ⌝ }
 {

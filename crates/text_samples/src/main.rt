@@ -13,21 +13,21 @@
 // What a file holds behind its dump may change the tables before the text is written: changes.rt.
 mod changes;
 
-use phd_check::Header;
-use samples_print::kept;
-use samples_print::say;
-use samples_print::tell;
-use samples_print::tell_kept;
-use samples_print::tell_reading;
-use samples_print::tell_written;
-use samples_print::used;
-use samples_print::within;
-use samples_print::written;
+use phd::Header;
+use samples_print::at_most;
+use samples_print::is_unchanged;
+use samples_print::print_answer;
+use samples_print::print_number;
+use samples_print::print_read_answer;
+use samples_print::print_text;
+use samples_print::print_unchanged;
+use samples_print::used_numbers;
+use samples_print::written_bytes;
 ghost use mathlib.Core.Path.{_≡_};
 ghost use lib.ListN.{length};
 
 // Room for 128 rows, with one number too few for another, and for 160 references.
-const ROWS: usize = 129 * table::ROW - 1;
+const ROWS: usize = 129 * table::ROW_WIDTH - 1;
 
 const REFS: usize = 160;
 
@@ -61,7 +61,7 @@ fn same(a: &[u8], b: &[u8]) -> bool {
 }
 
 // The text once more, to untouched output. The first time it was `text`.
-fn tell_again(
+fn print_second_run(
     header: Header,
     rows: &[u64],
     refs: &[u64],
@@ -69,43 +69,50 @@ fn tell_again(
     text: &[u8],
     out: &mut [u8],
 ) {
-    tell(b"room ", out.len() as u64);
+    print_number(b"room ", out.len() as u64);
     let w = classic_write::text(header, rows, refs, names, out);
-    say(b" ");
-    tell_written(w);
-    let n = written(w, out);
+    print_text(b" ");
+    print_answer(w);
+    let n = written_bytes(w, out);
     if w.reply != 0 {
-        tell_kept(b" ", kept(out, n, UNTOUCHED));
+        print_unchanged(b" ", is_unchanged(out, n, UNTOUCHED));
     } else if same(&out[..n], text) {
-        say(b" same\n");
+        print_text(b" same\n");
     } else {
-        say(b" other\n");
+        print_text(b" other\n");
     }
 }
 
 // The text once more, with so much room.
-fn tell_room(header: Header, rows: &[u64], refs: &[u64], names: &[u8], text: &[u8], room: usize) {
+fn print_smaller(
+    header: Header,
+    rows: &[u64],
+    refs: &[u64],
+    names: &[u8],
+    text: &[u8],
+    capacity: usize,
+) {
     let mut out = filled(UNTOUCHED);
-    let n = within(room, &out);
-    tell_again(header, rows, refs, names, text, &mut out[..n]);
+    let n = at_most(capacity, &out);
+    print_second_run(header, rows, refs, names, text, &mut out[..n]);
 }
 
 // How long the text of tables is; the text, to untouched output with much room; then with room for just the text, and with a byte
 // less.
-fn tell_text(header: Header, rows: &[u64], refs: &[u64], names: &[u8], out: &mut [u8]) {
-    say(b"size ");
-    tell_written(classic_write::text_size(header, rows, refs, names));
-    say(b"\n");
+fn print_text_of(header: Header, rows: &[u64], refs: &[u64], names: &[u8], out: &mut [u8]) {
+    print_text(b"size ");
+    print_answer(classic_write::text_size(header, rows, refs, names));
+    print_text(b"\n");
     let w = classic_write::text(header, rows, refs, names, out);
-    say(b"text ");
-    tell_written(w);
-    say(b"\n");
-    let n = written(w, out);
-    say(&out[..n]);
-    tell_kept(b"rest ", kept(out, n, UNTOUCHED));
-    tell_room(header, rows, refs, names, &out[..n], n);
+    print_text(b"text ");
+    print_answer(w);
+    print_text(b"\n");
+    let n = written_bytes(w, out);
+    print_text(&out[..n]);
+    print_unchanged(b"rest ", is_unchanged(out, n, UNTOUCHED));
+    print_smaller(header, rows, refs, names, &out[..n], n);
     if 0 < n {
-        tell_room(header, rows, refs, names, &out[..n], n - 1);
+        print_smaller(header, rows, refs, names, &out[..n], n - 1);
     }
 }
 
@@ -114,15 +121,21 @@ fn show(dump: &[u8]) {
     let mut rows = [UNREAD; ROWS];
     let mut refs = [UNREAD; REFS];
     let r = phd_read::read(dump, &mut rows, &mut refs);
-    tell_reading(r);
+    print_read_answer(r);
     let from = changes::place(dump, r);
     changes::fill(dump, from, 1, &mut rows);
     changes::fill(dump, from, 2, &mut refs);
-    let n = changes::lent(dump, from, 6, used(&rows, r.rows, table::ROW), &rows);
-    let m = changes::lent(dump, from, 7, used(&refs, r.refs, 1), &refs);
-    let header = changes::header(dump, from, r.facts);
+    let n = changes::passed_length(
+        dump,
+        from,
+        6,
+        used_numbers(&rows, r.rows, table::ROW_WIDTH),
+        &rows,
+    );
+    let m = changes::passed_length(dump, from, 7, used_numbers(&refs, r.refs, 1), &refs);
+    let header = changes::header(dump, from, r.header);
     let mut out = filled(UNTOUCHED);
-    tell_text(header, &rows[..n], &refs[..m], dump, &mut out);
+    print_text_of(header, &rows[..n], &refs[..m], dump, &mut out);
 }
 
 fn sample(name: &[u8]) {
@@ -134,8 +147,8 @@ fn sample(name: &[u8]) {
     let mut file = filled(0);
     let n = io::read_full(fd, &mut file);
     libc::close(fd);
-    say(name);
-    say(b"\n");
+    print_text(name);
+    print_text(b"\n");
     show(&file[..n]);
 }
 

@@ -16,15 +16,15 @@
 mod tables;
 
 use libc::STDOUT_FILENO;
-use phd::Facts;
-use samples_print::kept;
+use phd::Header;
+use samples_print::is_unchanged;
 use samples_print::line_end;
-use samples_print::say;
-use samples_print::tell;
-use samples_print::tell_kept;
-use samples_print::tell_whole;
-use samples_print::tell_written;
-use samples_print::written;
+use samples_print::print_answer;
+use samples_print::print_number;
+use samples_print::print_read;
+use samples_print::print_text;
+use samples_print::print_unchanged;
+use samples_print::written_bytes;
 ghost use Prim.Native.Nat.{_≤_, _<_};
 ghost use mathlib.Core.Path.{_≡_};
 ghost use lib.ListN.{length};
@@ -43,22 +43,22 @@ fn filled(x: u8) -> [u8; BYTES]
     [x; BYTES]
 }
 
-fn tell_byte(x: u8) {
-    say(b" ");
+fn print_byte(x: u8) {
+    print_text(b" ");
     io::print_hex(STDOUT_FILENO, x as u64, 2);
 }
 
 // The bytes from one index to before another, in a line.
-fn tell_line(s: &[u8], from: usize, end: usize)
+fn print_byte_line(s: &[u8], from: usize, end: usize)
     requires { ⌜ end ≤ length (now s) ⌝ }
 {
-    say(b"bytes");
+    print_text(b"bytes");
     let mut i = from;
     while i < end {
-        tell_byte(s[i]);
+        print_byte(s[i]);
         i += 1;
     }
-    say(b"\n");
+    print_text(b"\n");
 }
 
 // Whether the line from one index to before another is a whole one and like the one before.
@@ -81,15 +81,15 @@ fn repeats(s: &[u8], at: usize, end: usize) -> bool
     true
 }
 
-fn tell_again(n: usize) {
+fn print_repeated(n: usize) {
     if 0 < n {
-        tell(b"again ", n as u64);
-        say(b"\n");
+        print_number(b"again ", n as u64);
+        print_text(b"\n");
     }
 }
 
 // All bytes, in lines.
-fn tell_bytes(s: &[u8]) {
+fn print_bytes(s: &[u8]) {
     let mut again: usize = 0;
     let mut at: usize = 0;
     while at < s.len() {
@@ -97,13 +97,13 @@ fn tell_bytes(s: &[u8]) {
         if repeats(s, at, next) {
             again += 1;
         } else {
-            tell_again(again);
+            print_repeated(again);
             again = 0;
-            tell_line(s, at, next);
+            print_byte_line(s, at, next);
         }
         at = next;
     }
-    tell_again(again);
+    print_repeated(again);
 }
 
 // What reading a dump gives.
@@ -111,21 +111,21 @@ fn read_back(dump: &[u8]) {
     let mut rows = [0; tables::ROWS];
     let mut refs = [0; tables::REFS];
     let r = phd_read::read(dump, &mut rows, &mut refs);
-    say(b"read ");
-    tell_whole(r, &rows, &refs);
+    print_text(b"read ");
+    print_read(r, &rows, &refs);
 }
 
 // Asks for the size of tables, and writes them to untouched output.
-fn write(facts: Facts, rows: &[u64], refs: &[u64], names: &[u8], out: &mut [u8]) {
-    say(b"size ");
-    tell_written(phd_write::write_size(facts, rows, refs, names));
-    say(b"\n");
-    let w = phd_write::write(facts, rows, refs, names, out);
-    tell_written(w);
-    say(b"\n");
-    let n = written(w, out);
-    tell_bytes(&out[..n]);
-    tell_kept(b"rest ", kept(out, n, UNTOUCHED));
+fn write(header: Header, rows: &[u64], refs: &[u64], names: &[u8], out: &mut [u8]) {
+    print_text(b"size ");
+    print_answer(phd_write::write_size(header, rows, refs, names));
+    print_text(b"\n");
+    let w = phd_write::write(header, rows, refs, names, out);
+    print_answer(w);
+    print_text(b"\n");
+    let n = written_bytes(w, out);
+    print_bytes(&out[..n]);
+    print_unchanged(b"rest ", is_unchanged(out, n, UNTOUCHED));
     if w.reply == 0 {
         read_back(&out[..n]);
     }
@@ -141,13 +141,13 @@ fn show(s: &[u8]) {
     let mut names = filled(b'x');
     let k = tables::fill_names(s, 9, 8 * (tables::HEAD + n + m), &mut names);
     let mut out = filled(UNTOUCHED);
-    let room = tables::room(s, &out);
+    let capacity = tables::out_capacity(s, &out);
     write(
-        tables::facts(s),
+        tables::header(s),
         &rows[..n],
         &refs[..m],
         &names[..k],
-        &mut out[..room],
+        &mut out[..capacity],
     );
 }
 
@@ -160,8 +160,8 @@ fn sample(name: &[u8]) {
     let mut file = io::large_buffer();
     let n = io::read_full(fd, &mut file);
     libc::close(fd);
-    say(name);
-    say(b"\n");
+    print_text(name);
+    print_text(b"\n");
     show(&file[..n]);
 }
 

@@ -7,9 +7,9 @@
 //     the name bytes; those that the file lacks are `x`
 //
 // What is there or not is a number other than 0, or 0.
-use decode::Piece;
-use decode::Text;
-use phd::Facts;
+use decode::NumberRead;
+use decode::StringSpan;
+use phd::Header;
 ghost use Prim.Native.Nat.{_≤_};
 ghost use lib.ListN.{length};
 ghost use Rattle.io.specs.Counts.{Counts};
@@ -18,7 +18,7 @@ ghost use Rattle.io.specs.Counts.{Counts};
 pub const HEAD: usize = 10;
 
 // Room for the numbers of 48 rows, with five too few for one more, and for 70 references.
-pub const ROWS: usize = 48 * table::ROW + 5;
+pub const ROWS: usize = 48 * table::ROW_WIDTH + 5;
 
 pub const REFS: usize = 70;
 
@@ -28,8 +28,8 @@ fn number(s: &[u8], i: usize) -> u64 {
         return 0;
     }
     match decode::field(s, 8 * i, 8) {
-        Piece::Is(n, _) => n,
-        Piece::Stops(_) => 0,
+        NumberRead::Is(n, _) => n,
+        NumberRead::Stops(_) => 0,
     }
 }
 
@@ -45,20 +45,20 @@ fn limited(s: &[u8], i: usize, most: usize) -> usize
 }
 
 // How many bytes of the output are lent.
-pub fn room(s: &[u8], out: &[u8]) -> usize
+pub fn out_capacity(s: &[u8], out: &[u8]) -> usize
     ensures { λ r. ⌜ Counts r (now (out .entry)) ⌝ }
 {
     limited(s, 6, out.len())
 }
 
 // The header.
-pub fn facts(s: &[u8]) -> Facts {
-    Facts {
-        word: number(s, 0),
+pub fn header(s: &[u8]) -> Header {
+    Header {
+        bits: number(s, 0),
         hashed: number(s, 1) != 0,
         openj9: number(s, 2) != 0,
-        vm: Text {
-            there: number(s, 3) != 0,
+        vm: StringSpan {
+            present: number(s, 3) != 0,
             place: number(s, 4) as usize,
             len: number(s, 5) as usize,
         },

@@ -5,37 +5,37 @@ use Prim.Native.Nat.{_-_}
 use native.Mathlib.Omega.{arith}
 use Rattle.table.specs.Table.{row-count}
 use Rattle.table.specs.Rows.{all-at}
-use Rattle.classic.specs.ClassicText.{signature, is-class-named}
-use Rattle.table.specs.Search.{Searched, search-begins, search-found, search-next, search-ends}
+use Rattle.classic.specs.ClassicText.{primitive-array-type, is-class-named}
+use Rattle.table.specs.Search.{SearchInvariant, search-start, search-found, search-next, search-done}
 use Rattle.classic.proofs.class_named.Statement.{statement}
 use Rattle.classic.proofs.class_named.Tie as tie
 
 abbrev Inv-loop : tie.InvT-loop
-Inv-loop names rows prim n i₀ i = Searched (is-class-named names (signature prim)) rows i
+Inv-loop names rows prim n i₀ i = SearchInvariant (is-class-named names (primitive-array-type prim)) rows i
 
 abbrev μ-loop : tie.MeasureT-loop
 μ-loop names rows prim n i₀ i = n - i
 
 loop-holds : tie.Need-loop-holds Inv-loop μ-loop
-loop-holds c = search-begins _ _
+loop-holds c = search-start _ _
 
 row-at-requires : tie.Need-row-at-requires Inv-loop μ-loop
 unfolding row-count
 row-at-requires c κs = search needs
 
-named-requires : tie.Need-named-requires Inv-loop μ-loop
+is-class-named-requires : tie.Need-is-class-named-requires Inv-loop μ-loop
 unfolding row-count
-named-requires c κs =
+is-class-named-requires c κs =
     let l = c .before .before in
     let s = l .before .before .before in
-    (s .pre .0, rw (c .row-at .ensures) (all-at _ _ (l .loop .i) (s .pre .1 .row) (omega arith) .named))
+    (s .pre .0, rw (c .row-at .ensures) (all-at _ _ (l .loop .i) (s .pre .1 .row) (omega arith) .name-in-bounds))
 
 returns : tie.Need-returns Inv-loop μ-loop
 unfolding row-count
 returns c =
     let d = c .before .before in
     let l = d .before .before in
-    search-found _ _ _ _ (l .loop .inv) (omega arith) (d .row-at .ensures) (sym (c .before .named .ensures) ∙ c .if1 .taken)
+    search-found _ _ _ _ (l .loop .inv) (omega arith) (d .row-at .ensures) (sym (c .before .is-class-named .ensures) ∙ c .if1 .taken)
 
 add-i : tie.Need-add-i Inv-loop μ-loop
 unfolding row-count
@@ -50,12 +50,12 @@ unfolding row-count
 loop-again c =
     let d = c .before .before in
     let l = d .before .before in
-    search-next _ _ _ _ (l .loop .inv) (omega arith) (d .row-at .ensures) (sym (c .before .named .ensures) ∙ c .if1 .left)
+    search-next _ _ _ _ (l .loop .inv) (omega arith) (d .row-at .ensures) (sym (c .before .is-class-named .ensures) ∙ c .if1 .left)
 
 returns-2 : tie.Need-returns-2 Inv-loop μ-loop
 unfolding row-count
-returns-2 c = search-ends _ _ _ (c .before .loop .inv) (omega arith)
+returns-2 c = search-done _ _ _ (c .before .loop .inv) (omega arith)
 
 pub class-named-spec : {M : Type 1} → statement M
 class-named-spec =
-    tie.close (tie.spec Inv-loop μ-loop loop-holds row-at-requires named-requires returns add-i loop-less loop-again returns-2)
+    tie.close (tie.spec Inv-loop μ-loop loop-holds row-at-requires is-class-named-requires returns add-i loop-less loop-again returns-2)

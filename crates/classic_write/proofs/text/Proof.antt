@@ -1,14 +1,14 @@
 -- `text` meets its contract: a refusal before a byte is put, or what `fit` gives.
 use borrow.Author.Needs.{needs}
 use mathlib.Core.Path.{subst}
-use Rattle.table.specs.CheckOrder.{refused-keeps}
-use Rattle.classic_write.specs.TextOutcomes.{asked-split}
-use Rattle.classic_write.specs.SizedText.{Measures}
+use Rattle.table.specs.CheckOrder.{refused-unchanged}
+use Rattle.classic_write.specs.TextOutcomes.{size-query-agrees}
+use Rattle.classic_write.specs.SizedText.{SizedTextMeans}
 use Rattle.classic_write.proofs.text.Statement.{statement}
 use Rattle.classic_write.proofs.text.Tie as tie
 
-measure-requires : tie.Need-measure-requires
-measure-requires c κs = search needs
+check-and-size-requires : tie.Need-check-and-size-requires
+check-and-size-requires c κs = search needs
 
 enum-known-refusal : tie.Need-enum-known-refusal
 enum-known-refusal c = search needs
@@ -19,11 +19,11 @@ enum-known-size c = search needs
 returns : tie.Need-returns
 returns c =
     let m = c .before in
-    let r = subst (Measures _ _ _ _) (m .refusal .given .1) (m .before .before .measure .ensures) in
-    refused-keeps _ _ _ _ (asked-split _ _ _ _ _ _ (r .0) .refusal (r .1))
+    let r = subst (SizedTextMeans _ _ _ _) (m .refusal .given .1) (m .before .before .check-and-size .ensures) in
+    refused-unchanged _ _ _ _ (size-query-agrees _ _ _ _ _ _ (r .0) .refusal (r .1))
 
-fit-requires : tie.Need-fit-requires
-fit-requires c κs = let m = c .before .before in subst (Measures _ _ _ _) (m .size .given .1) (m .before .before .measure .ensures)
+write-if-fits-requires : tie.Need-write-if-fits-requires
+write-if-fits-requires c κs = let m = c .before .before in subst (SizedTextMeans _ _ _ _) (m .size .given .1) (m .before .before .check-and-size .ensures)
 
 same-length : tie.Need-same-length
 same-length c = search needs
@@ -35,10 +35,10 @@ pub text-spec : {M : Type 1} → statement M
 text-spec =
     tie.close
     (tie.spec
-    measure-requires
+    check-and-size-requires
     enum-known-refusal
     enum-known-size
-    fit-requires
+    write-if-fits-requires
     returns
     same-length
     returns-2)

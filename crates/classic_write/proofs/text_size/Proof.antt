@@ -1,12 +1,12 @@
 -- `text_size` meets its contract: what was measured is what asking answers.
 use borrow.Author.Needs.{needs}
 use mathlib.Core.Path.{subst}
-use Rattle.classic_write.specs.SizedText.{Measures, counted-asks}
+use Rattle.classic_write.specs.SizedText.{SizedTextMeans, checked-text-reply}
 use Rattle.classic_write.proofs.text_size.Statement.{statement}
 use Rattle.classic_write.proofs.text_size.Tie as tie
 
-measure-requires : tie.Need-measure-requires
-measure-requires c κs = search needs
+check-and-size-requires : tie.Need-check-and-size-requires
+check-and-size-requires c κs = search needs
 
 enum-known-refusal : tie.Need-enum-known-refusal
 enum-known-refusal c = search needs
@@ -15,11 +15,11 @@ enum-known-size : tie.Need-enum-known-size
 enum-known-size c = search needs
 
 returns : tie.Need-returns
-returns c = let m = c .before in subst (Measures _ _ _ _) (m .refusal .given .1) (m .before .before .measure .ensures) .0
+returns c = let m = c .before in subst (SizedTextMeans _ _ _ _) (m .refusal .given .1) (m .before .before .check-and-size .ensures) .0
 
 returns-2 : tie.Need-returns-2
-returns-2 c = let m = c .before in counted-asks (subst (Measures _ _ _ _) (m .size .given .1) (m .before .before .measure .ensures))
+returns-2 c = let m = c .before in checked-text-reply (subst (SizedTextMeans _ _ _ _) (m .size .given .1) (m .before .before .check-and-size .ensures))
 
 pub text-size-spec : {M : Type 1} → statement M
 text-size-spec =
-    tie.close (tie.spec measure-requires enum-known-refusal enum-known-size returns returns-2)
+    tie.close (tie.spec check-and-size-requires enum-known-refusal enum-known-size returns returns-2)

@@ -4,9 +4,9 @@ use mathlib.Core.Path.{_≡_, sym, ap, subst, _∙_}
 use native.Mathlib.Omega.{arith}
 use mir.Syntax.{w64}
 use mir.Facts.{toZ-ofZ}
-use Rattle.decode.specs.Numbers.{signed, moved}
+use Rattle.decode.specs.Numbers.{signed, add-gap}
 use Rattle.decode.specs.Layout.{whole, run, field, run-then, run-need}
-use Rattle.decode.specs.Fields.{outcome, Small, address}
+use Rattle.decode.specs.Fields.{outcome, FitsWidth, address}
 use Rattle.decode.proofs.address.Statement.{statement}
 use Rattle.decode.proofs.address.Tie as tie
 
@@ -15,14 +15,14 @@ got : (c : tie.After-raw) → let a = c .before .before .before .before .args in
 got c = sym (c .before .before .field .ensures .0) ∙ ap outcome (c .raw .given .1)
 
 -- where the gap leads
-module _ (c : tie.After-moved) where
+module _ (c : tie.After-add-gap) where
   leads : let w = c .before .before .before in let a = w .before .before .before .before .args in
-      moved (a .highest) (a .base) (signed (a .n) (w .raw .given .0 .0)) ≡ c .moved .result
+      add-gap (a .highest) (a .base) (signed (a .n) (w .raw .given .0 .0)) ≡ c .add-gap .result
   leads =
       let w = c .before .before .before in
       let a = w .before .before .before .before .args in
       let g = c .before .signed in
-      ap (moved (a .highest) (a .base)) (sym (g .ensures) ∙ sym (toZ-ofZ {w = w64} {z = g .result} (record { sfits = g .ok }))) ∙ sym (c .moved .ensures)
+      ap (add-gap (a .highest) (a .base)) (sym (g .ensures) ∙ sym (toZ-ofZ {w = w64} {z = g .result} (record { sfits = g .ok }))) ∙ sym (c .add-gap .ensures)
 
 field-requires : tie.Need-field-requires
 field-requires c κs = search needs
@@ -33,10 +33,10 @@ enum-known-raw c = search needs
 signed-requires : tie.Need-signed-requires
 signed-requires c κs =
     let w = c .before in
-    (omega arith, subst (Small _) (w .raw .given .1) (w .before .before .field .ensures .1))
+    (omega arith, subst (FitsWidth _) (w .raw .given .1) (w .before .before .field .ensures .1))
 
-moved-requires : tie.Need-moved-requires
-moved-requires c κs = search needs
+add-gap-requires : tie.Need-add-gap-requires
+add-gap-requires c κs = search needs
 
 enum-known-a : tie.Need-enum-known-a
 enum-known-a c = search needs
@@ -70,7 +70,7 @@ address-spec =
     field-requires
     enum-known-raw
     signed-requires
-    moved-requires
+    add-gap-requires
     enum-known-a
     enum-told
     enum-known-w

@@ -5,14 +5,14 @@ use Prim.Native.Nat.{_+_, _-_, _≤_}
 use native.Mathlib.Nat.{add-zero, sub-zero}
 use native.Mathlib.Omega.{arith}
 use lib.ListN.{take, drop}
-use Rattle.decode.specs.Numbers.{within}
-use Rattle.decode.proofs.DecodeLaws.{below-low, above-high, between}
+use Rattle.decode.specs.Numbers.{all-within}
+use Rattle.decode.proofs.DecodeLaws.{all-within-too-low, all-within-too-high, all-within-next}
 use Rattle.decode.proofs.all_within.Statement.{statement}
 use Rattle.decode.proofs.all_within.Tie as tie
 
 abbrev Inv-loop : tie.InvT-loop
 Inv-loop s at n low high i₀ i =
-    (i ≤ n) × (within low high (take (n - i) (drop (at + i) s)) ≡ within low high (take n (drop at s)))
+    (i ≤ n) × (all-within low high (take (n - i) (drop (at + i) s)) ≡ all-within low high (take n (drop at s)))
 
 abbrev μ-loop : tie.MeasureT-loop
 μ-loop s at n low high i₀ i = n - i
@@ -30,13 +30,13 @@ returns : tie.Need-returns Inv-loop μ-loop
 returns c =
     let l = c .before .before .before in
     let a = l .before .args in
-    sym (sym (l .loop .inv .1) ∙ below-low (a .s .now) (a .at) (a .n) (l .loop .i) (a .low) (a .high) (omega arith) (omega arith) (omega arith))
+    sym (sym (l .loop .inv .1) ∙ all-within-too-low (a .s .now) (a .at) (a .n) (l .loop .i) (a .low) (a .high) (omega arith) (omega arith) (omega arith))
 
 returns-2 : tie.Need-returns-2 Inv-loop μ-loop
 returns-2 c =
     let l = c .before .before .before .before in
     let a = l .before .args in
-    sym (sym (l .loop .inv .1) ∙ above-high (a .s .now) (a .at) (a .n) (l .loop .i) (a .low) (a .high) (omega arith) (omega arith) (omega arith) (omega arith))
+    sym (sym (l .loop .inv .1) ∙ all-within-too-high (a .s .now) (a .at) (a .n) (l .loop .i) (a .low) (a .high) (omega arith) (omega arith) (omega arith) (omega arith))
 
 add-i : tie.Need-add-i Inv-loop μ-loop
 add-i c = search needs
@@ -48,10 +48,10 @@ loop-again : tie.Need-loop-again Inv-loop μ-loop
 loop-again c =
     let l = c .before .before .before .before in
     let a = l .before .args in
-    (omega arith, sym (between (a .s .now) (a .at) (a .n) (l .loop .i) (a .low) (a .high) (omega arith) (omega arith) (omega arith) (omega arith)) ∙ l .loop .inv .1)
+    (omega arith, sym (all-within-next (a .s .now) (a .at) (a .n) (l .loop .i) (a .low) (a .high) (omega arith) (omega arith) (omega arith) (omega arith)) ∙ l .loop .inv .1)
 
 returns-3 : tie.Need-returns-3 Inv-loop μ-loop
-unfolding within
+unfolding all-within
 returns-3 c =
     let l = c .before in
     let a = l .before .args in

@@ -6,7 +6,7 @@ use native.Mathlib.Nat.{add-zero, sub-zero}
 use borrow.Author.Needs.{needs}
 use lib.ListN.{take, drop}
 use Rattle.decode.specs.Numbers.{value-after}
-use Rattle.decode.proofs.DecodeLaws.{digit-lt, seven, byte-read}
+use Rattle.decode.proofs.DecodeLaws.{digit-lt, seven-bytes-lt, value-after-step}
 use Rattle.decode.proofs.be.Statement.{statement}
 use Rattle.decode.proofs.be.Tie as tie
 
@@ -22,7 +22,7 @@ loop-holds : tie.Need-loop-holds Inv-loop μ-loop
 loop-holds c = (omega arith, omega arith, simp (add-zero, sub-zero))
 
 mul-sum : tie.Need-mul-sum Inv-loop μ-loop
-mul-sum c = omega (arith, seven _ (c .before .loop .inv .1) (omega arith))
+mul-sum c = omega (arith, seven-bytes-lt _ (c .before .loop .inv .1) (omega arith))
 
 add-wide : tie.Need-add-wide Inv-loop μ-loop
 add-wide c = search needs
@@ -40,7 +40,7 @@ digit c =
     omega (arith, c .before .shared-slice-known2 .given (l .before .before .args .at + l .loop .i))
 
 add-sum : tie.Need-add-sum Inv-loop μ-loop
-add-sum c = omega (arith, digit c, seven _ (c .before .before .before .loop .inv .1) (omega arith))
+add-sum c = omega (arith, digit c, seven-bytes-lt _ (c .before .before .before .loop .inv .1) (omega arith))
 
 add-i : tie.Need-add-i Inv-loop μ-loop
 add-i c = search needs
@@ -54,7 +54,7 @@ loop-again c =
     let a = l .before .before .args in (
       omega arith,
       digit-lt (l .loop .i) (l .loop .inv .1) (digit c),
-      rw (c .wide .ensures) (sym (byte-read (a .s .now) (a .at) (a .n) (l .loop .i) (l .loop .sum) (omega arith) (omega arith)) ∙ l .loop .inv .2),
+      rw (c .wide .ensures) (sym (value-after-step (a .s .now) (a .at) (a .n) (l .loop .i) (l .loop .sum) (omega arith) (omega arith)) ∙ l .loop .inv .2),
     )
 
 returns : tie.Need-returns Inv-loop μ-loop

@@ -4,9 +4,9 @@ use mathlib.Core.Path.{_≡_, sym, ap, subst, _∙_}
 use native.Mathlib.Omega.{arith}
 use mir.Syntax.{w64}
 use mir.Facts.{toZ-ofZ}
-use Rattle.decode.specs.Numbers.{signed, counted}
+use Rattle.decode.specs.Numbers.{signed, to-count}
 use Rattle.decode.specs.Layout.{whole, run, field, run-then, run-need}
-use Rattle.decode.specs.Fields.{outcome, Small, count}
+use Rattle.decode.specs.Fields.{outcome, FitsWidth, count}
 use Rattle.decode.proofs.count.Statement.{statement}
 use Rattle.decode.proofs.count.Tie as tie
 
@@ -15,12 +15,12 @@ got : (c : tie.After-raw) → let a = c .before .before .before .before .args in
 got c = sym (c .before .before .field .ensures .0) ∙ ap outcome (c .raw .given .1)
 
 -- the count that the field holds
-module _ (c : tie.After-counted) where
+module _ (c : tie.After-to-count) where
   holds : let w = c .before .before .before in let a = w .before .before .before .before .args in
-      counted (signed (a .n) (w .raw .given .0 .0)) ≡ c .counted .result
+      to-count (signed (a .n) (w .raw .given .0 .0)) ≡ c .to-count .result
   holds =
       let g = c .before .signed in
-      ap counted (sym (g .ensures) ∙ sym (toZ-ofZ {w = w64} {z = g .result} (record { sfits = g .ok }))) ∙ sym (c .counted .ensures)
+      ap to-count (sym (g .ensures) ∙ sym (toZ-ofZ {w = w64} {z = g .result} (record { sfits = g .ok }))) ∙ sym (c .to-count .ensures)
 
 field-requires : tie.Need-field-requires
 field-requires c κs = search needs
@@ -31,10 +31,10 @@ enum-known-raw c = search needs
 signed-requires : tie.Need-signed-requires
 signed-requires c κs =
     let w = c .before in
-    (omega arith, subst (Small _) (w .raw .given .1) (w .before .before .field .ensures .1))
+    (omega arith, subst (FitsWidth _) (w .raw .given .1) (w .before .before .field .ensures .1))
 
-counted-requires : tie.Need-counted-requires
-counted-requires c κs = search needs
+to-count-requires : tie.Need-to-count-requires
+to-count-requires c κs = search needs
 
 enum-known-c : tie.Need-enum-known-c
 enum-known-c c = search needs
@@ -68,7 +68,7 @@ count-spec =
     field-requires
     enum-known-raw
     signed-requires
-    counted-requires
+    to-count-requires
     enum-known-c
     enum-told
     enum-known-w

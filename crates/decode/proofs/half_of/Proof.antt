@@ -4,7 +4,7 @@ use Prim.Native.Nat.{_-_, _*_, _^_, _<_}
 use native.Mathlib.Omega.{arith}
 use native.Mathlib.Nat.{one-mul, mod-eq-of-lt}
 use lib.Pow.{pow-lt}
-use Rattle.decode.proofs.DecodeLaws.{half-half}
+use Rattle.decode.proofs.DecodeLaws.{half-plus-half}
 use Rattle.decode.proofs.half_of.Statement.{statement}
 use Rattle.decode.proofs.half_of.Tie as tie
 
@@ -21,7 +21,7 @@ returns : tie.Need-returns
 returns c =
     let n = c .args .n in
     let h : 2 ^ (8 * n - 1) < 2 ^ 64 = pow-lt {i = 8 * n - 1} {j = 64} (omega arith) in
-    simp (one-mul, mod-eq-of-lt h) (half-half n (omega arith))
+    simp (one-mul, mod-eq-of-lt h) (half-plus-half n (omega arith))
 
 pub half-of-spec : {M : Type 1} → statement M
 half-of-spec = tie.close (tie.spec mul-result sub-result shl-result returns)

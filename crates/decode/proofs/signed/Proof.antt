@@ -7,7 +7,7 @@ use lib.IntN.{ℤ, negsuc, _-ℤ_}
 use mir.Syntax.{w64}
 use mir.Val.{toZ}
 use mir.Facts.{toZ-pos, toZ-ofZ}
-use Rattle.decode.proofs.DecodeLaws.{word, neg-one-sub, signed-small, signed-large}
+use Rattle.decode.proofs.DecodeLaws.{bytes-le-u64, neg-one-sub, signed-small, signed-large}
 use Rattle.decode.proofs.signed.Statement.{statement}
 use Rattle.decode.proofs.signed.Tie as tie
 
@@ -23,7 +23,7 @@ half-of-requires : tie.Need-half-of-requires
 half-of-requires c κs = search needs
 
 cast-result : tie.Need-cast-result
-cast-result c = omega (arith, word (c .before .before .before .args .n) (omega arith))
+cast-result c = omega (arith, bytes-le-u64 (c .before .before .before .args .n) (omega arith))
 
 sub-below : tie.Need-sub-below
 sub-below c = search needs
@@ -32,7 +32,7 @@ sub-below-2 : tie.Need-sub-below-2
 sub-below-2 c = search needs
 
 cast-result-2 : tie.Need-cast-result-2
-cast-result-2 c = omega (arith, word (c .before .before .before .args .n) (omega arith))
+cast-result-2 c = omega (arith, bytes-le-u64 (c .before .before .before .args .n) (omega arith))
 
 -- the bits below the sign, taken from -1
 abbrev G : tie.Else2 → ℕ
@@ -40,16 +40,16 @@ G c = c .before .half-of .result - 1 - (c .before .before .before .args .raw - c
 
 below : (c : tie.Else2) → negsuc 0 -ℤ toZ w64 (G c) ≡ negsuc (G c)
 below c =
-    let h : G c < 2 ^ 63 = omega (arith, word (c .before .before .before .args .n) (omega arith)) in
+    let h : G c < 2 ^ 63 = omega (arith, bytes-le-u64 (c .before .before .before .args .n) (omega arith)) in
     ap (λ (z : ℤ). negsuc 0 -ℤ z) (toZ-pos w64 h) ∙ neg-one-sub (G c)
 
 sub-result : tie.Need-sub-result
-sub-result c = rw (below c) (omega (arith, word (c .before .before .before .args .n) (omega arith)))
+sub-result c = rw (below c) (omega (arith, bytes-le-u64 (c .before .before .before .args .n) (omega arith)))
 
 returns-2 : tie.Need-returns-2
 returns-2 c =
     let a = c .before .before .before .args in
-    toZ-pos w64 (omega (arith, word (a .n) (omega arith))) ∙ sym (signed-small (a .n) (a .raw) (omega arith))
+    toZ-pos w64 (omega (arith, bytes-le-u64 (a .n) (omega arith))) ∙ sym (signed-small (a .n) (a .raw) (omega arith))
 
 returns-3 : tie.Need-returns-3
 returns-3 c =

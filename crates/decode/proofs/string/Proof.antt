@@ -5,7 +5,7 @@ use mathlib.Core.Path.{_≡_, sym, ap, _∙_}
 use Prim.Native.Nat.{_+_, _-_, _≤_, _<_}
 use native.Mathlib.Omega.{arith}
 use lib.ListN.{length}
-use Rattle.decode.specs.Layout.{whole, run, field, run-then, run-check, run-yield, run-position, run-raw, run-raw-short, inside}
+use Rattle.decode.specs.Layout.{whole, run, field, run-then, run-check, run-yield, run-position, run-raw, run-raw-short, end-in-bounds}
 use Rattle.decode.specs.Fields.{outcome, string}
 use Rattle.decode.proofs.string.Statement.{statement}
 use Rattle.decode.proofs.string.Tie as tie
@@ -17,7 +17,7 @@ module _ (c : tie.After-len) where
 
   -- the place of the bytes lies within the dump
   placed : let a = c .before .before .before .before .args in c .len .given .0 .1 .0 ≤ length (a .s .now)
-  placed = let a = c .before .before .before .before .args in inside (field 2) (a .s .now) (a .at) _ _ (omega arith) got
+  placed = let a = c .before .before .before .before .args in end-in-bounds (field 2) (a .s .now) (a .at) _ _ (omega arith) got
 
 field-requires : tie.Need-field-requires
 field-requires c κs = search needs

@@ -8,11 +8,11 @@ use Rattle.encode.proofs.gap_code.Tie as tie
 distance-requires : tie.Need-distance-requires
 distance-requires c κs = search needs
 
-code-of-requires : tie.Need-code-of-requires
-code-of-requires c κs = search needs
+number-code-requires : tie.Need-number-code-requires
+number-code-requires c κs = search needs
 
 returns : tie.Need-returns
-returns c = c .code-of .ensures ∙ sym (code-gap _ _ _ (c .before .distance .ensures))
+returns c = c .number-code .ensures ∙ sym (code-gap _ _ _ (c .before .distance .ensures))
 
 pub gap-code-spec : {M : Type 1} → statement M
-gap-code-spec = tie.close (tie.spec distance-requires code-of-requires returns)
+gap-code-spec = tie.close (tie.spec distance-requires number-code-requires returns)

@@ -4,14 +4,14 @@ use mathlib.Core.Path.{refl}
 use Rattle.phd_c.proofs.phd_text.Statement.{statement}
 use Rattle.phd_c.proofs.phd_text.Tie as tie
 
-header-of-requires : tie.Need-header-of-requires
-header-of-requires c κs = search needs
+header-from-requires : tie.Need-header-from-requires
+header-from-requires c κs = search needs
 
 text-requires : tie.Need-text-requires
 text-requires c κs = search needs
 
-of-written-requires : tie.Need-of-written-requires
-of-written-requires c κs = search needs
+answer-numbers-requires : tie.Need-answer-numbers-requires
+answer-numbers-requires c κs = search needs
 
 same-length : tie.Need-same-length
 same-length c = search needs
@@ -19,8 +19,8 @@ same-length c = search needs
 returns : tie.Need-returns
 returns c =
     let w = c .before .before .before .text .ensures in
-    rw (← c .before .before .before .before .before .header-of .ensures, c .of-written .ensures, w .0) (refl, (w .1, refl))
+    rw (← c .before .before .before .before .before .header-from .ensures, c .answer-numbers .ensures, w .0) (refl, (w .1, refl))
 
 pub phd-text-spec : {M : Type 1} → statement M
 phd-text-spec =
-    tie.close (tie.spec header-of-requires text-requires of-written-requires same-length returns)
+    tie.close (tie.spec header-from-requires text-requires answer-numbers-requires same-length returns)

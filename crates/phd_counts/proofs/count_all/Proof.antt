@@ -2,29 +2,29 @@
 use borrow.Author.Needs.{needs}
 use Prim.Native.Nat.{_-_}
 use Rattle.table.specs.Table.{row-count}
-use Rattle.phd_counts.specs.CountLoop.{Counting, counting-begins, counting-next, counting-small, counting-ends}
+use Rattle.phd_counts.specs.CountLoop.{CountedBefore, counted-before-first, counted-before-next, counted-no-overflow, counted-before-end}
 use Rattle.phd_counts.proofs.count_all.Statement.{statement}
 use Rattle.phd_counts.proofs.count_all.Tie as tie
 
 abbrev Inv-loop : tie.InvT-loop
-Inv-loop rows n t₀ i₀ t i = Counting rows i t
+Inv-loop rows n t₀ i₀ t i = CountedBefore rows i t
 
 abbrev μ-loop : tie.MeasureT-loop
 μ-loop rows n t₀ i₀ t i = n - i
 
 loop-holds : tie.Need-loop-holds Inv-loop μ-loop
-loop-holds c = counting-begins _
+loop-holds c = counted-before-first _
 
 row-at-requires : tie.Need-row-at-requires Inv-loop μ-loop
 unfolding row-count
 row-at-requires c κs = search needs
 
-counted-requires : tie.Need-counted-requires Inv-loop μ-loop
+add-row-requires : tie.Need-add-row-requires Inv-loop μ-loop
 unfolding row-count
-counted-requires c κs =
+add-row-requires c κs =
     let l = c .before .before in
     let d = l .before .before in
-    counting-small _ (l .loop .i) _ (l .loop .inv) _ (c .before .loop-test .taken) (c .row-at .ensures) (d .pre)
+    counted-no-overflow _ (l .loop .i) _ (l .loop .inv) _ (c .before .loop-test .taken) (c .row-at .ensures) (d .pre)
 
 add-i : tie.Need-add-i Inv-loop μ-loop
 add-i c = search needs
@@ -37,11 +37,11 @@ unfolding row-count
 loop-again c =
     let d = c .before in
     let l = d .before .before in
-    counting-next _ (l .loop .i) _ (l .loop .inv) _ _ (d .before .loop-test .taken) (d .row-at .ensures) (c .counted .ensures)
+    counted-before-next _ (l .loop .i) _ (l .loop .inv) _ _ (d .before .loop-test .taken) (d .row-at .ensures) (c .add-row .ensures)
 
 returns : tie.Need-returns Inv-loop μ-loop
 unfolding row-count
-returns c = let l = c .before in counting-ends _ (l .loop .i) _ (l .loop .inv) (c .loop-test .left)
+returns c = let l = c .before in counted-before-end _ (l .loop .i) _ (l .loop .inv) (c .loop-test .left)
 
 pub count-all-spec : {M : Type 1} → statement M
 count-all-spec =
@@ -51,7 +51,7 @@ count-all-spec =
     μ-loop
     loop-holds
     row-at-requires
-    counted-requires
+    add-row-requires
     add-i
     loop-less
     loop-again

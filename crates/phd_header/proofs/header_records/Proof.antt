@@ -4,8 +4,8 @@ use borrow.Author.Tests.{eq-eqb, ne-eqb}
 use mathlib.Core.Path.{_≡_, sym, ap, _∙_}
 use Prim.Native.Nat.{_≤_}
 use lib.ListN.{length}
-use Rattle.decode.specs.Layout.{whole, run, field, run-then, run-yield, run-refuse, inside}
-use Rattle.decode.specs.Fields.{outcome, text-outcome, string}
+use Rattle.decode.specs.Layout.{whole, run, field, run-then, run-yield, run-refuse, end-in-bounds}
+use Rattle.decode.specs.Fields.{outcome, string-outcome, string}
 use Rattle.phd.specs.Phd.{after-vm, header-records}
 use Rattle.phd_header.proofs.header_records.Statement.{statement}
 use Rattle.phd_header.proofs.header_records.Tie as tie
@@ -16,7 +16,7 @@ module _ (c : tie.After-x) where
   tag-got = sym (c .before .before .field .ensures .0) ∙ ap outcome (c .x .given .1)
 
   tag-in : c .x .given .0 .1 .0 ≤ length (c .before .before .before .before .args .s .now)
-  tag-in = inside (field 1) _ _ _ _ (c .before .before .before .before .pre) tag-got
+  tag-in = end-in-bounds (field 1) _ _ _ _ (c .before .before .before .before .pre) tag-got
 
 -- the tag before the VM string
 abbrev tag-of : tie.After-vm → tie.After-x
@@ -25,10 +25,10 @@ tag-of c = c .before .before .before .before .before .before
 module _ (c : tie.After-vm) where
   vm-got : run (string 0x20 0) (tag-of c .before .before .before .before .args .s .now) (tag-of c .x .given .0 .1 .0)
       ≡ whole (c .vm .given .0 .0) (c .vm .given .0 .1 .0)
-  vm-got = sym (c .before .before .string .ensures) ∙ ap text-outcome (c .vm .given .1)
+  vm-got = sym (c .before .before .string .ensures) ∙ ap string-outcome (c .vm .given .1)
 
   vm-in : c .vm .given .0 .1 .0 ≤ length (tag-of c .before .before .before .before .args .s .now)
-  vm-in = inside (string 0x20 0) _ _ _ _ (tag-in (tag-of c)) vm-got
+  vm-in = end-in-bounds (string 0x20 0) _ _ _ _ (tag-in (tag-of c)) vm-got
 
 field-requires : tie.Need-field-requires
 field-requires c κs = search needs

@@ -5,10 +5,10 @@ use mathlib.Core.List.{List}
 use Prim.Native.Nat.{ℕ, _≤_}
 use native.Mathlib.Omega.{arith}
 use lib.ListN.{length}
-use Rattle.decode.specs.Layout.{whole, run, run-then, run-yield, inside}
+use Rattle.decode.specs.Layout.{whole, run, run-then, run-yield, end-in-bounds}
 use Rattle.decode.specs.Fields.{outcome, exactly, below}
-use Rattle.phd.specs.Phd.{opening-bytes, preamble}
-use Rattle.phd_header.specs.HeaderOutcomes.{passed-outcome}
+use Rattle.phd.specs.Phd.{magic-bytes, preamble}
+use Rattle.phd_header.specs.HeaderOutcomes.{unit-outcome}
 use Rattle.phd_header.proofs.preamble.Statement.{statement}
 use Rattle.phd_header.proofs.preamble.Tie as tie
 
@@ -30,14 +30,14 @@ module _ (c : tie.After-len) where
   len-got = sym (c .before .before .exactly .ensures) ∙ ap outcome (c .len .given .1)
 
   len-in : c .len .given .0 .1 .0 ≤ length (dump c)
-  len-in = inside (exactly 2 18 3) _ _ _ _ (omega arith) len-got
+  len-in = end-in-bounds (exactly 2 18 3) _ _ _ _ (omega arith) len-got
 
 module _ (c : tie.After-next) where
-  next-got : run opening-bytes (dump (len-of c)) (len-of c .len .given .0 .1 .0) ≡ whole tt (c .next .given .0 .0)
-  next-got = sym (c .before .before .opening-bytes .ensures) ∙ ap passed-outcome (c .next .given .1)
+  next-got : run magic-bytes (dump (len-of c)) (len-of c .len .given .0 .1 .0) ≡ whole tt (c .next .given .0 .0)
+  next-got = sym (c .before .before .magic-bytes .ensures) ∙ ap unit-outcome (c .next .given .1)
 
   next-in : c .next .given .0 .0 ≤ length (dump (len-of c))
-  next-in = inside opening-bytes _ _ _ _ (len-in (len-of c)) next-got
+  next-in = end-in-bounds magic-bytes _ _ _ _ (len-in (len-of c)) next-got
 
 module _ (c : tie.After-version) where
   version-got : run (exactly 4 6 4) (dump (len-of (next-of c))) (next-of c .next .given .0 .0)
@@ -45,7 +45,7 @@ module _ (c : tie.After-version) where
   version-got = sym (c .before .before .exactly2 .ensures) ∙ ap outcome (c .version .given .1)
 
   version-in : c .version .given .0 .1 .0 ≤ length (dump (len-of (next-of c)))
-  version-in = inside (exactly 4 6 4) _ _ _ _ (next-in (next-of c)) version-got
+  version-in = end-in-bounds (exactly 4 6 4) _ _ _ _ (next-in (next-of c)) version-got
 
 module _ (c : tie.After-flags) where
   flags-got : run (below 4 8 5) (dump (len-of (next-of (version-of c)))) (version-of c .version .given .0 .1 .0)
@@ -53,7 +53,7 @@ module _ (c : tie.After-flags) where
   flags-got = sym (c .before .before .below .ensures) ∙ ap outcome (c .flags .given .1)
 
   flags-in : c .flags .given .0 .1 .0 ≤ length (dump (len-of (next-of (version-of c))))
-  flags-in = inside (below 4 8 5) _ _ _ _ (version-in (version-of c)) flags-got
+  flags-in = end-in-bounds (below 4 8 5) _ _ _ _ (version-in (version-of c)) flags-got
 
 exactly-requires : tie.Need-exactly-requires
 exactly-requires c κs = search needs
@@ -68,8 +68,8 @@ returns : tie.Need-returns
 unfolding preamble
 returns c = rw (run-then, ← c .before .before .exactly .ensures, c .enum-told .given .1)
 
-opening-bytes-requires : tie.Need-opening-bytes-requires
-opening-bytes-requires c κs = len-in (c .before)
+magic-bytes-requires : tie.Need-magic-bytes-requires
+magic-bytes-requires c κs = len-in (c .before)
 
 enum-known-next : tie.Need-enum-known-next
 enum-known-next c = search needs
@@ -81,7 +81,7 @@ returns-2 : tie.Need-returns-2
 unfolding preamble
 returns-2 c =
     let m = c .before .before .before .before .before in
-    rw (run-then, len-got m, run-then, ← c .before .before .before .opening-bytes .ensures, c .before .w .given .1)
+    rw (run-then, len-got m, run-then, ← c .before .before .before .magic-bytes .ensures, c .before .w .given .1)
 
 exactly-requires-2 : tie.Need-exactly-requires-2
 exactly-requires-2 c κs = (omega arith, next-in (c .before))
@@ -147,7 +147,7 @@ preamble-spec =
     enum-known-len
     enum-told
     returns
-    opening-bytes-requires
+    magic-bytes-requires
     enum-known-next
     enum-known-w
     returns-2

@@ -4,8 +4,8 @@ use mathlib.Core.Path.{_≡_, sym, ap, _∙_}
 use Prim.Native.Nat.{_≤_}
 use native.Mathlib.Omega.{arith}
 use lib.ListN.{length}
-use Rattle.decode.specs.Layout.{whole, run, run-then, run-yield, inside}
-use Rattle.decode.specs.Fields.{outcome, text-outcome, exactly}
+use Rattle.decode.specs.Layout.{whole, run, run-then, run-yield, end-in-bounds}
+use Rattle.decode.specs.Fields.{outcome, string-outcome, exactly}
 use Rattle.phd.specs.Phd.{preamble, header-records, header}
 use Rattle.phd_header.proofs.read_header.Statement.{statement}
 use Rattle.phd_header.proofs.read_header.Tie as tie
@@ -15,7 +15,7 @@ module _ (c : tie.After-x) where
   flags-got = sym (c .before .before .preamble .ensures) ∙ ap outcome (c .x .given .1)
 
   flags-in : c .x .given .0 .1 .0 ≤ length (c .before .before .before .before .args .s .now)
-  flags-in = inside preamble _ _ _ _ (omega arith) flags-got
+  flags-in = end-in-bounds preamble _ _ _ _ (omega arith) flags-got
 
 -- the flags before the VM string
 abbrev flags-of : tie.After-vm → tie.After-x
@@ -24,10 +24,10 @@ flags-of c = c .before .before .before .before
 module _ (c : tie.After-vm) where
   vm-got : run header-records (flags-of c .before .before .before .before .args .s .now) (flags-of c .x .given .0 .1 .0)
       ≡ whole (c .vm .given .0 .0) (c .vm .given .0 .1 .0)
-  vm-got = sym (c .before .before .header-records .ensures) ∙ ap text-outcome (c .vm .given .1)
+  vm-got = sym (c .before .before .header-records .ensures) ∙ ap string-outcome (c .vm .given .1)
 
   vm-in : c .vm .given .0 .1 .0 ≤ length (flags-of c .before .before .before .before .args .s .now)
-  vm-in = inside header-records _ _ _ _ (flags-in (flags-of c)) vm-got
+  vm-in = end-in-bounds header-records _ _ _ _ (flags-in (flags-of c)) vm-got
 
 preamble-requires : tie.Need-preamble-requires
 preamble-requires c κs = search needs
@@ -54,8 +54,8 @@ exactly-requires c κs = (omega arith, vm-in (c .before))
 enum-known-end : tie.Need-enum-known-end
 enum-known-end c = search needs
 
-header-facts-requires : tie.Need-header-facts-requires
-header-facts-requires c κs = search needs
+make-header-requires : tie.Need-make-header-requires
+make-header-requires c κs = search needs
 
 enum-known-w-2 : tie.Need-enum-known-w-2
 enum-known-w-2 c = search needs
@@ -68,7 +68,7 @@ unfolding header
 returns-2 c =
     let e = c .before .before in
     let v = e .before .before .before .before in
-    rw (run-then, flags-got (flags-of v), run-then, vm-got v, run-then, ← e .before .before .exactly .ensures, e .end .given .1, run-yield, c .header-facts .ensures)
+    rw (run-then, flags-got (flags-of v), run-then, vm-got v, run-then, ← e .before .before .exactly .ensures, e .end .given .1, run-yield, c .make-header .ensures)
 
 returns-3 : tie.Need-returns-3
 unfolding header
@@ -94,7 +94,7 @@ read-header-spec =
     enum-known-vm
     exactly-requires
     enum-known-end
-    header-facts-requires
+    make-header-requires
     enum-known-w-2
     enum-known-w-3
     returns-2

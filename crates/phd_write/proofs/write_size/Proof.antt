@@ -1,7 +1,7 @@
 -- `write_size` meets its contract: the header and the rows, then the size limit.
 use borrow.Author.Needs.{needs}
-use Rattle.table.specs.CheckOrder.{checked-right}
-use Rattle.phd_write.specs.WriteOutcomes.{check-stops}
+use Rattle.table.specs.CheckOrder.{checked-input-ok}
+use Rattle.phd_write.specs.WriteOutcomes.{check-refusal}
 use Rattle.phd_write.proofs.write_size.Statement.{statement}
 use Rattle.phd_write.proofs.write_size.Tie as tie
 
@@ -9,13 +9,13 @@ check-requires : tie.Need-check-requires
 check-requires c κs = search needs
 
 returns : tie.Need-returns
-returns c = check-stops _ _ _ _ _ (c .before .before .check .ensures) (c .if1 .taken)
+returns c = check-refusal _ _ _ _ _ (c .before .before .check .ensures) (c .if1 .taken)
 
-count-requires : tie.Need-count-requires
-count-requires c κs = checked-right _ _ _ (c .before .before .check .ensures) (c .if1 .left)
+dump-size-requires : tie.Need-dump-size-requires
+dump-size-requires c κs = checked-input-ok _ _ _ (c .before .before .check .ensures) (c .if1 .left)
 
 returns-2 : tie.Need-returns-2
 returns-2 c = search needs
 
 pub write-size-spec : {M : Type 1} → statement M
-write-size-spec = tie.close (tie.spec check-requires returns count-requires returns-2)
+write-size-spec = tie.close (tie.spec check-requires returns dump-size-requires returns-2)

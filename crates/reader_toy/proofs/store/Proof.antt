@@ -1,13 +1,13 @@
 -- `store` meets its contract: capacity is checked, for the row and then for the references, and the record is stored.
 use borrow.Author.Needs.{needs}
 use native.Mathlib.Omega.{arith}
-use Rattle.reader_toy.proofs.ToyStepLaws.{stays-rows, stays-refs, goes}
+use Rattle.reader_toy.proofs.ToyStepLaws.{step-ends-rows, step-ends-refs, step-continues}
 use Rattle.reader_toy.proofs.store.Statement.{statement}
 use Rattle.reader_toy.proofs.store.Tie as tie
 
 -- the entry, from where the row's width is known
-abbrev begin : tie.After-row-width → tie.Start
-begin c = c .before .before .before .before .before .before
+abbrev start : tie.After-record-row-width → tie.Start
+start c = c .before .before .before .before .before .before
 
 shared-slice-read-b : tie.Need-shared-slice-read-b
 shared-slice-read-b c = search needs
@@ -18,27 +18,27 @@ mul-if1 c = search needs
 sub-if1 : tie.Need-sub-if1
 sub-if1 c = search needs
 
-row-width-requires : tie.Need-row-width-requires
-row-width-requires c κs = search needs
+record-row-width-requires : tie.Need-record-row-width-requires
+record-row-width-requires c κs = search needs
 
-ends-requires : tie.Need-ends-requires
-ends-requires c κs = search needs
+end-step-requires : tie.Need-end-step-requires
+end-step-requires c κs = search needs
 
 returns : tie.Need-returns
 returns c =
-    let start = begin (c .before .before) in
-    rw (c .ends .ensures) (stays-rows (start .args .letter) (start .pre .0) (start .pre .1) (omega arith))
+    let start = start (c .before .before) in
+    rw (c .end-step .ensures) (step-ends-rows (start .args .letter) (start .pre .0) (start .pre .1) (omega arith))
 
 sub-if2 : tie.Need-sub-if2
 sub-if2 c = search needs
 
-ends-requires-2 : tie.Need-ends-requires-2
-ends-requires-2 c κs = search needs
+end-step-requires-2 : tie.Need-end-step-requires-2
+end-step-requires-2 c κs = search needs
 
 returns-2 : tie.Need-returns-2
 returns-2 c =
-    let start = begin (c .before .before .before .before) in
-    rw (c .ends2 .ensures) (stays-refs (start .args .letter) (start .pre .0) (start .pre .1) (omega arith) (omega arith))
+    let start = start (c .before .before .before .before) in
+    rw (c .end-step2 .ensures) (step-ends-refs (start .args .letter) (start .pre .0) (start .pre .1) (omega arith) (omega arith))
 
 store-row-requires : tie.Need-store-row-requires
 store-row-requires c κs = search needs
@@ -65,9 +65,9 @@ returns-3 : tie.Need-returns-3
 returns-3 c =
     let with-refs = c .before .before .before .before in
     let with-row = with-refs .before .before .before .before in
-    let start = begin (with-row .before .before .before .before .before) in
+    let start = start (with-row .before .before .before .before .before) in
     rw (with-row .store-row .ensures .0, with-refs .store-refs .ensures)
-    (goes (start .args .letter) (start .pre .0) (start .pre .1) _ (with-row .store-row .ensures .1) (omega arith) (omega arith))
+    (step-continues (start .args .letter) (start .pre .0) (start .pre .1) _ (with-row .store-row .ensures .1) (omega arith) (omega arith))
 
 pub store-spec : {M : Type 1} → statement M
 store-spec =
@@ -76,11 +76,11 @@ store-spec =
     shared-slice-read-b
     mul-if1
     sub-if1
-    row-width-requires
-    ends-requires
+    record-row-width-requires
+    end-step-requires
     returns
     sub-if2
-    ends-requires-2
+    end-step-requires-2
     returns-2
     store-row-requires
     store-refs-requires

@@ -6,7 +6,7 @@ use native.Mathlib.Nat.{add-zero, sub-zero}
 use native.Mathlib.Omega.{arith}
 use lib.ListN.{length, take, drop, length-set}
 use lib.Seq.{sets}
-use Rattle.reader_toy.proofs.StoreLaws.{next-stored}
+use Rattle.reader_toy.proofs.StoreLaws.{sets-slice-next}
 use Rattle.reader_toy.proofs.store_refs.Statement.{statement}
 use Rattle.reader_toy.proofs.store_refs.Tie as tie
 
@@ -49,7 +49,7 @@ loop-again : tie.Need-loop-again Inv-loop μ-loop
 loop-again c =
     let l = c .before .before in
     let a = l .before .args in
-    let e = next-stored (l .loop .refs) (a .s .now) (a .from) (a .n) (a .to) (l .loop .i) (omega arith) (omega arith) in
+    let e = sets-slice-next (l .loop .refs) (a .s .now) (a .from) (a .n) (a .to) (l .loop .i) (omega arith) (omega arith) in
     (omega arith, simp length-set (l .loop .inv .1), sym e ∙ l .loop .inv .2)
 
 same-length : tie.Need-same-length Inv-loop μ-loop

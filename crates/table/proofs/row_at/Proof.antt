@@ -4,18 +4,18 @@ use native.Mathlib.Omega.{arith}
 use borrow.Author.Needs.{needs}
 use Rattle.table.specs.Table.{row-width}
 use Rattle.table.specs.Rows.{row-at}
-use Rattle.table.proofs.TableLaws.{row-room, number-at}
+use Rattle.table.proofs.TableLaws.{row-in-bounds, number-at}
 use Rattle.table.proofs.row_at.Statement.{statement}
 use Rattle.table.proofs.row_at.Tie as tie
 
 mul-at : tie.Need-mul-at
-mul-at c = omega (arith, row-room (c .args .rows .now) (c .args .i) (c .pre))
+mul-at c = omega (arith, row-in-bounds (c .args .rows .now) (c .args .i) (c .pre))
 
 add-row : tie.Need-add-row
-add-row c = omega (arith, row-room (c .args .rows .now) (c .args .i) (c .pre))
+add-row c = omega (arith, row-in-bounds (c .args .rows .now) (c .args .i) (c .pre))
 
 mul-row : tie.Need-mul-row
-mul-row c = omega (arith, row-room (c .args .rows .now) (c .args .i) (c .pre))
+mul-row c = omega (arith, row-in-bounds (c .args .rows .now) (c .args .i) (c .pre))
 
 sub-row : tie.Need-sub-row
 sub-row c = search needs
@@ -24,7 +24,7 @@ part-row-start : tie.Need-part-row-start
 part-row-start c = search needs
 
 part-row-end : tie.Need-part-row-end
-part-row-end c = omega (arith, row-room (c .args .rows .now) (c .args .i) (c .pre))
+part-row-end c = omega (arith, row-in-bounds (c .args .rows .now) (c .args .i) (c .pre))
 
 shared-slice-read-t11 : tie.Need-shared-slice-read-t11
 shared-slice-read-t11 c = search needs

@@ -7,7 +7,7 @@ use native.Mathlib.Omega.{arith}
 use lib.ListN.{length, drop, length-set, drop-of-length-le}
 use lib.Seq.{sets}
 use Rattle.table.specs.Table.{row-width}
-use Rattle.table.proofs.TableLaws.{store-next}
+use Rattle.table.proofs.TableLaws.{sets-next}
 use Rattle.table.proofs.store_row.Statement.{statement}
 use Rattle.table.proofs.store_row.Tie as tie
 
@@ -46,7 +46,7 @@ loop-again : tie.Need-loop-again Inv-loop μ-loop
 loop-again c =
     let l = c .before in
     let a = l .before .args in
-    (omega arith, simp length-set (l .loop .inv .1), sym (store-next (l .loop .table) (a .t3) (a .at) (l .loop .i) (omega arith)) ∙ l .loop .inv .2)
+    (omega arith, simp length-set (l .loop .inv .1), sym (sets-next (l .loop .table) (a .t3) (a .at) (l .loop .i) (omega arith)) ∙ l .loop .inv .2)
 
 same-length : tie.Need-same-length Inv-loop μ-loop
 same-length c = search needs

@@ -4,43 +4,43 @@ use mathlib.Core.Path.{_≡_, subst}
 use Prim.Native.Nat.{ℕ, _-_}
 use native.Mathlib.Omega.{arith}
 use lib.ListN.{length}
-use Rattle.phd_read.specs.PhdSteps.{Halfway, Does, Went, Stayed}
+use Rattle.phd_read.specs.PhdSteps.{LoopInvariant, StepContract, StepContinues, StepEnds}
 use Rattle.phd.specs.Phd.{phd}
-use Rattle.reader.specs.TableSteps.{begins, further, goes-on, rows-end, refs-end}
-use Rattle.phd_read.specs.PhdLaws.{lawful}
-use Rattle.phd_read.proofs.LoopLaws.{answers}
+use Rattle.reader.specs.TableSteps.{invariant-start, step-further, invariant-next, end-rows, end-refs}
+use Rattle.phd_read.specs.PhdLaws.{phd-lawful}
+use Rattle.phd_read.proofs.LoopLaws.{end-answer}
 use Rattle.reader.specs.declared.StepResult.the-variants.{Continue, End}
 use Rattle.phd_read.proofs.records.read_records.Statement.{statement}
 use Rattle.phd_read.proofs.records.read_records.Tie as tie
 
 abbrev Inv-loop : tie.InvT-loop
-Inv-loop s facts at rows₀ refs₀ cursor₀ rows refs cursor = Halfway facts s at rows₀ refs₀ rows refs cursor
+Inv-loop s header at rows₀ refs₀ cursor₀ rows refs cursor = LoopInvariant header s at rows₀ refs₀ rows refs cursor
 
 abbrev μ-loop : tie.MeasureT-loop
-μ-loop s facts at rows₀ refs₀ cursor₀ rows refs cursor = length s - cursor .at
+μ-loop s header at rows₀ refs₀ cursor₀ rows refs cursor = length s - cursor .at
 
 -- the turn and the entry, from the step
-abbrev turn : tie.After-step Inv-loop μ-loop → tie.At-loop Inv-loop μ-loop
-turn c = c .before .before .before
+abbrev head : tie.After-step Inv-loop μ-loop → tie.At-loop Inv-loop μ-loop
+head c = c .before .before .before
 
-abbrev begin : tie.After-step Inv-loop μ-loop → tie.Start Inv-loop μ-loop
-begin c = c .before .before .before .before .before .before .before .before
+abbrev start : tie.After-step Inv-loop μ-loop → tie.Start Inv-loop μ-loop
+start c = c .before .before .before .before .before .before .before .before
 
 -- what the step did
 module _ (c : tie.After-step Inv-loop μ-loop) where
-  went : c .step .result .how ≡ Continue → let l = turn c in let a = begin c .args in
-      Went (a .facts) (a .s .now) (l .loop .cursor) (l .loop .rows) (l .loop .refs) (c .step .last .1 .1 .0) (c .step .last .1 .1 .1 .0) (c .step .result .cursor)
-  went e =
-      let l = turn c in
-      let a = begin c .args in
-      subst (Does (a .facts) (a .s .now) (l .loop .cursor) (l .loop .rows) (l .loop .refs) (c .step .last .1 .1 .0) (c .step .last .1 .1 .1 .0) (c .step .result .cursor)) e (c .step .ensures)
+  continued : c .step .result .result ≡ Continue → let l = head c in let a = start c .args in
+      StepContinues (a .header) (a .s .now) (l .loop .cursor) (l .loop .rows) (l .loop .refs) (c .step .last .1 .1 .0) (c .step .last .1 .1 .1 .0) (c .step .result .cursor)
+  continued e =
+      let l = head c in
+      let a = start c .args in
+      subst (StepContract (a .header) (a .s .now) (l .loop .cursor) (l .loop .rows) (l .loop .refs) (c .step .last .1 .1 .0) (c .step .last .1 .1 .1 .0) (c .step .result .cursor)) e (c .step .ensures)
 
-  stayed : (reply place missing : ℕ) → c .step .result .how ≡ End reply place missing → let l = turn c in let a = begin c .args in
-      Stayed (a .facts) (a .s .now) (l .loop .cursor) (l .loop .rows) (l .loop .refs) (c .step .last .1 .1 .0) (c .step .last .1 .1 .1 .0) (c .step .result .cursor) reply place missing
-  stayed reply place missing e =
-      let l = turn c in
-      let a = begin c .args in
-      subst (Does (a .facts) (a .s .now) (l .loop .cursor) (l .loop .rows) (l .loop .refs) (c .step .last .1 .1 .0) (c .step .last .1 .1 .1 .0) (c .step .result .cursor)) e (c .step .ensures)
+  ended : (reply place missing : ℕ) → c .step .result .result ≡ End reply place missing → let l = head c in let a = start c .args in
+      StepEnds (a .header) (a .s .now) (l .loop .cursor) (l .loop .rows) (l .loop .refs) (c .step .last .1 .1 .0) (c .step .last .1 .1 .1 .0) (c .step .result .cursor) reply place missing
+  ended reply place missing e =
+      let l = head c in
+      let a = start c .args in
+      subst (StepContract (a .header) (a .s .now) (l .loop .cursor) (l .loop .rows) (l .loop .refs) (c .step .last .1 .1 .0) (c .step .last .1 .1 .1 .0) (c .step .result .cursor)) e (c .step .ensures)
 
 new-requires : tie.Need-new-requires Inv-loop μ-loop
 new-requires c κs = search needs
@@ -48,7 +48,7 @@ new-requires c κs = search needs
 loop-holds : tie.Need-loop-holds Inv-loop μ-loop
 loop-holds c =
     let a = c .before .before .before .before .args in
-    rw (c .new .ensures) (begins phd lawful (a .rows .now) (a .refs .now) (omega arith))
+    rw (c .new .ensures) (invariant-start phd phd-lawful (a .rows .now) (a .refs .now) (omega arith))
 
 step-requires : tie.Need-step-requires Inv-loop μ-loop
 step-requires c κs = search needs
@@ -59,18 +59,18 @@ enum-told c = search needs
 loop-less : tie.Need-loop-less Inv-loop μ-loop
 loop-less c =
     let d = c .before .before .before .before .before .before .before in
-    let g = went d (c .enum-told .given .1) in
-    let f = further phd lawful (turn d .loop .inv) g in
+    let g = continued d (c .enum-told .given .1) in
+    let f = step-further phd phd-lawful (head d .loop .inv) g in
     let i = g .fits .at-in in
     omega arith
 
 loop-again : tie.Need-loop-again Inv-loop μ-loop
 loop-again c =
     let d = c .before .before .before .before .before .before .before in
-    goes-on phd lawful (turn d .loop .inv) (begin d .pre .1) (went d (c .enum-told .given .1))
+    invariant-next phd phd-lawful (head d .loop .inv) (start d .pre .1) (continued d (c .enum-told .given .1))
 
-enum-known-how : tie.Need-enum-known-how Inv-loop μ-loop
-enum-known-how c = search needs
+enum-known-result : tie.Need-enum-known-result Inv-loop μ-loop
+enum-known-result c = search needs
 
 same-length : tie.Need-same-length Inv-loop μ-loop
 same-length c = search needs
@@ -81,8 +81,8 @@ same-length-2 c = search needs
 returns : tie.Need-returns Inv-loop μ-loop
 returns c =
     let d = c .before .before .before .before .before .before .before .before in
-    let g = stayed d _ _ _ (c .before .how .given .1) in
-    (answers (turn d .loop .inv) g, (rows-end phd lawful (turn d .loop .inv) g, refs-end phd lawful (turn d .loop .inv) g))
+    let g = ended d _ _ _ (c .before .result .given .1) in
+    (end-answer (head d .loop .inv) g, (end-rows phd phd-lawful (head d .loop .inv) g, end-refs phd phd-lawful (head d .loop .inv) g))
 
 pub read-records-spec : {M : Type 1} → statement M
 read-records-spec =
@@ -96,7 +96,7 @@ read-records-spec =
     enum-told
     loop-less
     loop-again
-    enum-known-how
+    enum-known-result
     same-length
     same-length-2
     returns)

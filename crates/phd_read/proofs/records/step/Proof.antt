@@ -1,24 +1,24 @@
 -- `step` meets its contract: the end, a record, or a stop.
 use borrow.Author.Needs.{needs}
-use Rattle.phd_record.specs.RecordOutcomes.{found-over, found-halts}
-use Rattle.phd_read.proofs.StepLaws.{stays-end, stays-stop}
+use Rattle.phd_record.specs.RecordOutcomes.{record-read-over, record-read-stops}
+use Rattle.phd_read.proofs.StepLaws.{ends-at-end-tag, ends-at-stop}
 use Rattle.phd_read.proofs.records.step.Statement.{statement}
 use Rattle.phd_read.proofs.records.step.Tie as tie
 
 read-record-requires : tie.Need-read-record-requires
 read-record-requires c κs = search needs
 
-enum-known-what : tie.Need-enum-known-what
-enum-known-what c = search needs
+enum-known-item : tie.Need-enum-known-item
+enum-known-item c = search needs
 
-enum-known-what-2 : tie.Need-enum-known-what-2
-enum-known-what-2 c = search needs
+enum-known-item-2 : tie.Need-enum-known-item-2
+enum-known-item-2 c = search needs
 
-admit-requires : tie.Need-admit-requires
-admit-requires c κs = search needs
+store-checked-requires : tie.Need-store-checked-requires
+store-checked-requires c κs = search needs
 
-enum-known-what-3 : tie.Need-enum-known-what-3
-enum-known-what-3 c = search needs
+enum-known-item-3 : tie.Need-enum-known-item-3
+enum-known-item-3 c = search needs
 
 reply-of-requires : tie.Need-reply-of-requires
 reply-of-requires c κs = search needs
@@ -30,7 +30,7 @@ returns : tie.Need-returns
 returns c =
     let d = c .before .before .before .before .before .before .before .before in
     let a = d .args in
-    stays-end (a .facts) (d .pre .0) _ (found-over (a .k .cache) _ _ (c .before .before .before .read-record .ensures) _ (c .before .what .given .1))
+    ends-at-end-tag (a .header) (d .pre .0) _ (record-read-over (a .k .cache) _ _ (c .before .before .before .read-record .ensures) _ (c .before .item .given .1))
 
 same-length : tie.Need-same-length
 same-length c = search needs
@@ -46,17 +46,17 @@ returns-3 c =
     let d = c .before .before .before .before .before .before .before .before .before .before in
     let a = d .args in
     rw (c .before .reply-of .ensures, c .missing-of .ensures)
-    (stays-stop (a .facts) (d .pre .0) _ (found-halts (a .k .cache) _ _ (c .before .before .before .before .before .read-record .ensures) _ (c .before .before .before .what3 .given .1)))
+    (ends-at-stop (a .header) (d .pre .0) _ (record-read-stops (a .k .cache) _ _ (c .before .before .before .before .before .read-record .ensures) _ (c .before .before .before .item3 .given .1)))
 
 pub step-spec : {M : Type 1} → statement M
 step-spec =
     tie.close
     (tie.spec
     read-record-requires
-    enum-known-what
-    enum-known-what-2
-    admit-requires
-    enum-known-what-3
+    enum-known-item
+    enum-known-item-2
+    store-checked-requires
+    enum-known-item-3
     reply-of-requires
     missing-of-requires
     returns

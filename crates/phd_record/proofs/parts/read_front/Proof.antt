@@ -4,7 +4,7 @@ use mathlib.Core.Path.{_≡_, sym, ap, _∙_}
 use Prim.Native.Nat.{_≤_}
 use native.Mathlib.Omega.{arith}
 use lib.ListN.{length}
-use Rattle.decode.specs.Layout.{whole, run, inside, field, run-then, run-yield}
+use Rattle.decode.specs.Layout.{whole, run, end-in-bounds, field, run-then, run-yield}
 use Rattle.decode.specs.Fields.{outcome, address, count}
 use Rattle.phd.specs.Phd.{front}
 use Rattle.phd_record.proofs.parts.read_front.Statement.{statement}
@@ -20,27 +20,27 @@ module _ (c : tie.After-a) where
   got-address = sym (c .before .before .address .ensures) ∙ ap outcome (c .a .given .1)
 
   in-address : let a = start c .args in (c .a .given .0 .1 .0) ≤ length (a .s .now)
-  in-address = let a = start c .args in inside (address (a .sh .gap) (a .before) (a .top)) (a .s .now) (a .at) _ _ (omega arith) got-address
+  in-address = let a = start c .args in end-in-bounds (address (a .sh .gap) (a .before) (a .top)) (a .s .now) (a .at) _ _ (omega arith) got-address
 
 -- the class word
 abbrev address-of : tie.After-c → tie.After-a
 address-of c = c .before .before .before .before
 
 module _ (c : tie.After-c) where
-  got-word : let a = start (address-of c) .args in
-      run (field (a .sh .word)) (a .s .now) (address-of c .a .given .0 .1 .0) ≡ whole (c .c .given .0 .0) (c .c .given .0 .1 .0)
-  got-word = sym (c .before .before .field .ensures .0) ∙ ap outcome (c .c .given .1)
+  got-class : let a = start (address-of c) .args in
+      run (field (a .sh .class)) (a .s .now) (address-of c .a .given .0 .1 .0) ≡ whole (c .c .given .0 .0) (c .c .given .0 .1 .0)
+  got-class = sym (c .before .before .field .ensures .0) ∙ ap outcome (c .c .given .1)
 
-  in-word : let a = start (address-of c) .args in (c .c .given .0 .1 .0) ≤ length (a .s .now)
-  in-word = let a = start (address-of c) .args in inside (field (a .sh .word)) (a .s .now) (address-of c .a .given .0 .1 .0) _ _ (in-address (address-of c)) got-word
+  in-class : let a = start (address-of c) .args in (c .c .given .0 .1 .0) ≤ length (a .s .now)
+  in-class = let a = start (address-of c) .args in end-in-bounds (field (a .sh .class)) (a .s .now) (address-of c .a .given .0 .1 .0) _ _ (in-address (address-of c)) got-class
 
 -- the array length
-abbrev word-of : tie.After-len → tie.After-c
-word-of c = c .before .before .before .before
+abbrev class-at : tie.After-len → tie.After-c
+class-at c = c .before .before .before .before
 
 module _ (c : tie.After-len) where
-  got-len : let a = start (address-of (word-of c)) .args in
-      run (count (a .sh .len)) (a .s .now) (word-of c .c .given .0 .1 .0) ≡ whole (c .len .given .0 .0) (c .len .given .0 .1 .0)
+  got-len : let a = start (address-of (class-at c)) .args in
+      run (count (a .sh .len)) (a .s .now) (class-at c .c .given .0 .1 .0) ≡ whole (c .len .given .0 .0) (c .len .given .0 .1 .0)
   got-len = sym (c .before .before .count .ensures) ∙ ap outcome (c .len .given .1)
 
 address-requires : tie.Need-address-requires
@@ -75,7 +75,7 @@ returns-2 c =
     rw (run-then, got-address w, run-then, ← d .field .ensures .0, c .before .w2 .given .1)
 
 count-requires : tie.Need-count-requires
-count-requires c κs = (omega arith, in-word (c .before))
+count-requires c κs = (omega arith, in-class (c .before))
 
 enum-known-len : tie.Need-enum-known-len
 enum-known-len c = search needs
@@ -87,14 +87,14 @@ returns-3 : tie.Need-returns-3
 unfolding front
 returns-3 c =
     let w = c .before in
-    rw (run-then, got-address (address-of (word-of w)), run-then, got-word (word-of w), run-then, got-len w, run-yield)
+    rw (run-then, got-address (address-of (class-at w)), run-then, got-class (class-at w), run-then, got-len w, run-yield)
 
 returns-4 : tie.Need-returns-4
 unfolding front
 returns-4 c =
     let d = c .before .before .before in
     let w = d .before .before in
-    rw (run-then, got-address (address-of w), run-then, got-word w, run-then, ← d .count .ensures, c .before .w3 .given .1)
+    rw (run-then, got-address (address-of w), run-then, got-class w, run-then, ← d .count .ensures, c .before .w3 .given .1)
 
 pub read-front-spec : {M : Type 1} → statement M
 read-front-spec =

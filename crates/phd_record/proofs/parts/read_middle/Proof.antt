@@ -4,7 +4,7 @@ use mathlib.Core.Path.{_≡_, sym, ap, _∙_}
 use Prim.Native.Nat.{_≤_}
 use native.Mathlib.Omega.{arith}
 use lib.ListN.{length}
-use Rattle.decode.specs.Layout.{whole, run, inside, field, run-then, run-yield}
+use Rattle.decode.specs.Layout.{whole, run, end-in-bounds, field, run-then, run-yield}
 use Rattle.decode.specs.Fields.{outcome, count}
 use Rattle.phd.specs.Phd.{middle}
 use Rattle.phd_record.proofs.parts.read_middle.Statement.{statement}
@@ -20,7 +20,7 @@ module _ (c : tie.After-i) where
   got-inst = sym (c .before .before .count .ensures) ∙ ap outcome (c .i .given .1)
 
   in-inst : let a = start c .args in (c .i .given .0 .1 .0) ≤ length (a .s .now)
-  in-inst = let a = start c .args in inside (count (a .sh .inst)) (a .s .now) (a .at) _ _ (omega arith) got-inst
+  in-inst = let a = start c .args in end-in-bounds (count (a .sh .inst)) (a .s .now) (a .at) _ _ (omega arith) got-inst
 
 -- the hash
 abbrev inst-of : tie.After-h → tie.After-i
@@ -32,7 +32,7 @@ module _ (c : tie.After-h) where
   got-hash = sym (c .before .before .field .ensures .0) ∙ ap outcome (c .h .given .1)
 
   in-hash : let a = start (inst-of c) .args in (c .h .given .0 .1 .0) ≤ length (a .s .now)
-  in-hash = let a = start (inst-of c) .args in inside (field (a .hb)) (a .s .now) (inst-of c .i .given .0 .1 .0) _ _ (in-inst (inst-of c)) got-hash
+  in-hash = let a = start (inst-of c) .args in end-in-bounds (field (a .hb)) (a .s .now) (inst-of c .i .given .0 .1 .0) _ _ (in-inst (inst-of c)) got-hash
 
 -- the superclass word
 abbrev hash-of : tie.After-superclass → tie.After-h

@@ -4,7 +4,7 @@ use mathlib.Core.Path.{_≡_, sym, ap, _∙_}
 use Prim.Native.Nat.{_≤_}
 use native.Mathlib.Omega.{arith}
 use lib.ListN.{length}
-use Rattle.decode.specs.Layout.{whole, run, inside, field, run-then, run-yield}
+use Rattle.decode.specs.Layout.{whole, run, end-in-bounds, field, run-then, run-yield}
 use Rattle.decode.specs.Fields.{outcome}
 use Rattle.phd.specs.Phd.{true-length, tail}
 use Rattle.phd_record.proofs.parts.read_tail.Statement.{statement}
@@ -20,7 +20,7 @@ module _ (c : tie.After-v) where
   got-size = sym (c .before .before .field .ensures .0) ∙ ap outcome (c .v .given .1)
 
   in-size : let a = start c .args in (c .v .given .0 .1 .0) ≤ length (a .s .now)
-  in-size = let a = start c .args in inside (field (a .size)) (a .s .now) (a .at) _ _ (omega arith) got-size
+  in-size = let a = start c .args in end-in-bounds (field (a .size)) (a .s .now) (a .at) _ _ (omega arith) got-size
 
 -- the true length
 abbrev size-of : tie.After-t → tie.After-v

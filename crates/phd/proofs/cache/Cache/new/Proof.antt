@@ -1,11 +1,11 @@
 -- `new` meets its contract.
 use mathlib.Core.Path.{refl}
-use Rattle.phd.specs.Phd.{empty}
+use Rattle.phd.specs.Phd.{empty-cache}
 use Rattle.phd.proofs.cache.Cache.new.Statement.{statement}
 use Rattle.phd.proofs.cache.Cache.new.Tie as tie
 
 returns : tie.Need-returns
-unfolding empty
+unfolding empty-cache
 returns c = refl
 
 pub new-spec : {M : Type 1} → statement M

@@ -1,0 +1,122 @@
+-- `push` meets its contract: the lines and their ends, one behind the other, are the row's text.
+use mathlib.Core.Path.{_≡_, sym, _∙_}
+use mathlib.Core.List.{List, [], _∷_, _++_}
+use Prim.Native.Nat.{ℕ}
+use native.Mathlib.Omega.{arith}
+use borrow.Author.Needs.{needs}
+use Rattle.encode.specs.Writes.{HasCapacity, writes-then, capacity-after, capacity-first}
+use Rattle.table.specs.Rows.{refs-of, rows-of}
+use Rattle.classic.specs.ClassicText.{address, refs-text}
+use Rattle.classic_row.specs.RowText.{type-label, label-means, row-text, label-line}
+use Rattle.classic_row.specs.declared.TypeLabel.{TypeLabel}
+use Rattle.classic_row.proofs.RowTextLaws.{label-bounds, row-text-by-label}
+use Rattle.classic_row.proofs.write_row_text.Statement.{statement}
+use Rattle.classic_row.proofs.write_row_text.Tie as tie
+
+abbrev start : tie.After-class-of → tie.Start
+start c = c .before .before .before .before .before .before .before .before .before
+
+-- the entry that was found is the row's
+abbrev found : tie.After-class-of → TypeLabel
+found c = c .before .before .found .given .0 .0
+
+found-is : (c : tie.After-class-of) → found c ≡ type-label (rows-of (start c .args .rows .now)) (start c .args .row)
+found-is c = let d = c .before .before in label-means _ _ _ (sym (d .found .given .1) ∙ d .before .before .find-label .ensures) .1
+
+-- the row's text, by what was found out: the first line, its end, and the second line with its end
+abbrev first : tie.After-class-of → List ℕ
+first c = let a = start c .args in label-line (a .bits) (a .names .now) (a .row) (found c)
+
+abbrev second : tie.After-class-of → List ℕ
+second c = let a = start c .args in address (a .bits) (c .class-of .result) ++ refs-text (a .bits) (refs-of (a .refs .now) (a .row))
+
+abbrev rest : tie.After-class-of → List ℕ
+rest c = second c ++ (0x0A ∷ [])
+
+text : (c : tie.After-class-of) → let a = start c .args in
+    row-text (a .bits) (a .names .now) (a .refs .now) (rows-of (a .rows .now)) (a .row) ≡ first c ++ ((0x0A ∷ []) ++ rest c)
+text c = row-text-by-label _ _ _ _ _ _ _ (found-is c) (c .class-of .ensures)
+
+-- the room for it, and for what is left of it
+in-bounds : (c : tie.After-class-of) → HasCapacity (start c .args .out .now) (start c .args .at) (first c ++ ((0x0A ∷ []) ++ rest c))
+in-bounds c = rw (text c) at (start c .pre .1 .1 .1 .1 .1 .1)
+
+after-first : (c : tie.After-write-first-line) → HasCapacity (c .write-first-line .last .0) (c .write-first-line .result) ((0x0A ∷ []) ++ rest (c .before .before))
+after-first c = capacity-after (c .write-first-line .ensures) ((0x0A ∷ []) ++ rest (c .before .before)) (in-bounds (c .before .before))
+
+after-byte : (c : tie.After-encode-byte) → HasCapacity (c .encode-byte .last .0) (c .encode-byte .result) (rest (c .before .before .before .before .before .before))
+after-byte c =
+    let f = c .before .before .before .before in
+    capacity-after (c .encode-byte .ensures) (rest (f .before .before)) (after-first f)
+
+find-label-requires : tie.Need-find-label-requires
+find-label-requires c κs = search needs
+
+enum-known-found : tie.Need-enum-known-found
+enum-known-found c = search needs
+
+enum-told : tie.Need-enum-told
+enum-told c = search needs
+
+-- the row is not lost, so no reply is given
+returns : tie.Need-returns
+returns c =
+    let d = c .before .before in
+    let f = label-means _ _ _ (sym (c .enum-told .given .1) ∙ d .find-label .ensures) .0 in
+    let g = d .before .before .before .before .before .pre .1 .1 .1 .1 .0 in
+    let z : _≡_ {A = ℕ} 0 1 = cc in
+    absurd (omega arith)
+
+class-of-requires : tie.Need-class-of-requires
+class-of-requires c κs = search needs
+
+write-first-line-requires : tie.Need-write-first-line-requires
+write-first-line-requires c κs =
+    let w = c .before in
+    let p = start w .pre in
+    let e = label-bounds _ _ _ _ (p .1 .0) (p .1 .1 .0) (found-is w) in
+    (p .0, (p .1 .1 .0 .prim-lt, (e .name-in-bounds .0, capacity-first (start w .args .out .now) _ (first w) ((0x0A ∷ []) ++ rest w) (in-bounds w))))
+
+encode-byte-requires : tie.Need-encode-byte-requires
+encode-byte-requires c κs =
+    let f = c .before .before .before in
+    capacity-first (f .write-first-line .last .0) _ (0x0A ∷ []) (rest (f .before .before)) (after-first f)
+
+write-second-line-requires : tie.Need-write-second-line-requires
+write-second-line-requires c κs =
+    let b = c .before .before .before in
+    let w = b .before .before .before .before .before .before in
+    let p = start w .pre in
+    (p .0, (p .1 .1 .1 .1 .1 .0, capacity-first (b .encode-byte .last .0) _ (second w) (0x0A ∷ []) (after-byte b)))
+
+encode-byte-requires-2 : tie.Need-encode-byte-requires-2
+encode-byte-requires-2 c κs =
+    let g = c .before .before .before in
+    capacity-after (g .write-second-line .ensures) (0x0A ∷ []) (after-byte (g .before .before .before .before))
+
+same-length : tie.Need-same-length
+same-length c = search needs
+
+returns-2 : tie.Need-returns-2
+returns-2 c =
+    let h = c .before .before in
+    let g = h .before .before .before .before in
+    let b = g .before .before .before .before in
+    let f = b .before .before .before .before in
+    rw (text (f .before .before)) (writes-then (f .write-first-line .ensures) (writes-then (b .encode-byte .ensures) (writes-then (g .write-second-line .ensures) (h .encode-byte2 .ensures))))
+
+pub write-row-text-spec : {M : Type 1} → statement M
+write-row-text-spec =
+    tie.close
+    (tie.spec
+    find-label-requires
+    enum-known-found
+    enum-told
+    returns
+    class-of-requires
+    write-first-line-requires
+    encode-byte-requires
+    write-second-line-requires
+    encode-byte-requires-2
+    same-length
+    returns-2)

@@ -1,0 +1,28 @@
+-- `read_passes_checks` meets its contract: what a call of `read` filled passes every check, since a dump is bytes.
+use borrow.Author.Needs.{needs}
+use native.Mathlib.Omega.{arith}
+use Rattle.decode.specs.ByteValues.{AllBytes}
+use Rattle.phd_copy.specs.ReadThenWrite.{tables-pass-checks}
+use Rattle.phd_copy.proofs.read_passes_checks.Statement.{statement}
+use Rattle.phd_copy.proofs.read_passes_checks.Tie as tie
+
+read-requires : tie.Need-read-requires
+read-requires c κs = search needs
+
+same-length : tie.Need-same-length
+same-length c = search needs
+
+same-length-2 : tie.Need-same-length-2
+same-length-2 c = search needs
+
+returns : tie.Need-returns
+returns c =
+    let r = c .before .before .before .before .read in
+    let k = c .before .before .before .before .before .before .before .before .before in
+    let a = k .before .args in
+    let b : AllBytes (a .dump .now) = record { each = λ i. omega (arith, k .shared-slice-known .given i) } in
+    tables-pass-checks (a .dump .now) b (a .rows .now) (a .refs .now) (r .result) (r .last .1 .0) (r .last .1 .1 .0)
+    (record { is = r .ensures .0; row-table = r .ensures .1 .0; ref-table = r .ensures .1 .1 })
+
+pub read-passes-checks-spec : {M : Type 1} → statement M
+read-passes-checks-spec = tie.close (tie.spec read-requires same-length same-length-2 returns)

@@ -1,0 +1,10 @@
+-- `is_compact` meets its contract: its tests, joined.
+use Rattle.phd_encode.proofs.CompactRecord.{compact-of-tests}
+use Rattle.phd_encode.proofs.is_compact.Statement.{statement}
+use Rattle.phd_encode.proofs.is_compact.Tie as tie
+
+returns : tie.Need-returns
+returns c = compact-of-tests _ _
+
+pub is-compact-spec : {M : Type 1} → statement M
+is-compact-spec = tie.close (tie.spec returns)

@@ -1,0 +1,20 @@
+-- `slot-holds` meets its contract: the two tests of the code are those of the definition.
+use borrow.Author.Needs.{needs}
+use lib.Dec.{ltb}
+use Rattle.phd_check.proofs.CheckLaws.{both-joined}
+use Rattle.phd_plan.specs.FormChoice.{slot-holds}
+use Rattle.phd_plan.proofs.slot_holds.Statement.{statement}
+use Rattle.phd_plan.proofs.slot_holds.Tie as tie
+
+mul-result : tie.Need-mul-result
+mul-result c = search needs
+
+array-read-result : tie.Need-array-read-result
+array-read-result c = search needs
+
+returns : tie.Need-returns
+unfolding slot-holds
+returns c = let a = c .before .before .args in both-joined (ltb (a .i) (a .cache .pushes)) _
+
+pub slot-holds-spec : {M : Type 1} → statement M
+slot-holds-spec = tie.close (tie.spec mul-result array-read-result returns)

@@ -1,9 +1,0 @@
--- `room` meets its contract: at most all bytes are lent. Assumes nothing.
-use native.Mathlib.Omega.{arith}
-use borrow.Author.Needs.{needs}
-use Rattle.io.proofs.Counting.{counts}
-use Rattle.write_samples.proofs.tables.room.Statement.{statement}
-use Rattle.write_samples.proofs.tables.room.Tie as tie
-
-pub room-spec : {M : Type 1} → statement M
-room-spec = tie.close (tie.spec (λ c κs. search needs) (λ c. counts _ _ (omega arith)))
