@@ -9,8 +9,7 @@ use native.Mathlib.Omega.{arith}
 use lib.Dec.{eqb}
 use lib.ListN.{length, getD}
 use borrow.Author.Tests.{eqb-true, eqb-false}
-use Rattle.decode.specs.Numbers.{both}
-use Rattle.decode.specs.Values.{both-left, both-right}
+use Rattle.decode.specs.Values.{and-left, and-right}
 use Rattle.decode.specs.Slices.{slice-cons}
 use Rattle.phd.specs.Phd.{bytes-equal}
 use Rattle.table.specs.Rows.{name-of}
@@ -27,7 +26,7 @@ is-class-at-test a r = both-joined (eqb (r .kind) 1) (eqb (r .address) a)
 
 -- ---- a class row by its name
 
-both-false : (b : Bool) → both b false ≡ false
+both-false : (b : Bool) → b && false ≡ false
 both-false true = refl
 both-false false = refl
 
@@ -49,7 +48,7 @@ class-name-two-bytes r e =
     let k : Bool = eqb (r .kind) 1 in
     let n : Bool = eqb (r .namelen) 2 in
     let b = sym (both-joined k n) ∙ e in
-    (both-left k n b, eqb-true _ _ (both-right k n b))
+    (and-left k n b, eqb-true _ _ (and-right k n b))
 
 -- the tests of the kind and of the name's length, and of its two bytes
 module _ (names : List ℕ) (r : Row) (prim : ℕ) (in-bounds : r .place + r .namelen ≤ length names) where
@@ -57,7 +56,7 @@ module _ (names : List ℕ) (r : Row) (prim : ℕ) (in-bounds : r .place + r .na
   unfolding is-class-named
   not-class-named e = by (eqb (r .kind) 1) (eqb (r .namelen) 2) refl e
     where
-      by : (k n : Bool) → eqb (r .namelen) 2 ≡ n → k && n ≡ false → false ≡ both k (bytes-equal (name-of names r) (primitive-array-type prim))
+      by : (k n : Bool) → eqb (r .namelen) 2 ≡ n → k && n ≡ false → false ≡ k && bytes-equal (name-of names r) (primitive-array-type prim)
       by false n f g = refl
       by true true f g = let z : _≡_ {A = ℕ} 0 1 = cc in absurd (omega arith)
       by true false f g =

@@ -4,12 +4,11 @@ use mathlib.Core.Path.{_≡_, refl}
 use mathlib.Core.Logic.{_↔_, _⊎_, inl, inr}
 use Prim.Native.Nat.{ℕ}
 use native.Mathlib.Omega.{arith}
-use mathlib.Core.Bool.{Bool, true, false}
+use mathlib.Core.Bool.{Bool, true, false, _||_}
 use mathlib.Core.List.{List}
 use lib.Dec.{eqb}
 use borrow.Author.Tests.{eqb-true, eq-eqb}
-use Rattle.decode.specs.Numbers.{either}
-use Rattle.decode.specs.Values.{both-left, both-right}
+use Rattle.decode.specs.Values.{and-left, and-right}
 use Rattle.table.specs.Rows.{is-kind}
 use Rattle.table.specs.Search.{NoneSatisfies, first-row-none}
 use Rattle.table.specs.declared.Row.{Row}
@@ -30,18 +29,18 @@ pub record ClassMissing (rows : List Row) (r : Row) : Type 0 where
 pub is-class-at-iff : (a : ℕ) (r : Row) → (is-class-at a r ≡ true) ↔ ClassRow a r
 unfolding is-class-at
 is-class-at-iff a r = (
-  λ e. record { kind = eqb-true _ _ (both-left (is-kind 1 r) (eqb (r .address) a) e); address = eqb-true _ _ (both-right (is-kind 1 r) (eqb (r .address) a) e) },
+  λ e. record { kind = eqb-true _ _ (and-left (is-kind 1 r) (eqb (r .address) a) e); address = eqb-true _ _ (and-right (is-kind 1 r) (eqb (r .address) a) e) },
   λ c. rw (eq-eqb _ _ (c .kind), eq-eqb _ _ (c .address)),
 )
 
-which : (a b : Bool) → either a b ≡ true → (a ≡ true) ⊎ (b ≡ true)
-which true b e = inl refl
-which false b e = inr e
+or-cases : (a b : Bool) → a || b ≡ true → (a ≡ true) ⊎ (b ≡ true)
+or-cases true b e = inl refl
+or-cases false b e = inr e
 
-either-of : (a b : Bool) → (a ≡ true) ⊎ (b ≡ true) → either a b ≡ true
-either-of a b (inl e) = rw e
-either-of true b (inr e) = refl
-either-of false b (inr e) = e
+or-of : (a b : Bool) → (a ≡ true) ⊎ (b ≡ true) → a || b ≡ true
+or-of a b (inl e) = rw e
+or-of true b (inr e) = refl
+or-of false b (inr e) = e
 
 is-not-found-eq : (f : Search) → is-not-found f ≡ true → f ≡ NotFound
 is-not-found-eq (At i) e = let z : _≡_ {A = ℕ} 0 1 = cc in absurd (omega arith)
@@ -50,12 +49,12 @@ is-not-found-eq NotFound e = refl
 pub class-missing-iff : (rows : List Row) (r : Row) → (class-missing rows r ≡ true) ↔ ClassMissing rows r
 unfolding class-missing
 class-missing-iff rows r = (
-  λ e. record { kind = kinds (which _ _ (both-left kind (is-not-found class) e)); none = found .0 (is-not-found-eq class (both-right kind (is-not-found class) e)) },
-  λ c. rw (either-of (is-kind 2 r) (is-kind 3 r) (tests (c .kind)), found .1 (c .none)),
+  λ e. record { kind = kinds (or-cases _ _ (and-left kind (is-not-found class) e)); none = found .0 (is-not-found-eq class (and-right kind (is-not-found class) e)) },
+  λ c. rw (or-of (is-kind 2 r) (is-kind 3 r) (tests (c .kind)), found .1 (c .none)),
 )
   where
     kind : Bool
-    kind = either (is-kind 2 r) (is-kind 3 r)
+    kind = is-kind 2 r || is-kind 3 r
 
     class : Search
     class = class-at rows (r .class)

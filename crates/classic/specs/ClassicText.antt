@@ -1,11 +1,10 @@
 -- Classic text, as 01 lays it out: addresses, class rows, the two lines of a row, the trailers, and the whole as a list of lines.
 -- Every promise about the text cites these definitions, and a reader must believe them, with those of digits (numbers as bytes).
 use Prim.Native.Nat.{ℕ, _+_, _*_, _/_}
-use mathlib.Core.Bool.{Bool, true, false}
+use mathlib.Core.Bool.{Bool, true, false, cond, _&&_, _||_}
 use mathlib.Core.List.{List, [], _∷_, _++_}
 use lib.ListN.{length, getD}
 use lib.Dec.{leb, eqb}
-use Rattle.decode.specs.Numbers.{pick, both, either}
 use Rattle.decode.specs.declared.StringSpan.{StringSpan}
 use Rattle.encode.specs.Encode.{join}
 use Rattle.digits.specs.Digits.{ascii, text-decimal, upper-digits}
@@ -32,10 +31,10 @@ address bits a = ascii "0x" ++ upper-digits 16 (bits / 4) a
 
 -- a class row with that address; a class row so named
 unfoldable pub is-class-at : ℕ → Row → Bool
-is-class-at a r = both (is-kind 1 r) (eqb (r .address) a)
+is-class-at a r = is-kind 1 r && eqb (r .address) a
 
 unfoldable pub is-class-named : List ℕ → List ℕ → Row → Bool
-is-class-named names name r = both (is-kind 1 r) (bytes-equal (name-of names r) name)
+is-class-named names name r = is-kind 1 r && bytes-equal (name-of names r) name
 
 -- the first of them
 abbrev pub class-at : List Row → ℕ → Search
@@ -50,7 +49,7 @@ is-not-found (At i) = false
 is-not-found NotFound = true
 
 unfoldable pub class-missing : List Row → Row → Bool
-class-missing rows r = both (either (is-kind 2 r) (is-kind 3 r)) (is-not-found (class-at rows (r .class)))
+class-missing rows r = (is-kind 2 r || is-kind 3 r) && is-not-found (class-at rows (r .class))
 
 -- ---- what the lines of a row say
 
@@ -63,25 +62,25 @@ primitive-array-type type = ascii "[" ++ (getD letters type 0 ∷ [])
 
 -- the type of an array of objects: `[L` name `;`, or `[` name where the name starts with `[`
 unfoldable pub object-array-type : List ℕ → List ℕ
-object-array-type name = pick (eqb (getD name 0 0) 0x5B) (ascii "[" ++ name) (ascii "[L" ++ (name ++ ascii ";"))
+object-array-type name = cond (eqb (getD name 0 0) 0x5B) (ascii "[" ++ name) (ascii "[L" ++ (name ++ ascii ";"))
 
 -- the class row that a row's type is named by: itself, or its class; a primitive array has none
 unfoldable pub naming-class : List Row → Row → Row
-naming-class rows r = pick (is-kind 1 r) r (pick (is-kind 4 r) zero-row (found-row rows (class-at rows (r .class))))
+naming-class rows r = cond (is-kind 1 r) r (cond (is-kind 4 r) zero-row (found-row rows (class-at rows (r .class))))
 
 -- the type
 unfoldable pub type-of : (names : List ℕ) → List Row → Row → List ℕ
 type-of names rows r =
     let name : List ℕ = name-of names (naming-class rows r) in
-    pick (is-kind 4 r) (primitive-array-type (r .prim)) (pick (is-kind 3 r) (object-array-type name) name)
+    cond (is-kind 4 r) (primitive-array-type (r .prim)) (cond (is-kind 3 r) (object-array-type name) name)
 
 -- Bytes: 0 for a class row; the class's instance size for an object; 4 × size for arrays.
 unfoldable pub bytes-of : List Row → Row → ℕ
-bytes-of rows r = pick (is-kind 1 r) 0 (pick (is-kind 2 r) (naming-class rows r .size) (4 * r .size))
+bytes-of rows r = cond (is-kind 1 r) 0 (cond (is-kind 2 r) (naming-class rows r .size) (4 * r .size))
 
 -- the class word; a primitive array's is the address of the first class row so named, else 0
 unfoldable pub class-of : (names : List ℕ) → List Row → Row → ℕ
-class-of names rows r = pick (is-kind 4 r) (found-row rows (class-named names rows (primitive-array-type (r .prim))) .address) (r .class)
+class-of names rows r = cond (is-kind 4 r) (found-row rows (class-named names rows (primitive-array-type (r .prim))) .address) (r .class)
 
 -- ---- lines
 
@@ -90,7 +89,7 @@ unfoldable pub first-line : ℕ → (names : List ℕ) → List Row → Row → 
 first-line bits names rows r = join (
     address bits (r .address)
     ∷ text-decimal " [" (bytes-of rows r)
-    ∷ pick (is-kind 1 r) (ascii "] CLS ") (ascii "] OBJ ")
+    ∷ cond (is-kind 1 r) (ascii "] CLS ") (ascii "] OBJ ")
     ∷ type-of names rows r ∷ [])
 
 -- references, each behind a space
@@ -110,7 +109,7 @@ row-lines bits names refs rows (r ∷ some) =
 
 -- the VM string; none leaves the space
 unfoldable pub version-line : List ℕ → StringSpan → List ℕ
-version-line names t = ascii "// Version: " ++ pick (t .present) (vm-text names t) []
+version-line names t = ascii "// Version: " ++ cond (t .present) (vm-text names t) []
 
 -- the two trailers: rows by kind; all rows, references with the nulls, and the nulls by themselves
 unfoldable pub breakdown-line : List Row → List ℕ

@@ -1,14 +1,13 @@
 -- Laws of a row's entry and of its two lines, as the functions make them.
 -- Assumes nothing.
 use mathlib.Core.Path.{_≡_, refl}
-use mathlib.Core.Bool.{Bool, true, false}
+use mathlib.Core.Bool.{Bool, true, false, _&&_, _||_}
 use mathlib.Core.List.{List, [], _∷_, _++_}
 use Prim.Native.Nat.{ℕ, _+_, _*_, _/_, _≤_, _<_}
 use native.Mathlib.Omega.{arith}
 use lib.ListN.{length}
 use lib.Dec.{eqb}
 use borrow.Author.Tests.{eqb-false, eq-eqb}
-use Rattle.decode.specs.Numbers.{both, either}
 use Rattle.table.specs.Rows.{refs-of}
 use Rattle.table.specs.declared.Row.{Row}
 use Rattle.digits.specs.Digits.{digit-count}
@@ -48,6 +47,6 @@ pub class-missing-by-search : (rows : List Row) (r : Row) → KnownKind r → (r
 unfolding class-missing
 class-missing-by-search rows r k a p = by (eqb (r .kind) 2) refl
   where
-    by : (b : Bool) → eqb (r .kind) 2 ≡ b → both (either b (eqb (r .kind) 3)) (is-not-found (class-at rows (r .class))) ≡ is-not-found (class-at rows (r .class))
+    by : (b : Bool) → eqb (r .kind) 2 ≡ b → (b || eqb (r .kind) 3) && is-not-found (class-at rows (r .class)) ≡ is-not-found (class-at rows (r .class))
     by true e = refl
     by false e = rw (eq-eqb (r .kind) 3 (omega (arith, eqb-false (r .kind) 2 e)))

@@ -4,12 +4,11 @@ use mathlib.Core.Path.{_≡_, refl}
 use mathlib.Core.Logic.{⊎-elim}
 use Prim.Native.Nat.{ℕ, _+_, _*_, _/_, _^_, _≤_, _<_}
 use native.Mathlib.Omega.{arith}
-use mathlib.Core.Bool.{Bool, true, false}
+use mathlib.Core.Bool.{Bool, true, false, cond}
 use mathlib.Core.List.{List, [], _∷_, _++_}
 use lib.ListN.{length, getD, take, drop, length-append}
 use lib.Dec.{eqb}
 use Rattle.decode.specs.Values.{by-cases}
-use Rattle.decode.specs.Numbers.{pick}
 use Rattle.encode.specs.Encode.{join}
 use Rattle.phd.specs.Shapes.{ValidBits}
 use Rattle.table.specs.Rows.{is-kind, name-of, zero-row, all-nth}
@@ -35,17 +34,17 @@ type-label rows r = record { bytes = bytes-of rows r; place = naming-class rows 
 
 -- that, or reply 18 for an object or an object array without its class row
 unfoldable pub type-label-or-18 : List Row → Row → LabelResult
-type-label-or-18 rows r = pick (class-missing rows r) (Reply 18) (Found (type-label rows r))
+type-label-or-18 rows r = cond (class-missing rows r) (Reply 18) (Found (type-label rows r))
 
 -- the name, the type, `CLS` or `OBJ` behind the bytes, and the first line, by an entry
 abbrev pub label-name : List ℕ → TypeLabel → List ℕ
 label-name names e = take (e .len) (drop (e .place) names)
 
 unfoldable pub label-type : List ℕ → ℕ → ℕ → TypeLabel → List ℕ
-label-type names kind prim e = pick (eqb kind 4) (primitive-array-type prim) (pick (eqb kind 3) (object-array-type (label-name names e)) (label-name names e))
+label-type names kind prim e = cond (eqb kind 4) (primitive-array-type prim) (cond (eqb kind 3) (object-array-type (label-name names e)) (label-name names e))
 
 unfoldable pub kind-mark : ℕ → List ℕ
-kind-mark kind = pick (eqb kind 1) (ascii "] CLS ") (ascii "] OBJ ")
+kind-mark kind = cond (eqb kind 1) (ascii "] CLS ") (ascii "] OBJ ")
 
 unfoldable pub label-line : ℕ → List ℕ → Row → TypeLabel → List ℕ
 label-line bits names r e = join (
@@ -64,7 +63,7 @@ row-size bits names rows r =
 
 -- that, or reply 18 likewise
 unfoldable pub row-size-or-18 : ℕ → (names : List ℕ) → List Row → Row → RowSize
-row-size-or-18 bits names rows r = pick (class-missing rows r) (ReplySize 18) (Bytes (row-size bits names rows r))
+row-size-or-18 bits names rows r = cond (class-missing rows r) (ReplySize 18) (Bytes (row-size bits names rows r))
 
 -- ---- what an answer says of the row
 
@@ -75,7 +74,7 @@ module _ (rows : List Row) (r : Row) where
 
   pub label-means : (f : LabelResult) → f ≡ type-label-or-18 rows r → LabelMeans f
   unfolding type-label-or-18
-  label-means f q = rw q (by-cases (λ t. LabelMeans (pick t (Reply 18) (Found (type-label rows r)))) (class-missing rows r) (λ p. (p, refl)) (λ p. (p, refl)))
+  label-means f q = rw q (by-cases (λ t. LabelMeans (cond t (Reply 18) (Found (type-label rows r)))) (class-missing rows r) (λ p. (p, refl)) (λ p. (p, refl)))
 
 module _ (bits : ℕ) (names : List ℕ) (rows : List Row) (r : Row) where
   abbrev pub SizeMeans : RowSize → Type 0
@@ -85,7 +84,7 @@ module _ (bits : ℕ) (names : List ℕ) (rows : List Row) (r : Row) where
   pub size-means : (f : RowSize) → f ≡ row-size-or-18 bits names rows r → SizeMeans f
   unfolding row-size-or-18
   size-means f q =
-      rw q (by-cases (λ t. SizeMeans (pick t (ReplySize 18) (Bytes (row-size bits names rows r)))) (class-missing rows r) (λ p. (p, refl)) (λ p. (p, refl)))
+      rw q (by-cases (λ t. SizeMeans (cond t (ReplySize 18) (Bytes (row-size bits names rows r)))) (class-missing rows r) (λ p. (p, refl)) (λ p. (p, refl)))
 
 -- ---- the two say the same
 
@@ -107,7 +106,7 @@ naming-class-in-bounds names rows r a s = by-kind (is-kind 1 r) (is-kind 4 r)
     found (At i) e = all-nth _ rows i (a .row) (found-in-bounds _ rows i e)
     found NotFound e = none
 
-    by-kind : (b c : Bool) → RowNumbersInBounds names (pick b r (pick c zero-row (found-row rows (class-at rows (r .class)))))
+    by-kind : (b c : Bool) → RowNumbersInBounds names (cond b r (cond c zero-row (found-row rows (class-at rows (r .class)))))
     by-kind true c = s
     by-kind false true = none
     by-kind false false = found _ refl
@@ -116,7 +115,7 @@ pub bytes-of-lt : (names : List ℕ) (rows : List Row) (r : Row) → AllNumbersI
 unfolding bytes-of
 bytes-of-lt names rows r a s = by-kind (is-kind 1 r) (is-kind 2 r)
   where
-    by-kind : (b c : Bool) → pick b 0 (pick c (naming-class rows r .size) (4 * r .size)) < 2 ^ 34
+    by-kind : (b c : Bool) → cond b 0 (cond c (naming-class rows r .size) (4 * r .size)) < 2 ^ 34
     by-kind true c = omega arith
     by-kind false true = let n = naming-class-in-bounds names rows r a s in omega arith
     by-kind false false = omega arith
@@ -128,7 +127,7 @@ length-type : (names : List ℕ) (kind prim : ℕ) (e : TypeLabel) → length (l
 unfolding label-type primitive-array-type
 length-type names kind prim e = by-kind (eqb kind 4) _
   where
-    by-kind : (b : Bool) (other : List ℕ) → length (pick b (primitive-array-type prim) other) ≡ length (pick b (primitive-array-type 0) other)
+    by-kind : (b : Bool) (other : List ℕ) → length (cond b (primitive-array-type prim) other) ≡ length (cond b (primitive-array-type 0) other)
     by-kind true other = refl
     by-kind false other = refl
 
@@ -137,7 +136,7 @@ type-le : (names : List ℕ) (kind : ℕ) (e : TypeLabel) → length (label-type
 unfolding label-type primitive-array-type object-array-type
 type-le names kind e = by-kind (eqb kind 4) (eqb kind 3) (eqb (getD (label-name names e) 0 0) 0x5B) (label-name names e)
   where
-    by-kind : (b c d : Bool) (name : List ℕ) → length (pick b (primitive-array-type 0) (pick c (pick d (ascii "[" ++ name) (ascii "[L" ++ (name ++ ascii ";"))) name)) ≤ 3 + length name
+    by-kind : (b c d : Bool) (name : List ℕ) → length (cond b (primitive-array-type 0) (cond c (cond d (ascii "[" ++ name) (ascii "[L" ++ (name ++ ascii ";"))) name)) ≤ 3 + length name
     by-kind true c d name = omega arith
     by-kind false true true name = omega arith
     by-kind false true false name = simp length-append (omega arith)
@@ -147,7 +146,7 @@ length-mark : (kind : ℕ) → length (kind-mark kind) ≡ 6
 unfolding kind-mark
 length-mark kind = by-kind (eqb kind 1)
   where
-    by-kind : (b : Bool) → length (pick b (ascii "] CLS ") (ascii "] OBJ ")) ≡ 6
+    by-kind : (b : Bool) → length (cond b (ascii "] CLS ") (ascii "] OBJ ")) ≡ 6
     by-kind true = refl
     by-kind false = refl
 

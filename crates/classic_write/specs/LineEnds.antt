@@ -5,13 +5,13 @@ use mathlib.Core.Path.{_≡_, refl}
 use mathlib.Core.Logic.{_↔_, _⊎_, inl, inr}
 use Prim.Native.Nat.{ℕ, zero, suc, _+_, _-_, _/_, _%_, _≤_, _<_}
 use native.Mathlib.Omega.{arith}
-use mathlib.Core.Bool.{Bool, true, false, cond}
+use mathlib.Core.Bool.{Bool, true, false, cond, _&&_}
 use mathlib.Core.List.{List, [], _∷_, _++_, append-nil, map-append}
 use lib.Dec.{leb, ltb, eqb}
 use lib.ListN.{length, getD}
 use borrow.Author.Tests.{leb-true, ltb-false, eq-eqb, ne-eqb}
-use Rattle.decode.specs.Numbers.{pick, both, all-within}
-use Rattle.decode.specs.Values.{both-left, both-right}
+use Rattle.decode.specs.Numbers.{all-within}
+use Rattle.decode.specs.Values.{and-left, and-right}
 use Rattle.decode.specs.declared.StringSpan.{StringSpan}
 use Rattle.encode.specs.Encode.{join}
 use Rattle.digits.specs.Digits.{ascii, text-decimal, uppercase, upper-digits, decimal, digit-count}
@@ -56,7 +56,7 @@ each-at (l ∷ ls) (suc i) n e = each-at ls i (n .1) e
 
 -- ---- the version line
 
-version-by : (b : Bool) (text : List ℕ) → EndsInSpace (ascii "// Version: " ++ pick b text []) ↔ ((b ≡ false) ⊎ ((text ≡ []) ⊎ EndsInSpace text))
+version-by : (b : Bool) (text : List ℕ) → EndsInSpace (ascii "// Version: " ++ cond b text []) ↔ ((b ≡ false) ⊎ ((text ≡ []) ⊎ EndsInSpace text))
 unfolding last-byte last-or
 version-by false text = (λ _. inl refl, λ _. refl)
 version-by true [] = (λ _. inr (inl refl), λ _. refl)
@@ -102,15 +102,15 @@ final-join (x ∷ y ∷ rest) n = final-append x (final-join (y ∷ rest) n)
 within-at : (bytes : List ℕ) (i : ℕ) → all-within 0x21 0x7E bytes ≡ true → i < length bytes → 0x20 < getD bytes i 0
 unfolding all-within
 within-at [] i w l = absurd (omega arith)
-within-at (b ∷ rest) zero w l = leb-true 0x21 b (both-left (leb 0x21 b) (leb b 0x7E) (both-left (both (leb 0x21 b) (leb b 0x7E)) (all-within 0x21 0x7E rest) w))
-within-at (b ∷ rest) (suc i) w l = within-at rest i (both-right (both (leb 0x21 b) (leb b 0x7E)) (all-within 0x21 0x7E rest) w) (omega arith)
+within-at (b ∷ rest) zero w l = leb-true 0x21 b (and-left (leb 0x21 b) (leb b 0x7E) (and-left (leb 0x21 b && leb b 0x7E) (all-within 0x21 0x7E rest) w))
+within-at (b ∷ rest) (suc i) w l = within-at rest i (and-right (leb 0x21 b && leb b 0x7E) (all-within 0x21 0x7E rest) w) (omega arith)
 
 final-within : (bytes : List ℕ) → all-within 0x21 0x7E bytes ≡ true → 1 ≤ length bytes → NoFinalSpace bytes
 unfolding all-within last-or
 final-within [] w l = absurd (omega arith)
 final-within (b ∷ []) w l = final-one b (within-at (b ∷ []) 0 w l)
 final-within (b ∷ c ∷ rest) w l =
-    let v = both-right (both (leb 0x21 b) (leb b 0x7E)) (all-within 0x21 0x7E (c ∷ rest)) w in
+    let v = and-right (leb 0x21 b && leb b 0x7E) (all-within 0x21 0x7E (c ∷ rest)) w in
     record { last = λ _. final-within (c ∷ rest) v (omega arith) .last b }
 
 -- ---- numbers
@@ -127,7 +127,7 @@ uppercase-above-space : (c : ℕ) → 48 ≤ c → 0x20 < uppercase c
 unfolding uppercase
 uppercase-above-space c l = by (ltb c 0x61) refl
   where
-    by : (b : Bool) → ltb c 0x61 ≡ b → 0x20 < pick b c (c - 0x20)
+    by : (b : Bool) → ltb c 0x61 ≡ b → 0x20 < cond b c (c - 0x20)
     by true e = omega arith
     by false e = omega (arith, ltb-false c 0x61 e)
 
@@ -182,7 +182,7 @@ final-array : (name : List ℕ) → NoFinalSpace name → NoFinalSpace (object-a
 unfolding object-array-type
 final-array name n = by (eqb (getD name 0 0) 0x5B)
   where
-    by : (b : Bool) → NoFinalSpace (pick b (ascii "[" ++ name) (ascii "[L" ++ (name ++ ascii ";")))
+    by : (b : Bool) → NoFinalSpace (cond b (ascii "[" ++ name) (ascii "[L" ++ (name ++ ascii ";")))
     by true = final-append (ascii "[") n
     by false = final-append (ascii "[L") (final-append name (final-one 0x3B (omega arith)))
 
@@ -231,7 +231,7 @@ module _ (names : List ℕ) (rows : List Row) (all : All (GoodName names) rows) 
 final-first : (bits : ℕ) (names : List ℕ) (rows : List Row) (r : Row) → NoFinalSpace (type-of names rows r) → NoFinalSpace (first-line bits names rows r)
 unfolding first-line
 final-first bits names rows r t =
-    final-join (address bits (r .address) ∷ text-decimal " [" _ ∷ pick (is-kind 1 r) (ascii "] CLS ") (ascii "] OBJ ") ∷ type-of names rows r ∷ []) t
+    final-join (address bits (r .address) ∷ text-decimal " [" _ ∷ cond (is-kind 1 r) (ascii "] CLS ") (ascii "] OBJ ") ∷ type-of names rows r ∷ []) t
 
 -- ---- the lines
 

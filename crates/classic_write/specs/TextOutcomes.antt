@@ -3,12 +3,11 @@
 use mathlib.Core.Path.{_≡_, refl, sym, ap}
 use Prim.Native.Nat.{ℕ, _+_, _^_, _<_}
 use native.Mathlib.Omega.{arith}
-use mathlib.Core.Bool.{Bool, true, false}
+use mathlib.Core.Bool.{Bool, true, false, _&&_}
 use mathlib.Core.List.{List}
 use lib.ListN.{length}
 use lib.Dec.{leb}
 use borrow.Author.Tests.{le-leb}
-use Rattle.decode.specs.Numbers.{both}
 use Rattle.table.specs.declared.Row.{Row}
 use Rattle.phd.specs.declared.Header.{Header}
 use Rattle.phd_check.specs.GoodRows.{good-header, first-bad, TablesGood}
@@ -55,7 +54,7 @@ unfolding checked-write refused
 refusal-is-18 (At i) n w bytes e = let q : w ≡ record { reply = 18; place = i } = cc in (q, λ z. omega (arith, rw q at z))
 refusal-is-18 NotFound n w bytes e = let z : _≡_ {A = ℕ} 0 1 = cc in absurd (omega arith)
 
-both-true-right : (b : Bool) → b ≡ both b true
+both-true-right : (b : Bool) → b ≡ b && true
 both-true-right true = refl
 both-true-right false = refl
 
@@ -85,7 +84,7 @@ module _ (h : Header) (names refs : List ℕ) (rows : List Row) where
 
   -- a text asks for room beside all that asking asks
   pub text-as-size-query : (out-capacity : ℕ) → text-rows h names refs rows out-capacity
-      ≡ checked-write (good-header h names rows refs) (first-bad h names refs rows) (first-row (class-missing rows) rows) (both (leb (length (text-of h names refs rows)) out-capacity) true) (text-of h names refs rows)
+      ≡ checked-write (good-header h names rows refs) (first-bad h names refs rows) (first-row (class-missing rows) rows) (leb (length (text-of h names refs rows)) out-capacity && true) (text-of h names refs rows)
   unfolding text-rows
   text-as-size-query out-capacity =
       ap (λ b. checked-write (good-header h names rows refs) (first-bad h names refs rows) (first-row (class-missing rows) rows) b (text-of h names refs rows))

@@ -3,10 +3,9 @@
 use mathlib.Core.Path.{_≡_, refl}
 use Prim.Native.Nat.{ℕ, _+_, _*_, _^_, _≤_, _<_}
 use native.Mathlib.Omega.{arith}
-use mathlib.Core.Bool.{Bool, true, false}
+use mathlib.Core.Bool.{Bool, true, false, cond}
 use mathlib.Core.List.{List, [], _∷_, _++_}
 use lib.ListN.{length, length-append}
-use Rattle.decode.specs.Numbers.{pick}
 use Rattle.decode.specs.declared.StringSpan.{StringSpan}
 use Rattle.table.specs.declared.Row.{Row}
 use Rattle.phd.specs.Shapes.{ValidBits}
@@ -26,18 +25,18 @@ use Rattle.classic_write.specs.TextParts.{TallyBound, unlines-append, ve
 
 -- ---- the version line
 
-pub length-version : (names : List ℕ) (t : StringSpan) → VmInBounds names t → length (version-text names t) ≡ 13 + pick (t .present) (t .len) 0
+pub length-version : (names : List ℕ) (t : StringSpan) → VmInBounds names t → length (version-text names t) ≡ 13 + cond (t .present) (t .len) 0
 unfolding version-text version-line unlines
 length-version names t v = by (t .present) refl
   where
-    by : (b : Bool) → t .present ≡ b → length ((ascii "// Version: " ++ pick b (vm-text names t) []) ++ (0x0A ∷ [])) ≡ 13 + pick b (t .len) 0
+    by : (b : Bool) → t .present ≡ b → length ((ascii "// Version: " ++ cond b (vm-text names t) []) ++ (0x0A ∷ [])) ≡ 13 + cond b (t .len) 0
     by true e = let l = length-vm-text names t v e in simp length-append (omega arith)
     by false e = refl
 
 pub version-le : (names : List ℕ) (t : StringSpan) → VmInBounds names t → length (version-text names t) ≤ 65548
 version-le names t v = rw (length-version names t v) (by (t .present) refl)
   where
-    by : (b : Bool) → t .present ≡ b → 13 + pick b (t .len) 0 ≤ 65548
+    by : (b : Bool) → t .present ≡ b → 13 + cond b (t .len) 0 ≤ 65548
     by true e = let s = v .short e in omega arith
     by false e = omega arith
 

@@ -1,6 +1,6 @@
 -- Laws of digits, two's complement and exact sums, as the functions compute them.
 use mathlib.Core.Path.{_≡_, refl, sym, ap, _∙_}
-use mathlib.Core.Bool.{true, false}
+use mathlib.Core.Bool.{true, false, cond, _&&_}
 use mathlib.Core.List.{List}
 use Prim.Native.Nat.{ℕ, zero, suc, _+_, _-_, _*_, _^_, _≤_, _<_}
 use native.Mathlib.Nat.{pow-suc, pow-le-pow-right, mul-suc, two-pow-succ, zero-add}
@@ -14,7 +14,7 @@ use lib.IntN.{ℤ, pos, negsuc, _-ℤ_}
 use lib.Signed.{ltZ}
 use borrow.Author.Tests.{lt-ltb, le-ltb, ltb-true, le-leb, lt-leb}
 use Rattle.decode.specs.Slices.{slice-next}
-use Rattle.decode.specs.Numbers.{pick, both, value-after, signed, sign-case, add-gap, in-range, to-count, all-within}
+use Rattle.decode.specs.Numbers.{value-after, signed, sign-case, add-gap, in-range, to-count, all-within}
 use Rattle.decode.specs.Values.{true-not-false}
 use Rattle.decode.specs.declared.SignCase.the-variants.{NonNeg, NegSuc}
 use Rattle.decode.specs.declared.Maybe.the-variants.{Just, Nothing}
@@ -94,11 +94,11 @@ unfolding add-gap
 add-gap-nonneg highest base z n e = rw (sign-case-nonneg z n e)
 
 pub add-gap-negsuc : (highest base : ℕ) (z : ℤ) (n : ℕ) → sign-case z ≡ NegSuc n
-    → add-gap highest base z ≡ pick (leb (4 * suc n) base) (in-range highest (base - 4 * suc n)) Nothing
+    → add-gap highest base z ≡ cond (leb (4 * suc n) base) (in-range highest (base - 4 * suc n)) Nothing
 unfolding add-gap
 add-gap-negsuc highest base z n e = rw (sign-case-negsuc z n e)
 
-pub to-count-nonneg : (z : ℤ) (n : ℕ) → sign-case z ≡ NonNeg n → to-count z ≡ pick (ltb n (2 ^ 31)) (Just n) Nothing
+pub to-count-nonneg : (z : ℤ) (n : ℕ) → sign-case z ≡ NonNeg n → to-count z ≡ cond (ltb n (2 ^ 31)) (Just n) Nothing
 unfolding to-count
 to-count-nonneg z n e = rw (sign-case-nonneg z n e)
 
@@ -110,7 +110,7 @@ to-count-negsuc z n e = rw (sign-case-negsuc z n e)
 
 module _ (s : List ℕ) (at n i low high : ℕ) (h : i < n) (in-bounds : at + n ≤ length s) where
   all-within-step : all-within low high (take (n - i) (drop (at + i) s))
-      ≡ both (both (leb low (getD s (at + i) 0)) (leb (getD s (at + i) 0) high)) (all-within low high (take (n - (i + 1)) (drop (at + (i + 1)) s)))
+      ≡ (leb low (getD s (at + i) 0) && leb (getD s (at + i) 0) high) && all-within low high (take (n - (i + 1)) (drop (at + (i + 1)) s))
   unfolding all-within
   all-within-step = rw (slice-next s at n i h in-bounds)
 

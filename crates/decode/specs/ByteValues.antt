@@ -4,13 +4,13 @@
 use mathlib.Core.Path.{_≡_, refl, sym, _∙_}
 use Prim.Native.Nat.{ℕ, zero, suc, _+_, _-_, _*_, _%_, _^_, _≤_, _<_}
 use native.Mathlib.Omega.{arith}
-use mathlib.Core.Bool.{Bool, true, false}
+use mathlib.Core.Bool.{Bool, true, false, cond}
 use mathlib.Core.List.{List}
 use lib.Dec.{leb}
 use lib.ListN.{length, getD, take, drop}
 use lib.IntN.{ℤ, pos, negsuc}
 use borrow.Author.Tests.{leb-true}
-use Rattle.decode.specs.Numbers.{pick, value-after, value, signed, in-range, add-gap, to-count, all-within}
+use Rattle.decode.specs.Numbers.{value-after, value, signed, in-range, add-gap, to-count, all-within}
 use Rattle.decode.specs.Slices.{slice-cons}
 use Rattle.decode.specs.Layout.{Layout, yield, whole, run-then, run-enough, run-position, run-raw, whole-has-bytes, then-inv, _>>=_, raw, field, position}
 use Rattle.decode.specs.Fields.{address, ref-field, count, string}
@@ -78,7 +78,7 @@ unfolding add-gap
 add-gap-aligned highest base (pos n) a z h = omega (arith, in-range-inv highest (base + 4 * n) a h .0)
 add-gap-aligned highest base (negsuc n) a z h = by (leb (4 * suc n) base) refl h
   where
-    by : (b : Bool) → leb (4 * suc n) base ≡ b → pick b (in-range highest (base - 4 * suc n)) Nothing ≡ Just a → a % 4 ≡ 0
+    by : (b : Bool) → leb (4 * suc n) base ≡ b → cond b (in-range highest (base - 4 * suc n)) Nothing ≡ Just a → a % 4 ≡ 0
     by true e g = let l : 4 * suc n ≤ base = leb-true _ _ e in omega (arith, in-range-inv highest (base - 4 * suc n) a g .0)
     by false e g = let x : _≡_ {A = ℕ} 0 1 = cc in absurd (omega arith)
 

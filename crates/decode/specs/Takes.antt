@@ -4,11 +4,11 @@ use mathlib.Core.Path.{_≡_, refl, subst, _∙_}
 use Prim.Native.Nat.{ℕ, _+_, _-_, _≤_}
 use native.Mathlib.Nat.{add-zero}
 use native.Mathlib.Omega.{arith}
-use mathlib.Core.Bool.{Bool, true, false}
+use mathlib.Core.Bool.{Bool, true, false, cond}
 use mathlib.Core.List.{List, [], _∷_}
 use lib.ListN.{length, take, drop}
 use borrow.Author.Tests.{leb-true}
-use Rattle.decode.specs.Numbers.{pick, value, value-after, signed, add-gap, to-count}
+use Rattle.decode.specs.Numbers.{value, value-after, signed, add-gap, to-count}
 use Rattle.decode.specs.Slices.{length-slice}
 use Rattle.decode.specs.Layout.{Layout, yield, refuse, bytes, whole, stops, run, _>>=_, position, raw, field, check, need, run-yield, run-refuse, run-position, run-enough, whole-has-bytes, then-inv, start-le-end}
 use Rattle.decode.specs.Fields.{exactly, below, address, ref-field, count, string}
@@ -59,7 +59,7 @@ pub takes-weaken : {A : Type 0} {Q P : A → ℕ → Type 0} {l : Layout A} → 
 takes-weaken g w = record { each = λ s at a e h. let x = g .each s at a e h in (x .0, x .1, w a (x .0) (x .2)) }
 
 -- a layout that goes by a test
-pub takes-cases : {A : Type 0} {P : A → ℕ → Type 0} (b : Bool) (l m : Layout A) → (b ≡ true → Takes P l) → (b ≡ false → Takes P m) → Takes P (pick b l m)
+pub takes-cases : {A : Type 0} {P : A → ℕ → Type 0} (b : Bool) (l m : Layout A) → (b ≡ true → Takes P l) → (b ≡ false → Takes P m) → Takes P (cond b l m)
 takes-cases true l m f g = f refl
 takes-cases false l m f g = g refl
 

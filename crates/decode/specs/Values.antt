@@ -2,7 +2,7 @@
 -- Assumes nothing.
 use mathlib.Core.Path.{_≡_, refl, sym, ap, subst, _∙_}
 use Prim.Native.Nat.{ℕ, suc, _+_, _-_, _*_, _^_, _≤_, _<_}
-use mathlib.Core.Bool.{Bool, true, false}
+use mathlib.Core.Bool.{Bool, true, false, cond, _&&_}
 use mathlib.Core.List.{List}
 use lib.ListN.{length, take, drop}
 use lib.Dec.{leb, ltb}
@@ -10,7 +10,7 @@ use lib.IntN.{ℤ, pos, negsuc}
 use native.Mathlib.Omega.{arith}
 use native.Mathlib.Decide.{decLe}
 use borrow.Author.Tests.{leb-true, ltb-true, eqb-false, not-true}
-use Rattle.decode.specs.Numbers.{pick, both, value, signed, in-range, add-gap, to-count}
+use Rattle.decode.specs.Numbers.{value, signed, in-range, add-gap, to-count}
 use Rattle.decode.specs.Layout.{Layout, yield, refuse, bytes, Outcome, whole, stops, run, run-enough, run-short, run-then, then-inv, and-then, run-yield, run-refuse, run-position, end-in-bounds, _>>=_, position, raw, field, check, need}
 use Rattle.decode.specs.Fields.{exactly, below, address, ref-field, count, string}
 use Rattle.decode.specs.declared.Stop.the-variants.{Cut, Refused}
@@ -19,9 +19,9 @@ use Rattle.decode.specs.declared.Maybe.the-variants.{Just, Nothing}
 
 -- ---- tests
 
-pub pick-either {ℓ} : {X : Type ℓ} (P : X → Type 0) (b : Bool) (x y : X) → P x → P y → P (pick b x y)
-pick-either P true x y p q = p
-pick-either P false x y p q = q
+pub cond-elim {ℓ} : {X : Type ℓ} (P : X → Type 0) (b : Bool) (x y : X) → P x → P y → P (cond b x y)
+cond-elim P true x y p q = p
+cond-elim P false x y p q = q
 
 -- a test has one answer
 pub true-not-false : true ≡ false → ⊥
@@ -33,16 +33,16 @@ by-cases P true p q = p refl
 by-cases P false p q = q refl
 
 -- two tests that hold together
-pub both-left : (a b : Bool) → both a b ≡ true → a ≡ true
-both-left true b e = refl
-both-left false b e = e
+pub and-left : (a b : Bool) → a && b ≡ true → a ≡ true
+and-left true b e = refl
+and-left false b e = e
 
-pub both-right : (a b : Bool) → both a b ≡ true → b ≡ true
-both-right true b e = e
-both-right false b e = absurd (true-not-false (sym e))
+pub and-right : (a b : Bool) → a && b ≡ true → b ≡ true
+and-right true b e = e
+and-right false b e = absurd (true-not-false (sym e))
 
 -- 1 or 0 is at most 1
-pub bit-le-one : (b : Bool) → pick b 1 0 ≤ 1
+pub bit-le-one : (b : Bool) → cond b 1 0 ≤ 1
 bit-le-one true = omega arith
 bit-le-one false = omega arith
 
@@ -81,11 +81,11 @@ gives-then-any l f k = gives-then (λ _. Unit {0}) l f (record { each = λ at a 
 pub gives-weaken : {A : Type 0} {s : List ℕ} {Q P : A → Type 0} {l : Layout A} → Gives s Q l → ((a : A) → Q a → P a) → Gives s P l
 gives-weaken g w = record { each = λ at a e p h. w a (g .each at a e p h) }
 
-pub gives-pick : {A : Type 0} {s : List ℕ} {P : A → Type 0} (b : Bool) (l m : Layout A) → Gives s P l → Gives s P m → Gives s P (pick b l m)
-gives-pick {A} {s} {P} b l m g k = pick-either (Gives s P) b l m g k
+pub gives-cond : {A : Type 0} {s : List ℕ} {P : A → Type 0} (b : Bool) (l m : Layout A) → Gives s P l → Gives s P m → Gives s P (cond b l m)
+gives-cond {A} {s} {P} b l m g k = cond-elim (Gives s P) b l m g k
 
 -- a layout that goes by a test
-pub gives-cases : {A : Type 0} {s : List ℕ} {P : A → Type 0} (b : Bool) (l m : Layout A) → (b ≡ true → Gives s P l) → (b ≡ false → Gives s P m) → Gives s P (pick b l m)
+pub gives-cases : {A : Type 0} {s : List ℕ} {P : A → Type 0} (b : Bool) (l m : Layout A) → (b ≡ true → Gives s P l) → (b ≡ false → Gives s P m) → Gives s P (cond b l m)
 gives-cases true l m f g = f refl
 gives-cases false l m f g = g refl
 
@@ -157,8 +157,8 @@ refuses-position {P} = record { each = λ s at r h. absurd (never at r (rw run-p
     never : (at r : ℕ) → whole at at ≡ stops (Refused r) → ⊥
     never at r h = let z : _≡_ {A = ℕ} 0 1 = cc in omega arith
 
-pub refuses-pick : {A : Type 0} {P : ℕ → Type 0} (b : Bool) (l m : Layout A) → Refuses P l → Refuses P m → Refuses P (pick b l m)
-refuses-pick {A} {P} b l m g k = pick-either (Refuses P) b l m g k
+pub refuses-cond : {A : Type 0} {P : ℕ → Type 0} (b : Bool) (l m : Layout A) → Refuses P l → Refuses P m → Refuses P (cond b l m)
+refuses-cond {A} {P} b l m g k = cond-elim (Refuses P) b l m g k
 
 pub refuses-check : {P : ℕ → Type 0} (r : ℕ) (b : Bool) → P r → Refuses P (check r b)
 unfolding check
@@ -180,7 +180,7 @@ refuses-need r m p = refuses-need-nothing r m (λ _. p)
 pub in-range-inv : (highest sum a : ℕ) → in-range highest sum ≡ Just a → (sum ≡ a) × (a ≤ highest)
 in-range-inv highest sum a h = by (leb sum highest) refl h
   where
-    by : (b : Bool) → leb sum highest ≡ b → pick b (Just sum) Nothing ≡ Just a → (sum ≡ a) × (a ≤ highest)
+    by : (b : Bool) → leb sum highest ≡ b → cond b (Just sum) Nothing ≡ Just a → (sum ≡ a) × (a ≤ highest)
     by true e g = let l : sum ≤ highest = leb-true _ _ e in let z : sum ≡ a = cc in (z, omega arith)
     by false e g = let z : _≡_ {A = ℕ} 0 1 = cc in absurd (omega arith)
 
@@ -190,7 +190,7 @@ unfolding add-gap
 add-gap-le highest base (pos n) a h = in-range-inv highest (base + 4 * n) a h .1
 add-gap-le highest base (negsuc n) a h = by (leb (4 * suc n) base) h
   where
-    by : (b : Bool) → pick b (in-range highest (base - 4 * suc n)) Nothing ≡ Just a → a ≤ highest
+    by : (b : Bool) → cond b (in-range highest (base - 4 * suc n)) Nothing ≡ Just a → a ≤ highest
     by true g = in-range-inv highest (base - 4 * suc n) a g .1
     by false g = let z : _≡_ {A = ℕ} 0 1 = cc in absurd (omega arith)
 
@@ -211,7 +211,7 @@ pub to-count-inv : (z : ℤ) (n : ℕ) → to-count z ≡ Just n → (z ≡ pos 
 unfolding to-count
 to-count-inv (pos m) n h = by (ltb m (2 ^ 31)) refl h
   where
-    by : (b : Bool) → ltb m (2 ^ 31) ≡ b → pick b (Just m) Nothing ≡ Just n → (pos m ≡ pos n) × (n < 2 ^ 31)
+    by : (b : Bool) → ltb m (2 ^ 31) ≡ b → cond b (Just m) Nothing ≡ Just n → (pos m ≡ pos n) × (n < 2 ^ 31)
     by true e g = let l : m < 2 ^ 31 = ltb-true _ _ e in let z : m ≡ n = cc in (ap pos z, omega arith)
     by false e g = let z : _≡_ {A = ℕ} 0 1 = cc in absurd (omega arith)
 to-count-inv (negsuc m) n h = let z : _≡_ {A = ℕ} 0 1 = cc in absurd (omega arith)

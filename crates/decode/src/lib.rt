@@ -1,15 +1,16 @@
 // Reading the fields of a dump: big-endian numbers, signed gaps, addresses, counts and strings.
 // Each function's contract is an equation with a layout of specs/Fields.antt or a definition of specs/Numbers.antt.
 ghost use mathlib.Core.Path.{_≡_};
+ghost use mathlib.Core.Bool.{cond};
 ghost use Prim.Native.Nat.{_+_, _-_, _^_, _≤_, _<_};
 ghost use lib.ListN.{length, take, drop};
-ghost use Rattle.decode.specs.Numbers.{pick, value, signed as signedOf, sign-case, add-gap, to-count, all-within};
+ghost use Rattle.decode.specs.Numbers.{value, signed as signedOf, sign-case, add-gap, to-count, all-within};
 ghost use Rattle.decode.specs.Layout.{run, field as fieldOf, reply-of, missing-of};
 ghost use Rattle.decode.specs.Fields.{outcome, string-outcome, FitsWidth, exactly as exactlyOf, below as belowOf, address as addressOf, ref-field, count as countOf, string as stringOf};
 
 // The one number where a test holds, else the other.
 pub fn choice(test: bool, x: u64, y: u64) -> u64
-    ensures { λ r. ⌜ r ≡ pick test x y ⌝ }
+    ensures { λ r. ⌜ r ≡ cond test x y ⌝ }
 {
     if test {
         return x;

@@ -11,7 +11,7 @@ use lib.Pow.{pow-add}
 use lib.ListN.{length, take, drop, getD}
 use lib.Dec.{leb, ltb}
 use borrow.Author.Tests.{lt-ltb, le-ltb, le-leb, lt-leb}
-use Rattle.decode.specs.Numbers.{both, value-after, value}
+use Rattle.decode.specs.Numbers.{value-after, value}
 use Rattle.decode.specs.Slices.{slice-cons}
 use Rattle.decode.specs.ByteValues.{value-next, value-below}
 use Rattle.decode_fast.specs.RefsInRange.{gap-reach, refs-in-range, target}
@@ -97,12 +97,12 @@ pub gap-reach-shift : (m w : ℕ) → w ≤ m → 2 * 256 ^ m / 2 ^ (8 * m - 8 *
 unfolding gap-reach
 gap-reach-shift m w l = rw (shift-pow m w, pow-split m w l, ← mul-assoc 2 (256 ^ w) (256 ^ (m - w))) (mul-div-cancel (2 * 256 ^ w) (pow-pos (m - w)))
 
-false-both : (x y : Bool) → false ≡ both x (both y false)
+false-both : (x y : Bool) → false ≡ x && (y && false)
 false-both true true = refl
 false-both true false = refl
 false-both false y = refl
 
-and-both : (x y : Bool) → x && y ≡ both x y
+and-both : (x y : Bool) → x && y ≡ x && y
 and-both true y = refl
 and-both false y = refl
 

@@ -1,7 +1,7 @@
 -- When the references of a record need no judging: its address lies so far from 0 and from the highest that every value of w
 -- bytes leads to a good address. What is proved here is that the layout says the same. Assumes nothing.
 use mathlib.Core.Path.{_≡_, refl}
-use mathlib.Core.Bool.{Bool, true}
+use mathlib.Core.Bool.{Bool, true, cond, _&&_}
 use mathlib.Core.List.{List}
 use Prim.Native.Nat.{ℕ, zero, suc, _+_, _-_, _*_, _^_, _≤_, _<_}
 use native.Mathlib.Nat.{pow-le-pow-right}
@@ -10,10 +10,10 @@ use native.Mathlib.Omega.{arith}
 use lib.Dec.{leb, ltb}
 use lib.ListN.{length, take, drop}
 use borrow.Author.Tests.{lt-ltb, le-ltb, le-leb, ne-eqb, ltb-true, leb-true}
-use Rattle.decode.specs.Numbers.{pick, both, value-after, value, signed, add-gap}
+use Rattle.decode.specs.Numbers.{value-after, value, signed, add-gap}
 use Rattle.decode.specs.Layout.{whole, run, run-then, run-field, run-need, run-check, run-yield}
 use Rattle.decode.specs.Fields.{address, ref-field}
-use Rattle.decode.specs.Values.{both-left, both-right}
+use Rattle.decode.specs.Values.{and-left, and-right}
 use Rattle.decode.specs.declared.Maybe.the-variants.{Just}
 
 -- how far a value of w bytes reaches: four times half of the numbers that they hold
@@ -22,11 +22,11 @@ gap-reach w = 2 * 256 ^ w
 
 -- an address farther than that from both ends, for w at most 4
 unfoldable pub refs-in-range : ℕ → ℕ → ℕ → Bool
-refs-in-range w a top = both (leb w 4) (both (ltb (gap-reach w) a) (ltb (a + gap-reach w) top))
+refs-in-range w a top = leb w 4 && (ltb (gap-reach w) a && ltb (a + gap-reach w) top)
 
 -- the address a moved by what w bytes of the unsigned value v say
 unfoldable pub target : ℕ → ℕ → ℕ → ℕ
-target w a v = pick (ltb (v + v) (256 ^ w)) (a + 4 * v) (a - 4 * suc (256 ^ w - suc v))
+target w a v = cond (ltb (v + v) (256 ^ w)) (a + 4 * v) (a - 4 * suc (256 ^ w - suc v))
 
 -- ---- what a clear address is
 
@@ -36,7 +36,7 @@ refs-in-range-parts w a top c =
     let x : Bool = leb w 4 in
     let y : Bool = ltb (gap-reach w) a in
     let z : Bool = ltb (a + gap-reach w) top in
-    (both-left x (both y z) c, both-left y z (both-right x (both y z) c), both-right y z (both-right x (both y z) c))
+    (and-left x (y && z) c, and-left y z (and-right x (y && z) c), and-right y z (and-right x (y && z) c))
 
 pub refs-in-range-width : (w a top : ℕ) → refs-in-range w a top ≡ true → w ≤ 4
 refs-in-range-width w a top c = leb-true w 4 (refs-in-range-parts w a top c .0)

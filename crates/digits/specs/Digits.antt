@@ -4,11 +4,10 @@
 use Prim.Native.Nat.{ℕ, zero, suc, _-_, _/_}
 use Prim.Native.Char.{code}
 use Prim.Native.String.{String, [] as end, _∷_ as _then_}
-use mathlib.Core.Bool.{true, false}
+use mathlib.Core.Bool.{true, false, cond}
 use mathlib.Core.List.{List, [], _∷_, _++_, map}
 use lib.Dec.{ltb}
 use Rattle.io.specs.Digits.{digits}
-use Rattle.decode.specs.Numbers.{pick}
 
 -- the bytes of a text
 abbrev pub ascii : String → List ℕ
@@ -36,7 +35,7 @@ text-decimal before n = ascii before ++ decimal n
 
 -- a small letter as a capital; a digit as it is
 unfoldable pub uppercase : ℕ → ℕ
-uppercase c = pick (ltb c 0x61) c (c - 0x20)
+uppercase c = cond (ltb c 0x61) c (c - 0x20)
 
 -- the last k digits of a number in base b, in capitals
 unfoldable pub upper-digits : ℕ → ℕ → ℕ → List ℕ

@@ -1,6 +1,6 @@
 -- Laws of storing digits from the last to the first, of the least widths, and of the next of a table's numbers.
 use mathlib.Core.Path.{_≡_, refl, ap, _∙_}
-use mathlib.Core.Bool.{Bool, true, false}
+use mathlib.Core.Bool.{Bool, true, false, cond}
 use mathlib.Core.List.{List, [], _∷_, _++_}
 use Prim.Native.Nat.{ℕ, suc, _+_, _-_, _/_, _%_, _^_, _≤_, _<_}
 use native.Mathlib.Nat.{add-zero}
@@ -11,9 +11,8 @@ use lib.ListN.{length, take, drop, getD, set}
 use lib.Seq.{sets, set-comm}
 use lib.IntN.{pos, negsuc}
 use borrow.Author.Tests.{le-leb, lt-leb, le-ltb, lt-ltb}
-use Rattle.decode.specs.Numbers.{pick}
 use Rattle.decode.specs.Slices.{slice-next}
-use Rattle.decode.specs.Values.{pick-either}
+use Rattle.decode.specs.Values.{cond-elim}
 use Rattle.encode.specs.Encode.{be, gap, width-code, fits, refs-code, max, encode-ref-list, twos-complement}
 use Rattle.encode.specs.NumberRoundTrip.{length-be}
 use Rattle.encode.specs.Widths.{code-count}
@@ -48,17 +47,17 @@ be-step = digit-step be 256 (λ d. d) length-be (λ k n. refl)
 -- ---- the least width code
 
 -- a gap down is as wide as the number that it is as far below -1
-code-sign : (up : Bool) (d : ℕ) → width-code (pick up (pos d) (negsuc d)) ≡ width-code (pos d)
+code-sign : (up : Bool) (d : ℕ) → width-code (cond up (pos d) (negsuc d)) ≡ width-code (pos d)
 unfolding width-code fits
 code-sign true d = refl
 code-sign false d = refl
 
 -- the code of a gap is that of its distance
-pub code-gap : (from to d : ℕ) → gap from to ≡ pick (leb from to) (pos d) (negsuc d) → width-code (gap from to) ≡ width-code (pos d)
+pub code-gap : (from to d : ℕ) → gap from to ≡ cond (leb from to) (pos d) (negsuc d) → width-code (gap from to) ≡ width-code (pos d)
 code-gap from to d e = ap width-code e ∙ code-sign (leb from to) d
 
 -- n bytes hold a number if it does not reach half of 256 ^ n, and only then
-pub half-le-fits : (n half m : ℕ) → half + half ≡ 256 ^ n → pick {X = ℕ} (leb half m) 1 0 ≡ pick (fits n (pos m)) 0 1
+pub half-le-fits : (n half m : ℕ) → half + half ≡ 256 ^ n → cond {A = ℕ} (leb half m) 1 0 ≡ cond (fits n (pos m)) 0 1
 unfolding fits
 half-le-fits n half m e = elim (decLe half m) [
   | yes l ↦ rw (le-leb half m l, le-ltb (m + m) (256 ^ n) (omega arith))
@@ -66,11 +65,11 @@ half-le-fits n half m e = elim (decLe half m) [
 ]
 
 -- a width that does not hold a number holds no greater one
-fits-antitone : (n a b : ℕ) → a ≤ b → pick (fits n (pos a)) 0 1 ≤ pick (fits n (pos b)) 0 1
+fits-antitone : (n a b : ℕ) → a ≤ b → cond (fits n (pos a)) 0 1 ≤ cond (fits n (pos b)) 0 1
 unfolding fits
 fits-antitone n a b h = elim (decLt (b + b) (256 ^ n)) [
   | yes l ↦ rw (lt-ltb (b + b) (256 ^ n) l, lt-ltb (a + a) (256 ^ n) (omega arith)) (omega arith)
-  | no l ↦ rw (le-ltb (b + b) (256 ^ n) (omega arith)) (pick-either (λ x. x ≤ 1) (ltb (a + a) (256 ^ n)) 0 1 (omega arith) (omega arith))
+  | no l ↦ rw (le-ltb (b + b) (256 ^ n) (omega arith)) (cond-elim (λ x. x ≤ 1) (ltb (a + a) (256 ^ n)) 0 1 (omega arith) (omega arith))
 ]
 
 code-le : (a b : ℕ) → a ≤ b → width-code (pos a) ≤ width-code (pos b)
@@ -96,7 +95,7 @@ code-max a b = elim (decLe a b) [
 
 module _ (l : List ℕ) (at n i : ℕ) (h : i < n) (in-bounds : at + n ≤ length l) where
   -- its width, by its distance
-  pub refs-code-next : (m a d : ℕ) → gap a (getD l (at + i) 0) ≡ pick (leb a (getD l (at + i) 0)) (pos d) (negsuc d)
+  pub refs-code-next : (m a d : ℕ) → gap a (getD l (at + i) 0) ≡ cond (leb a (getD l (at + i) 0)) (pos d) (negsuc d)
       → refs-code (width-code (pos m)) a (take (n - i) (drop (at + i) l))
       ≡ refs-code (width-code (pos (max m d))) a (take (n - (i + 1)) (drop (at + (i + 1)) l))
   unfolding refs-code

@@ -1,11 +1,10 @@
 -- Numbers as they are put into a dump: big-endian bytes, gaps in two's complement, and the least widths that hold them.
 -- A reader must believe these few lines; that what they put is read as it was is proved in Back.
 use Prim.Native.Nat.{ℕ, zero, suc, _+_, _-_, _/_, _%_, _^_}
-use mathlib.Core.Bool.{Bool}
+use mathlib.Core.Bool.{Bool, cond}
 use mathlib.Core.List.{List, [], _∷_, _++_}
 use lib.Dec.{leb, ltb}
 use lib.IntN.{ℤ, pos, negsuc}
-use Rattle.decode.specs.Numbers.{pick}
 
 -- lists one after another
 abbrev pub join : List (List ℕ) → List ℕ
@@ -19,7 +18,7 @@ be (suc n) v = be n (v / 256) ++ (v % 256 ∷ [])
 
 -- How far it is from one address to another, in fours, rounded down. (`negsuc n` is -1 - n.)
 unfoldable pub gap : ℕ → ℕ → ℤ
-gap from to = pick (leb from to) (pos ((to - from) / 4)) (negsuc ((from - to - 1) / 4))
+gap from to = cond (leb from to) (pos ((to - from) / 4)) (negsuc ((from - to - 1) / 4))
 
 -- a signed number in two's complement, of 64 bits: its lowest n bytes are the number in any n bytes that hold it
 unfoldable pub twos-complement : ℤ → ℕ
@@ -33,11 +32,11 @@ fits n (negsuc m) = ltb (m + m) (256 ^ n)
 
 -- the least width code that holds it: 0 byte, 1 short, 2 int, 3 long
 unfoldable pub width-code : ℤ → ℕ
-width-code g = pick (fits 1 g) 0 (pick (fits 2 g) 1 (pick (fits 4 g) 2 3))
+width-code g = cond (fits 1 g) 0 (cond (fits 2 g) 1 (cond (fits 4 g) 2 3))
 
 -- the greater of two
 abbrev pub max : ℕ → ℕ → ℕ
-max a b = pick (leb a b) b a
+max a b = cond (leb a b) b a
 
 -- the greatest of the width code m and those of references, of a record at the address a
 unfoldable pub refs-code : ℕ → ℕ → List ℕ → ℕ

@@ -4,11 +4,11 @@ use mathlib.Core.Path.{_≡_, refl}
 use Prim.Native.Nat.{ℕ, suc, _+_, _-_, _*_, _/_, _^_, _≤_}
 use native.Mathlib.Nat.{one-le-pow}
 use native.Mathlib.Omega.{arith}
-use mathlib.Core.Bool.{Bool, true, false}
+use mathlib.Core.Bool.{Bool, true, false, cond}
 use lib.Dec.{leb, ltb}
 use lib.IntN.{ℤ, pos, negsuc}
 use borrow.Author.Tests.{le-leb, lt-leb, lt-ltb, leb-true, ltb-false}
-use Rattle.decode.specs.Numbers.{pick, signed, in-range, add-gap}
+use Rattle.decode.specs.Numbers.{signed, in-range, add-gap}
 use Rattle.decode.specs.Values.{in-range-inv, to-count-inv}
 use Rattle.decode.specs.Takes.{AddressIn, CountIn}
 use Rattle.decode.specs.declared.Maybe.the-variants.{Just, Nothing}
@@ -19,7 +19,7 @@ pub signed-fits : (n v : ℕ) → fits n (signed n v) ≡ true
 unfolding signed fits
 signed-fits n v = by (ltb (v + v) (256 ^ n)) refl
   where
-    by : (b : Bool) → ltb (v + v) (256 ^ n) ≡ b → fits n (pick b (pos v) (negsuc (256 ^ n - suc v))) ≡ true
+    by : (b : Bool) → ltb (v + v) (256 ^ n) ≡ b → fits n (cond b (pos v) (negsuc (256 ^ n - suc v))) ≡ true
     by true e = e
     by false e =
         let o : 1 ≤ 256 ^ n = one-le-pow n 256 (omega arith) in
@@ -36,8 +36,8 @@ gap-add-gap highest base (pos n) a h =
     rw (le-leb base a (omega arith), d)
 gap-add-gap highest base (negsuc n) a h = by (leb (4 * suc n) base) refl h
   where
-    by : (b : Bool) → leb (4 * suc n) base ≡ b → pick b (in-range highest (base - 4 * suc n)) Nothing ≡ Just a
-        → pick (leb base a) (pos ((a - base) / 4)) (negsuc ((base - a - 1) / 4)) ≡ negsuc n
+    by : (b : Bool) → leb (4 * suc n) base ≡ b → cond b (in-range highest (base - 4 * suc n)) Nothing ≡ Just a
+        → cond (leb base a) (pos ((a - base) / 4)) (negsuc ((base - a - 1) / 4)) ≡ negsuc n
     by true k g =
         let l : 4 * suc n ≤ base = leb-true _ _ k in
         let e : base - 4 * suc n ≡ a = in-range-inv highest _ a g .0 in

@@ -2,7 +2,7 @@
 -- Assumes nothing.
 use mathlib.Core.Path.{_≡_, refl}
 use Prim.Native.Nat.{ℕ, zero, suc, _+_, _-_, _/_, _^_, _≤_, _<_}
-use mathlib.Core.Bool.{true, false}
+use mathlib.Core.Bool.{true, false, cond}
 use mathlib.Core.List.{List, [], _∷_}
 use native.Mathlib.Nat.{add-zero, pow-le-pow-right}
 use native.Mathlib.Omega.{arith}
@@ -10,8 +10,7 @@ use native.Mathlib.Decide.{decLe}
 use lib.Dec.{leb, ltb, lit<}
 use lib.IntN.{ℤ, pos, negsuc}
 use borrow.Author.Tests.{le-leb, lt-leb, lt-ltb, ltb-true, leb-true, leb-false}
-use Rattle.decode.specs.Numbers.{pick}
-use Rattle.decode.specs.Values.{pick-either, by-cases}
+use Rattle.decode.specs.Values.{cond-elim, by-cases}
 use Rattle.encode.specs.Encode.{gap, fits, width-code, max, refs-code}
 
 -- ---- what a width holds
@@ -44,19 +43,19 @@ gap-fits n a b p q = elim (decLe a b) [
 -- of n codes from c on, the least whose width holds a number, or the next code where none does
 abbrev least-code : ℤ → ℕ → ℕ → ℕ
 least-code g c zero = c
-least-code g c (suc n) = pick (fits (2 ^ c) g) c (least-code g (suc c) n)
+least-code g c (suc n) = cond (fits (2 ^ c) g) c (least-code g (suc c) n)
 
 -- how many of these codes have widths that are too narrow for it
 abbrev too-narrow : ℤ → ℕ → ℕ → ℕ
 too-narrow g c zero = 0
-too-narrow g c (suc n) = pick (fits (2 ^ c) g) 0 1 + too-narrow g (suc c) n
+too-narrow g c (suc n) = cond (fits (2 ^ c) g) 0 1 + too-narrow g (suc c) n
 
 module _ (g : ℤ) where
   -- it is at most the next code
   least-code-le : (c n : ℕ) → least-code g c n ≤ c + n
   least-code-le c zero = omega arith
   least-code-le c (suc n) =
-      pick-either (λ k. k ≤ c + suc n) (fits (2 ^ c) g) c (least-code g (suc c) n) (omega arith) (omega (arith, least-code-le (suc c) n))
+      cond-elim (λ k. k ≤ c + suc n) (fits (2 ^ c) g) c (least-code g (suc c) n) (omega arith) (omega (arith, least-code-le (suc c) n))
 
   -- a code whose width holds the number is none whose width does not
   differ : (c k : ℕ) → fits (2 ^ c) g ≡ false → fits (2 ^ k) g ≡ true → c ≡ k → ⊥
@@ -66,7 +65,7 @@ module _ (g : ℤ) where
   least-code-least : (k c n : ℕ) → fits (2 ^ k) g ≡ true → c ≤ k → least-code g c n ≤ k
   least-code-least k c zero h l = l
   least-code-least k c (suc n) h l =
-      by-cases (λ t. pick t c (least-code g (suc c) n) ≤ k) (fits (2 ^ c) g) (λ _. l)
+      by-cases (λ t. cond t c (least-code g (suc c) n) ≤ k) (fits (2 ^ c) g) (λ _. l)
       (λ e. least-code-least k (suc c) n h (omega (arith, differ c k e h)))
 
   -- its own width holds the number, if that of the next code does where none of these does
@@ -74,7 +73,7 @@ module _ (g : ℤ) where
   least-code-fits c zero h = rw add-zero at h
   least-code-fits c (suc n) h =
       let e : c + suc n ≡ suc c + n = omega arith in
-      by-cases (λ t. fits (2 ^ pick t c (least-code g (suc c) n)) g ≡ true) (fits (2 ^ c) g) (λ d. d) (λ _. least-code-fits (suc c) n (rw e at h))
+      by-cases (λ t. fits (2 ^ cond t c (least-code g (suc c) n)) g ≡ true) (fits (2 ^ c) g) (λ d. d) (λ _. least-code-fits (suc c) n (rw e at h))
 
   -- from a code whose width holds the number on, none is too narrow
   too-narrow-zero : (c n : ℕ) → fits (2 ^ c) g ≡ true → too-narrow g c n ≡ 0
@@ -85,7 +84,7 @@ module _ (g : ℤ) where
   least-code-count : (c n : ℕ) → c + too-narrow g c n ≡ least-code g c n
   least-code-count c zero = omega arith
   least-code-count c (suc n) =
-      by-cases (λ t. c + (pick t 0 1 + too-narrow g (suc c) n) ≡ pick t c (least-code g (suc c) n)) (fits (2 ^ c) g)
+      by-cases (λ t. c + (cond t 0 1 + too-narrow g (suc c) n) ≡ cond t c (least-code g (suc c) n)) (fits (2 ^ c) g)
       (λ e. omega (arith, too-narrow-zero c (suc n) e)) (λ _. omega (arith, least-code-count (suc c) n))
 
   -- a number's code is the least of 0, 1 and 2 whose width holds it, or 3
@@ -105,7 +104,7 @@ module _ (g : ℤ) where
   code-fits h = rw code-least-code (least-code-fits 0 3 h)
 
   -- the code of a number is how many codes have widths that do not hold it
-  pub code-count : pick (fits 1 g) 0 1 + pick (fits 2 g) 0 1 + pick (fits 4 g) 0 1 ≡ width-code g
+  pub code-count : cond (fits 1 g) 0 1 + cond (fits 2 g) 0 1 + cond (fits 4 g) 0 1 ≡ width-code g
   code-count = omega (arith, code-least-code, least-code-count 0 3)
 
 -- and by that of any greater code
@@ -115,16 +114,16 @@ code-fits-wider g c l h = fits-wider (2 ^ width-code g) (2 ^ c) g (pow-le-pow-ri
 -- ---- the greater of two, and the greatest of all references
 
 pub le-max-left : (a b : ℕ) → a ≤ max a b
-le-max-left a b = by-cases (λ t. a ≤ pick t b a) (leb a b) (leb-true a b) (λ _. omega arith)
+le-max-left a b = by-cases (λ t. a ≤ cond t b a) (leb a b) (leb-true a b) (λ _. omega arith)
 
 pub le-max-right : (a b : ℕ) → b ≤ max a b
-le-max-right a b = by-cases (λ t. b ≤ pick t b a) (leb a b) (λ _. omega arith) (λ e. omega (arith, leb-false a b e))
+le-max-right a b = by-cases (λ t. b ≤ cond t b a) (leb a b) (λ _. omega arith) (λ e. omega (arith, leb-false a b e))
 
 pub max-le : (a b k : ℕ) → a ≤ k → b ≤ k → max a b ≤ k
-max-le a b k p q = pick-either (λ x. x ≤ k) (leb a b) b a q p
+max-le a b k p q = cond-elim (λ x. x ≤ k) (leb a b) b a q p
 
 pub max-lt : (a b k : ℕ) → a < k → b < k → max a b < k
-max-lt a b k p q = pick-either (λ x. x < k) (leb a b) b a q p
+max-lt a b k p q = cond-elim (λ x. x < k) (leb a b) b a q p
 
 pub refs-code-lt : (m a : ℕ) (rs : List ℕ) → m < 4 → refs-code m a rs < 4
 unfolding refs-code

@@ -4,10 +4,10 @@
 ghost use mathlib.Core.Path.{_≡_};
 ghost use Prim.Native.Nat.{_+_, _≤_};
 ghost use mathlib.Core.List.{[], _∷_};
+ghost use mathlib.Core.Bool.{cond};
 ghost use lib.ListN.{length, take, drop};
 ghost use lib.IntN.{pos, negsuc};
 ghost use lib.Dec.{leb};
-ghost use Rattle.decode.specs.Numbers.{pick};
 ghost use Rattle.encode.specs.Writes.{Writes, HasCapacity};
 ghost use Rattle.encode.specs.Encode.{be, gap, twos-complement, width-code, max, refs-code, encode-ref-list};
 use decode::choice;
@@ -118,7 +118,7 @@ pub fn encode_be(out: &mut [u8], at: usize, n: usize, value: u64) -> usize
 
 // How far it is from one address to another, in fours: n for a gap of n, and for one of -1 - n.
 fn distance(from: u64, to: u64) -> u64
-    ensures { λ r. ⌜ gap from to ≡ pick (leb from to) (pos r) (negsuc r) ⌝ }
+    ensures { λ r. ⌜ gap from to ≡ cond (leb from to) (pos r) (negsuc r) ⌝ }
 {
     if from <= to {
         return (to - from) / 4;
@@ -128,7 +128,7 @@ fn distance(from: u64, to: u64) -> u64
 
 // A distance up, or down, in two's complement.
 fn complement_of(up: bool, distance: u64) -> u64
-    ensures { λ r. ⌜ r ≡ twos-complement (pick up (pos distance) (negsuc distance)) ⌝ }
+    ensures { λ r. ⌜ r ≡ twos-complement (cond up (pos distance) (negsuc distance)) ⌝ }
 {
     if up {
         return distance;

@@ -2,11 +2,10 @@
 -- reading of any bytes gives. Every promise about reading cites these definitions, and a reader must believe them.
 -- A dump and the tables are lists of numbers, a byte being one below 256. A reply is 01's number.
 use Prim.Native.Nat.{ℕ, zero, suc, _+_, _-_, _/_, _%_, _^_}
-use mathlib.Core.Bool.{Bool, true, false, not}
+use mathlib.Core.Bool.{Bool, true, false, not, cond, _&&_, _||_}
 use mathlib.Core.List.{List, [], _∷_}
 use lib.ListN.{length, getD, set}
 use lib.Dec.{leb, ltb, eqb}
-use Rattle.decode.specs.Numbers.{pick, both, either}
 use Rattle.decode.specs.Layout.{Layout, yield, refuse, _>>=_, _>>_, position, raw, field, check, need}
 use Rattle.decode.specs.Fields.{exactly, below, address, ref-field, count, string, no-string}
 use Rattle.decode.specs.declared.StringSpan.{StringSpan}
@@ -42,7 +41,7 @@ unfoldable pub bytes-equal : List ℕ → List ℕ → Bool
 bytes-equal [] [] = true
 bytes-equal [] (y ∷ ys) = false
 bytes-equal (x ∷ xs) [] = false
-bytes-equal (x ∷ xs) (y ∷ ys) = both (eqb x y) (bytes-equal xs ys)
+bytes-equal (x ∷ xs) (y ∷ ys) = eqb x y && bytes-equal xs ys
 
 -- `portable heap dump`
 unfoldable pub magic : List ℕ
@@ -77,13 +76,13 @@ after-vm = do
 unfoldable pub header-records : Layout StringSpan
 header-records = do
   tag ← field 1
-  pick (eqb tag 2) (yield no-string) (pick (eqb tag 4) (do
+  cond (eqb tag 2) (yield no-string) (cond (eqb tag 4) (do
     vm ← string 0x20 0
     after-vm
     yield vm) (refuse 6))
 
 unfoldable pub make-header : ℕ → StringSpan → Header
-make-header flags vm = record { bits = pick (bit 1 flags) 64 32; hashed = bit 2 flags; openj9 = bit 4 flags; vm = vm }
+make-header flags vm = record { bits = cond (bit 1 flags) 64 32; hashed = bit 2 flags; openj9 = bit 4 flags; vm = vm }
 
 unfoldable pub header : Layout Header
 header = do
@@ -102,30 +101,30 @@ empty-header = record { bits = 0; hashed = false; openj9 = false; vm = no-string
 -- one. So it is of the cache that follows (`ClassCache.slot-push-all`), in every reading (phd_read, `ReadTheorems.slots-before-row`).
 unfoldable pub slot-after : List ℕ → ℕ → Maybe
 slot-after [] i = Nothing
-slot-after (w ∷ ws) i = pick (eqb (length ws % 4) i) (Just w) (slot-after ws i)
+slot-after (w ∷ ws) i = cond (eqb (length ws % 4) i) (Just w) (slot-after ws i)
 
 unfoldable pub empty-cache : Cache
 empty-cache = record { classes = 0 ∷ 0 ∷ 0 ∷ 0 ∷ []; pushes = 0 }
 
 -- `puts` counts what was put, up to 7 and then 4 to 7 over and over: the next slot is puts % 4.
 unfoldable pub push : Cache → ℕ → Cache
-push c w = record { classes = set (c .classes) (c .pushes % 4) w; pushes = pick (ltb (c .pushes) 7) (c .pushes + 1) 4 }
+push c w = record { classes = set (c .classes) (c .pushes % 4) w; pushes = cond (ltb (c .pushes) 7) (c .pushes + 1) 4 }
 
 -- the class word in a slot, if it was filled
 unfoldable pub slot : Cache → ℕ → Maybe
-slot c i = pick (ltb i (c .pushes)) (Just (getD (c .classes) i 0)) Nothing
+slot c i = cond (ltb i (c .pushes)) (Just (getD (c .classes) i 0)) Nothing
 
 -- ---- tags and flag bytes
 
 unfoldable pub tag-form : ℕ → TagForm
 tag-form t =
-    pick (leb 0x80 t) (Begins Short)
-    (pick (leb 0x40 t) (Begins Medium)
-    (pick (leb 0x20 t) (Begins Primitive)
-    (pick (eqb t 4) (Begins Long)
-    (pick (eqb t 6) (Begins Class)
-    (pick (eqb t 7) (Begins LongPrimitive)
-    (pick (eqb t 8) (Begins ObjectArray) Other))))))
+    cond (leb 0x80 t) (Begins Short)
+    (cond (leb 0x40 t) (Begins Medium)
+    (cond (leb 0x20 t) (Begins Primitive)
+    (cond (eqb t 4) (Begins Long)
+    (cond (eqb t 6) (Begins Class)
+    (cond (eqb t 7) (Begins LongPrimitive)
+    (cond (eqb t 8) (Begins ObjectArray) Other))))))
 
 -- a tag that begins no record is refused
 unfoldable pub need-form : TagForm → Layout Form
@@ -134,28 +133,28 @@ need-form Other = refuse 6
 
 -- the class of a short record, out of the slot that its tag names; other forms ask for none
 unfoldable pub slot-class : Cache → ℕ → Maybe
-slot-class c t = pick (leb 0x80 t) (slot c (t / 0x20 % 4)) (Just 0)
+slot-class c t = cond (leb 0x80 t) (slot c (t / 0x20 % 4)) (Just 0)
 
 -- The moved bit is 0x02, in a class record 0x08; the hashed bit is 0x01, and a class record has none.
 unfoldable pub moved-bit : ℕ → ℕ → Bool
-moved-bit t f = pick (eqb t 6) (bit 0x08 f) (bit 0x02 f)
+moved-bit t f = cond (eqb t 6) (bit 0x08 f) (bit 0x02 f)
 
 unfoldable pub hashed-bit : ℕ → ℕ → Bool
-hashed-bit t f = pick (eqb t 6) false (bit 0x01 f)
+hashed-bit t f = cond (eqb t 6) false (bit 0x01 f)
 
 -- the flag byte, where the form has one, else 0: in an all-hashed dump its bits for hashing are clear
 unfoldable pub flag-byte : Header → ℕ → Layout ℕ
 flag-byte h t = do
-  f ← field (pick (ltb t 0x20) 1 0)
-  check 11 (not (both (h .hashed) (either (moved-bit t f) (hashed-bit t f))))
+  f ← field (cond (ltb t 0x20) 1 0)
+  check 11 (not (h .hashed && (moved-bit t f || hashed-bit t f)))
   yield f
 
 -- hash kinds: 0 none, 1 hashed with no stored hash, 2 a stored 32-bit hash, 3 a 16-bit hash
 unfoldable pub hash-kind : Header → ℕ → ℕ → ℕ
-hash-kind h t f = pick (h .hashed) 3 (pick (moved-bit t f) 2 (pick (hashed-bit t f) 1 0))
+hash-kind h t f = cond (h .hashed) 3 (cond (moved-bit t f) 2 (cond (hashed-bit t f) 1 0))
 
 unfoldable pub hash-bytes : ℕ → ℕ
-hash-bytes k = pick (eqb k 2) 4 (pick (eqb k 3) 2 0)
+hash-bytes k = cond (eqb k 2) 4 (cond (eqb k 3) 2 0)
 
 -- ---- the seven record layouts: all have one order of fields, and what a form lacks has no bytes and reads as 0
 
@@ -193,7 +192,7 @@ shape w Class t f = make-shape 1 (width (f / 0x40 % 4)) 0 0 4 w 2 4 0 (width (f 
 shape w ObjectArray t f = make-shape 3 (width (f / 0x40 % 4)) w 0 0 0 0 4 0 (width (f / 0x10 % 4)) 4 4 false 0
 shape w Primitive t f = make-shape 4 (width (t % 4)) 0 (width (t % 4)) 0 0 0 0 0 0 4 0 false (t / 0x04 % 8)
 shape w LongPrimitive t f =
-    make-shape 4 (pick (bit 0x10 f) w 1) 0 (pick (bit 0x10 f) w 1) 0 0 0 0 0 0 4 0 false (f / 0x20 % 8)
+    make-shape 4 (cond (bit 0x10 f) w 1) 0 (cond (bit 0x10 f) w 1) 0 0 0 0 0 0 4 0 false (f / 0x20 % 8)
 
 -- ---- one record
 
@@ -215,11 +214,11 @@ middle sh hb = do
 
 -- a class's name, 1 to 65,535 bytes, each 0x21 to 0x7E
 unfoldable pub class-name : ℕ → Layout StringSpan
-class-name n = pick (eqb n 0) (yield no-string) (string 0x21 1)
+class-name n = cond (eqb n 0) (yield no-string) (string 0x21 1)
 
 -- how many references: in the tag, or counted in a field of its own
 unfoldable pub ref-count : ℕ → ℕ → Layout ℕ
-ref-count n tagcount = pick (eqb n 0) (yield tagcount) (count n)
+ref-count n tagcount = cond (eqb n 0) (yield tagcount) (count n)
 
 -- n references of w bytes each, of a record at the address a
 unfoldable pub ref-list : ℕ → ℕ → ℕ → ℕ → Layout (List ℕ)
@@ -242,7 +241,7 @@ spanned-refs w a top n = do
 
 -- a true length is at least the count of references
 unfoldable pub true-length : ℕ → ℕ → Layout ℕ
-true-length w n = pick (eqb w 0) (yield 0) (do
+true-length w n = cond (eqb w 0) (yield 0) (do
   t ← count w
   check 12 (leb n t)
   yield t)
@@ -255,7 +254,7 @@ tail size truelen n = do
 
 -- the value of a field of w bytes, where there is one, else the other
 unfoldable pub field-or : ℕ → ℕ → ℕ → ℕ
-field-or w v other = pick (eqb w 0) other v
+field-or w v other = cond (eqb w 0) other v
 
 -- The row: kind, address, class word, hash kind, hash, first reference's index, reference count, size, length, name
 -- place, name length, primitive type, offset of the record. `known` is the class of a short record.
@@ -283,7 +282,7 @@ from-ref-count top c origin known hk sh v m name = do
   n ← ref-count (sh .countwidth) (sh .count)
   ls ← spanned-refs (sh .refwidth) (v .address) top n
   t ← tail (sh .size) (sh .truelen) n
-  yield (item (row origin hk known sh v m name n t) (ls .list) (ls .span) (make-context (v .address) (pick (sh .cached) (push c (v .class)) c)))
+  yield (item (row origin hk known sh v m name n t) (ls .list) (ls .span) (make-context (v .address) (cond (sh .cached) (push c (v .class)) c)))
 
 -- the fields after the tag and the flag byte, in file order
 unfoldable pub fields : ℕ → ℕ → Cache → Origin → ℕ → ℕ → Shape → Layout Item
@@ -305,7 +304,7 @@ record-body h before c origin t = do
 unfoldable pub from-tag : Header → ℕ → Cache → Origin → Layout Item
 from-tag h before c origin = do
   t ← field 1
-  pick (eqb t 3) (yield end-item) (record-body h before c origin t)
+  cond (eqb t 3) (yield end-item) (record-body h before c origin t)
 
 -- what stands at the place reached, with `index` references before it
 unfoldable pub entry : Header → ℕ → Cache → ℕ → Layout Item

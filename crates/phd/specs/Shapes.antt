@@ -2,12 +2,11 @@
 -- A reader must believe `record-bytes`.
 use mathlib.Core.Path.{_≡_, refl, subst}
 use mathlib.Core.Logic.{_⊎_, inl, inr}
-use mathlib.Core.Bool.{Bool, true, false}
+use mathlib.Core.Bool.{Bool, true, false, cond}
 use Prim.Native.Nat.{ℕ, _+_, _*_, _/_, _%_, _≤_, _<_}
 use native.Mathlib.Nat.{pow-le-pow-right, one-le-pow, mul-le-mul-left, mul-one}
 use native.Mathlib.Omega.{arith}
 use lib.Dec.{leb, ltb, eqb}
-use Rattle.decode.specs.Numbers.{pick}
 use Rattle.decode.specs.Values.{bit-le-one}
 use Rattle.table.specs.declared.Row.{Row}
 use Rattle.phd.specs.Phd.{bit, tag-form, width, shape, hash-bytes}
@@ -43,8 +42,8 @@ tag-matches t fm e = by _ _ _ _ _ _ _ refl refl refl refl refl refl refl e
     is {a} p d = let z : a ≡ fm = cc in subst (λ (x : Form). TagMatches x t) z p
 
     by : (a b c d e f g : Bool) → leb 0x80 t ≡ a → leb 0x40 t ≡ b → leb 0x20 t ≡ c → eqb t 4 ≡ d → eqb t 6 ≡ e → eqb t 7 ≡ f → eqb t 8 ≡ g
-        → pick a (Begins Short) (pick b (Begins Medium) (pick c (Begins Primitive) (pick d (Begins Long) (pick e (Begins Class)
-        (pick f (Begins LongPrimitive) (pick g (Begins ObjectArray) Other)))))) ≡ Begins fm
+        → cond a (Begins Short) (cond b (Begins Medium) (cond c (Begins Primitive) (cond d (Begins Long) (cond e (Begins Class)
+        (cond f (Begins LongPrimitive) (cond g (Begins ObjectArray) Other)))))) ≡ Begins fm
         → TagMatches fm t
     by true b c d e f g p q r s u v w x = is {a = Short} p x
     by false true c d e f g p q r s u v w x = is {a = Medium} (p, q) x
@@ -77,9 +76,9 @@ pub width-le-8 : (c : ℕ) → c < 4 → width c ≤ 8
 unfolding width
 width-le-8 c h = width-mono c 3 (omega arith)
 
-pick-le : (b : Bool) (w : ℕ) → w ≤ 8 → pick b w 1 ≤ 8
-pick-le true w h = h
-pick-le false w h = omega arith
+cond-le-8 : (b : Bool) (w : ℕ) → w ≤ 8 → cond b w 1 ≤ 8
+cond-le-8 true w h = h
+cond-le-8 false w h = omega arith
 
 pub shape-widths-le-8 : (w : ℕ) (fm : Form) (t f : ℕ) → w ≤ 8 → WidthsLe8 (shape w fm t f)
 unfolding shape
@@ -104,7 +103,7 @@ shape-widths-le-8 w ObjectArray t f h =
     let l : width (f / 0x10 % 4) ≤ 8 = width-le-8 _ (omega arith) in
     omega arith
 shape-widths-le-8 w Primitive t f h = let g : width (t % 4) ≤ 8 = width-le-8 _ (omega arith) in omega arith
-shape-widths-le-8 w LongPrimitive t f h = let g : pick (bit 0x10 f) w 1 ≤ 8 = pick-le (bit 0x10 f) w h in omega arith
+shape-widths-le-8 w LongPrimitive t f h = let g : cond (bit 0x10 f) w 1 ≤ 8 = cond-le-8 (bit 0x10 f) w h in omega arith
 
 -- a reference has at most 8 bytes, whatever W is
 pub ref-width-le-8 : (w : ℕ) (fm : Form) (t f : ℕ) → shape w fm t f .refwidth ≤ 8
@@ -117,15 +116,15 @@ ref-width-le-8 w ObjectArray t f = width-le-8 _ (omega arith)
 ref-width-le-8 w Primitive t f = omega arith
 ref-width-le-8 w LongPrimitive t f = omega arith
 
-pick-hash : (a b : Bool) → pick a 4 (pick b 2 0) ≤ 4
-pick-hash true b = omega arith
-pick-hash false true = omega arith
-pick-hash false false = omega arith
+hash-cond-le-4 : (a b : Bool) → cond a 4 (cond b 2 0) ≤ 4
+hash-cond-le-4 true b = omega arith
+hash-cond-le-4 false true = omega arith
+hash-cond-le-4 false false = omega arith
 
 -- a hash has four bytes at most
 hash-bytes-le-4 : (k : ℕ) → hash-bytes k ≤ 4
 unfolding hash-bytes
-hash-bytes-le-4 k = pick-hash (eqb k 2) (eqb k 3)
+hash-bytes-le-4 k = hash-cond-le-4 (eqb k 2) (eqb k 3)
 
 pub hash-bytes-le-8 : (k : ℕ) → hash-bytes k ≤ 8
 hash-bytes-le-8 k = omega (arith, hash-bytes-le-4 k)
@@ -136,7 +135,7 @@ hash-bytes-le-8 k = omega (arith, hash-bytes-le-4 k)
 -- hash kind, the length of the name and the count of references bear on it.
 unfoldable pub record-bytes : ℕ → Shape → Row → ℕ
 record-bytes t sh r =
-    1 + pick (ltb t 0x20) 1 0
+    1 + cond (ltb t 0x20) 1 0
     + (sh .gap + sh .class + sh .len)
     + (sh .inst + hash-bytes (r .hashkind) + sh .superclass)
     + (sh .name + r .namelen)
@@ -169,7 +168,7 @@ pub record-bytes-le : (w : ℕ) (fm : Form) (t f : ℕ) (r : Row) → w ≤ 8 �
 unfolding shape record-bytes
 record-bytes-le w fm t f r h = by fm
   where
-    flag : pick (ltb t 0x20) 1 0 ≤ 1
+    flag : cond (ltb t 0x20) 1 0 ≤ 1
     flag = bit-le-one (ltb t 0x20)
 
     hash : hash-bytes (r .hashkind) ≤ 4
@@ -182,4 +181,4 @@ record-bytes-le w fm t f r h = by fm
     by Class = omega (arith, flag, hash, width-le-8 (f / 0x40 % 4) (omega arith), refs-bytes-bounds (f / 0x10 % 4) (r .count) (omega arith) .1)
     by ObjectArray = omega (arith, flag, hash, width-le-8 (f / 0x40 % 4) (omega arith), refs-bytes-bounds (f / 0x10 % 4) (r .count) (omega arith) .1)
     by Primitive = omega (arith, flag, hash, width-le-8 (t % 4) (omega arith))
-    by LongPrimitive = omega (arith, flag, hash, pick-le (bit 0x10 f) w h)
+    by LongPrimitive = omega (arith, flag, hash, cond-le-8 (bit 0x10 f) w h)

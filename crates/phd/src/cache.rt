@@ -1,7 +1,7 @@
 // The class cache: four slots, filled in turn.
 ghost use mathlib.Core.Path.{_≡_};
+ghost use mathlib.Core.Bool.{cond};
 ghost use Prim.Native.Nat.{_<_};
-ghost use Rattle.decode.specs.Numbers.{pick};
 ghost use Rattle.phd.specs.Phd.{empty-cache, push as pushOf, slot as slotOf};
 use decode::Maybe;
 
@@ -44,7 +44,7 @@ impl Cache {
 
     // The cache after a record, which puts its class word or does not.
     pub fn push_if(self, cached: bool, class: u64) -> Self
-        ensures { λ r. ⌜ r ≡ pick cached (pushOf self class) self ⌝ }
+        ensures { λ r. ⌜ r ≡ cond cached (pushOf self class) self ⌝ }
     {
         if cached {
             return self.push(class);

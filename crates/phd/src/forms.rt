@@ -1,11 +1,11 @@
 // Tags, flag bytes and the shapes of records.
 ghost use mathlib.Core.Path.{_≡_};
+ghost use mathlib.Core.Bool.{cond};
 ghost use Prim.Native.Nat.{_<_, _≤_};
 ghost use lib.ListN.{length};
 ghost use Rattle.decode.specs.Layout.{run};
 ghost use Rattle.decode.specs.Fields.{outcome};
 ghost use Rattle.phd.specs.Phd.{bit as bitOf, width, max-address, tag-form, slot-class, moved-bit, hashed-bit, flag-byte, hash-kind, hash-bytes, make-shape, shape, field-or};
-ghost use Rattle.decode.specs.Numbers.{pick};
 ghost use Rattle.phd.specs.Shapes.{ValidBits};
 use super::Cache;
 use super::Form;
@@ -204,7 +204,7 @@ fn make_shape(
 
 // The bytes of a long primitive array's gap and length: words, or bytes.
 fn long_width(bytes: usize, flags: u64) -> usize
-    ensures { λ r. ⌜ r ≡ pick (bitOf 0x10 flags) bytes 1 ⌝ }
+    ensures { λ r. ⌜ r ≡ cond (bitOf 0x10 flags) bytes 1 ⌝ }
 {
     if bit(0x10, flags) {
         return bytes;

@@ -1,19 +1,18 @@
 -- How a header and an answer stand as numbers at the C boundary.
 -- A reader must believe these lines.
 use mathlib.Core.Path.{_≡_, refl}
-use mathlib.Core.Bool.{Bool, true, false}
+use mathlib.Core.Bool.{Bool, true, false, cond}
 use mathlib.Core.List.{List, [], _∷_}
 use Prim.Native.Nat.{ℕ}
 use lib.Dec.{ltb}
 use lib.ListN.{getD, take, drop}
-use Rattle.decode.specs.Numbers.{pick}
 use Rattle.phd.specs.declared.Header.{Header}
 use Rattle.phd_read.specs.declared.ReadAnswer.{ReadAnswer}
 use Rattle.table.specs.declared.Answer.{Answer}
 
 -- a flag as a number
 abbrev pub flag : Bool → ℕ
-flag b = pick b 1 0
+flag b = cond b 1 0
 
 -- the header that six numbers say: W, all hashed, from OpenJ9, and whether a VM string is there, its place and its length; a
 -- flag is set where its number is not 0

@@ -1,7 +1,7 @@
 -- Laws of the tests of a row, as the functions compute them.
 -- Assumes nothing.
 use mathlib.Core.Path.{_≡_, refl, sym}
-use mathlib.Core.Bool.{Bool, true, false, not, _&&_, _||_}
+use mathlib.Core.Bool.{Bool, true, false, not, _&&_, _||_, cond}
 use mathlib.Core.List.{List, [], _∷_}
 use Prim.Native.Nat.{ℕ, zero, suc, _+_, _-_, _^_, _≤_, _<_}
 use native.Mathlib.Omega.{arith}
@@ -9,7 +9,7 @@ use lib.ListN.{length, getD, take, drop}
 use native.Mathlib.Numerals.{add-one}
 use lib.Dec.{leb, ltb, eqb}
 use borrow.Author.Tests.{ltb-true, ltb-false, leb-true, leb-false, eqb-true, eqb-false, lt-ltb, le-ltb, le-leb, lt-leb, ne-eqb}
-use Rattle.decode.specs.Numbers.{pick, both, either, all-within}
+use Rattle.decode.specs.Numbers.{all-within}
 use Rattle.decode.specs.declared.StringSpan.{StringSpan}
 use Rattle.table.specs.Table.{row-count}
 use Rattle.phd.specs.Phd.{max-address, hash-bytes}
@@ -47,15 +47,15 @@ all-true-false (false ∷ bs) zero e = refl
 all-true-false (true ∷ bs) (suc i) e = all-true-false bs i e
 all-true-false (false ∷ bs) (suc i) e = refl
 
-both-true : (b : Bool) → b ≡ both b true
+both-true : (b : Bool) → b ≡ b && true
 both-true true = refl
 both-true false = refl
 
-pub both-joined : (a b : Bool) → a && b ≡ both a b
+pub both-joined : (a b : Bool) → a && b ≡ a && b
 both-joined true b = refl
 both-joined false b = refl
 
-pub either-joined : (a b : Bool) → a || b ≡ either a b
+pub either-joined : (a b : Bool) → a || b ≡ a || b
 either-joined true b = refl
 either-joined false b = refl
 
@@ -77,23 +77,23 @@ zero-below v = by (eqb v 0) refl
     by false e = let z : v ≡ 0 → ⊥ = eqb-false _ _ e in sym (le-ltb v 1 (omega arith))
 
 -- the hash of each hash kind: 3 in all-hashed dumps, else 2, else 0 and 1
-pub hash-3 : (k v : ℕ) → eqb k 3 && ltb v 0x10000 ≡ both (eqb k 3) (ltb v (256 ^ hash-bytes k))
+pub hash-3 : (k v : ℕ) → eqb k 3 && ltb v 0x10000 ≡ eqb k 3 && ltb v (256 ^ hash-bytes k)
 unfolding hash-bytes
 hash-3 k v = by (eqb k 3) refl
   where
-    by : (t : Bool) → eqb k 3 ≡ t → t && ltb v 0x10000 ≡ both t (ltb v (256 ^ hash-bytes k))
+    by : (t : Bool) → eqb k 3 ≡ t → t && ltb v 0x10000 ≡ t && ltb v (256 ^ hash-bytes k)
     by true e = rw (eqb-true k 3 e)
     by false e = refl
 
-pub hash-2 : (k v : ℕ) → k ≡ 2 → ltb v 0x100000000 ≡ both (ltb k 3) (ltb v (256 ^ hash-bytes k))
+pub hash-2 : (k v : ℕ) → k ≡ 2 → ltb v 0x100000000 ≡ ltb k 3 && ltb v (256 ^ hash-bytes k)
 unfolding hash-bytes
 hash-2 k v e = rw e
 
-pub hash-none : (k v : ℕ) → (k ≡ 2 → ⊥) → ltb k 2 && eqb v 0 ≡ both (ltb k 3) (ltb v (256 ^ hash-bytes k))
+pub hash-none : (k v : ℕ) → (k ≡ 2 → ⊥) → ltb k 2 && eqb v 0 ≡ ltb k 3 && ltb v (256 ^ hash-bytes k)
 unfolding hash-bytes
 hash-none k v n = by (ltb k 2) refl
   where
-    by : (t : Bool) → ltb k 2 ≡ t → t && eqb v 0 ≡ both (ltb k 3) (ltb v (256 ^ hash-bytes k))
+    by : (t : Bool) → ltb k 2 ≡ t → t && eqb v 0 ≡ ltb k 3 && ltb v (256 ^ hash-bytes k)
     by true e =
         let l : k < 2 = ltb-true _ _ e in
         let m : k ≡ 3 → ⊥ = omega arith in
@@ -119,7 +119,7 @@ module _ (names : List ℕ) (t : StringSpan) (there : t .present ≡ true) where
 
 -- a reference of a row, taken off
 good-refs-step : (refs : List ℕ) (top j last : ℕ) → j < last → last ≤ length refs
-    → good-refs top (take (last - j) (drop j refs)) ≡ both (good-ref top (getD refs j 0)) (good-refs top (take (last - (j + 1)) (drop (j + 1) refs)))
+    → good-refs top (take (last - j) (drop j refs)) ≡ good-ref top (getD refs j 0) && good-refs top (take (last - (j + 1)) (drop (j + 1) refs))
 unfolding good-refs
 good-refs-step refs top j last h in-bounds = rw (slice-until refs j last h in-bounds)
 
@@ -132,10 +132,10 @@ pub good-refs-next : (refs : List ℕ) (top j last : ℕ) → j < last → last 
 good-refs-next refs top j last h in-bounds e = rw (good-refs-step refs top j last h in-bounds, e)
 
 -- a byte of a name, as the code tests it
-pub byte-test : (b : ℕ) → both (leb 0x21 b) (leb b 0x7E) ≡ not (ltb b 0x21 || ltb 0x7E b)
+pub byte-test : (b : ℕ) → leb 0x21 b && leb b 0x7E ≡ not (ltb b 0x21 || ltb 0x7E b)
 byte-test b = by (ltb b 0x21) (ltb 0x7E b) refl refl
   where
-    by : (s t : Bool) → ltb b 0x21 ≡ s → ltb 0x7E b ≡ t → both (leb 0x21 b) (leb b 0x7E) ≡ not (s || t)
+    by : (s t : Bool) → ltb b 0x21 ≡ s → ltb 0x7E b ≡ t → leb 0x21 b && leb b 0x7E ≡ not (s || t)
     by true t e f = let l : b < 0x21 = ltb-true _ _ e in rw (lt-leb 0x21 b (omega arith))
     by false true e f =
         let l : 0x21 ≤ b = ltb-false _ _ e in
@@ -148,7 +148,7 @@ byte-test b = by (ltb b 0x21) (ltb 0x7E b) refl refl
 
 name-bytes-step : (names : List ℕ) (k end : ℕ) → k < end → end ≤ length names
     → all-within 0x21 0x7E (take (end - k) (drop k names))
-    ≡ both (not (ltb (getD names k 0) 0x21 || ltb 0x7E (getD names k 0))) (all-within 0x21 0x7E (take (end - (k + 1)) (drop (k + 1) names)))
+    ≡ not (ltb (getD names k 0) 0x21 || ltb 0x7E (getD names k 0)) && all-within 0x21 0x7E (take (end - (k + 1)) (drop (k + 1) names))
 unfolding all-within
 name-bytes-step names k end h in-bounds = rw (slice-until names k end h in-bounds, ← byte-test (getD names k 0))
 
@@ -163,7 +163,7 @@ name-bytes-next names k end h in-bounds e = rw (name-bytes-step names k end h in
 -- the rows from number i on, of a table: the next one is bad, or good
 module _ (h : Header) (names refs rows : List ℕ) (i index : ℕ) (l : i < row-count rows) where
   first-bad-step : first-bad-from h names refs i index (rows-left rows i)
-      ≡ pick (good-row h names refs index (row-at rows i)) (first-bad-from h names refs (i + 1) (index + row-at rows i .count) (rows-left rows (i + 1))) (At i)
+      ≡ cond (good-row h names refs index (row-at rows i)) (first-bad-from h names refs (i + 1) (index + row-at rows i .count) (rows-left rows (i + 1))) (At i)
   unfolding first-bad-from
   first-bad-step = rw (rows-left-next rows i l, add-one)
 

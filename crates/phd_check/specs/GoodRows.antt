@@ -2,11 +2,11 @@
 -- A reader must believe these tests.
 use mathlib.Core.Path.{_≡_}
 use Prim.Native.Nat.{ℕ, suc, _+_, _%_, _^_}
-use mathlib.Core.Bool.{Bool, true, false, not}
+use mathlib.Core.Bool.{Bool, true, false, not, cond, _&&_, _||_}
 use mathlib.Core.List.{List, [], _∷_}
 use lib.ListN.{length, take, drop}
 use lib.Dec.{leb, ltb, eqb}
-use Rattle.decode.specs.Numbers.{pick, both, either, all-within}
+use Rattle.decode.specs.Numbers.{all-within}
 use Rattle.decode.specs.declared.StringSpan.{StringSpan}
 use Rattle.phd.specs.Phd.{max-address, hash-bytes}
 use Rattle.phd.specs.declared.Header.{Header}
@@ -18,7 +18,7 @@ use Rattle.table.specs.declared.Search.{Search}
 -- every test of a list holds
 unfoldable pub all-true : List Bool → Bool
 all-true [] = true
-all-true (b ∷ bs) = both b (all-true bs)
+all-true (b ∷ bs) = b && all-true bs
 
 -- ---- the header
 
@@ -28,15 +28,15 @@ vm-text names t = take (t .len) (drop (t .place) names)
 
 -- a VM string, at most 65,535 bytes, within the name bytes, each 0x20 to 0x7E; or none
 unfoldable pub good-vm : List ℕ → StringSpan → Bool
-good-vm names t = either (not (t .present)) (all-true (
+good-vm names t = not (t .present) || all-true (
     ltb (t .len) 65536
     ∷ leb (t .place + t .len) (length names)
-    ∷ all-within 0x20 0x7E (vm-text names t) ∷ []))
+    ∷ all-within 0x20 0x7E (vm-text names t) ∷ [])
 
 -- W is 32 or 64, the VM string is good, and not over 2^30 rows or reference numbers are lent
 unfoldable pub good-header : Header → (names : List ℕ) → List Row → (refs : List ℕ) → Bool
 good-header h names rows refs = all-true (
-    either (eqb (h .bits) 32) (eqb (h .bits) 64)
+    (eqb (h .bits) 32 || eqb (h .bits) 64)
     ∷ leb (length rows) (2 ^ 30)
     ∷ leb (length refs) (2 ^ 30)
     ∷ good-vm names (h .vm) ∷ [])
@@ -45,7 +45,7 @@ good-header h names rows refs = all-true (
 
 -- Hash kind 3 exactly in all-hashed dumps; the hash is 0 for kinds 0 and 1, below 2^32 for 2, below 2^16 for 3.
 unfoldable pub good-hash : Bool → Row → Bool
-good-hash hashed r = both (pick hashed (eqb (r .hashkind) 3) (ltb (r .hashkind) 3)) (ltb (r .hash) (256 ^ hash-bytes (r .hashkind)))
+good-hash hashed r = cond hashed (eqb (r .hashkind) 3) (ltb (r .hashkind) 3) && ltb (r .hash) (256 ^ hash-bytes (r .hashkind))
 
 -- What each kind asks of its numbers, with so many name bytes lent. A number that a kind does not use is 0.
 unfoldable pub good-class : ℕ → Row → Bool
@@ -55,7 +55,7 @@ good-class available r = all-true (
 
 -- a row that is no class has no name
 unfoldable pub no-name : Row → Bool
-no-name r = both (eqb (r .place) 0) (eqb (r .namelen) 0)
+no-name r = eqb (r .place) 0 && eqb (r .namelen) 0
 
 unfoldable pub good-object : Row → Bool
 good-object r = all-true (eqb (r .size) 0 ∷ eqb (r .len) 0 ∷ no-name r ∷ eqb (r .prim) 0 ∷ [])
@@ -70,10 +70,10 @@ good-primitive r = all-true (
 
 unfoldable pub good-kind : ℕ → Row → Bool
 good-kind available r =
-    pick (eqb (r .kind) 1) (good-class available r)
-    (pick (eqb (r .kind) 2) (good-object r)
-    (pick (eqb (r .kind) 3) (good-array r)
-    (pick (eqb (r .kind) 4) (good-primitive r) false)))
+    cond (eqb (r .kind) 1) (good-class available r)
+    (cond (eqb (r .kind) 2) (good-object r)
+    (cond (eqb (r .kind) 3) (good-array r)
+    (cond (eqb (r .kind) 4) (good-primitive r) false)))
 
 -- Addresses and class words lie in 0 to top, an address being a multiple of 4.
 unfoldable pub good-addresses : ℕ → Row → Bool
@@ -94,7 +94,7 @@ good-ref top a = all-true (eqb (a % 4) 0 ∷ leb 1 a ∷ leb a top ∷ [])
 
 unfoldable pub good-refs : ℕ → List ℕ → Bool
 good-refs top [] = true
-good-refs top (a ∷ rest) = both (good-ref top a) (good-refs top rest)
+good-refs top (a ∷ rest) = good-ref top a && good-refs top rest
 
 -- A good row: its numbers, its references, and the bytes of its name.
 unfoldable pub good-row : Header → List ℕ → List ℕ → ℕ → Row → Bool
@@ -107,7 +107,7 @@ good-row h names refs index r = all-true (
 unfoldable pub first-bad-from : Header → (names refs : List ℕ) → ℕ → ℕ → List Row → Search
 first-bad-from h names refs i index [] = NotFound
 first-bad-from h names refs i index (r ∷ rows) =
-    pick (good-row h names refs index r) (first-bad-from h names refs (suc i) (index + r .count) rows) (At i)
+    cond (good-row h names refs index r) (first-bad-from h names refs (suc i) (index + r .count) rows) (At i)
 
 -- the first bad row of all
 abbrev pub first-bad : Header → (names refs : List ℕ) → List Row → Search

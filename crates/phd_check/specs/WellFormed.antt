@@ -4,14 +4,14 @@ use mathlib.Core.Path.{_≡_, refl}
 use mathlib.Core.Logic.{inl, inr}
 use Prim.Native.Nat.{ℕ, zero, suc, _+_, _%_, _^_, _≤_, _<_}
 use native.Mathlib.Omega.{arith}
-use mathlib.Core.Bool.{Bool, true, false}
+use mathlib.Core.Bool.{Bool, true, false, cond, _||_}
 use mathlib.Core.List.{List, [], _∷_}
 use lib.Dec.{ltb, eqb}
 use lib.ListN.{length, getD}
 use borrow.Author.Tests.{leb-true, ltb-true, eqb-true, eqb-false, not-true}
-use Rattle.decode.specs.Numbers.{pick, all-within}
+use Rattle.decode.specs.Numbers.{all-within}
 use Rattle.decode.specs.Slices.{length-slice}
-use Rattle.decode.specs.Values.{both-left, both-right}
+use Rattle.decode.specs.Values.{and-left, and-right}
 use Rattle.decode.specs.declared.StringSpan.{StringSpan}
 use Rattle.phd.specs.Phd.{max-address, hash-bytes}
 use Rattle.phd.specs.Shapes.{ValidBits}
@@ -69,11 +69,11 @@ pub record SpansInBounds (names refs : List ℕ) (r : Row) : Type 0 where
 pub all-true-at : (bs : List Bool) → all-true bs ≡ true → (i : ℕ) → getD bs i true ≡ true
 unfolding all-true
 all-true-at [] e i = refl
-all-true-at (b ∷ bs) e zero = both-left b (all-true bs) e
-all-true-at (b ∷ bs) e (suc i) = all-true-at bs (both-right b (all-true bs) e) i
+all-true-at (b ∷ bs) e zero = and-left b (all-true bs) e
+all-true-at (b ∷ bs) e (suc i) = all-true-at bs (and-right b (all-true bs) e) i
 
 -- a test that goes by another test
-by-test {ℓ} : {P : Type ℓ} (b x y : Bool) → pick b x y ≡ true → (b ≡ true → x ≡ true → P) → (b ≡ false → y ≡ true → P) → P
+by-test {ℓ} : {P : Type ℓ} (b x y : Bool) → cond b x y ≡ true → (b ≡ true → x ≡ true → P) → (b ≡ false → y ≡ true → P) → P
 by-test true x y e f g = f refl e
 by-test false x y e f g = g refl e
 
@@ -82,7 +82,7 @@ by-test false x y e f g = g refl e
 no-name-numbers : (r : Row) → no-name r ≡ true → (r .place ≡ 0) × (r .namelen ≡ 0)
 unfolding no-name
 no-name-numbers r e =
-    (eqb-true _ _ (both-left (eqb (r .place) 0) (eqb (r .namelen) 0) e), eqb-true _ _ (both-right (eqb (r .place) 0) (eqb (r .namelen) 0) e))
+    (eqb-true _ _ (and-left (eqb (r .place) 0) (eqb (r .namelen) 0) e), eqb-true _ _ (and-right (eqb (r .place) 0) (eqb (r .namelen) 0) e))
 
 module _ (available : ℕ) (r : Row) where
   -- A row is of its kind, whatever good bytes its name has, and its name lies within the name bytes.
@@ -132,8 +132,8 @@ unfolding good-refs good-ref
 good-refs-each top [] e = tt
 good-refs-each top (a ∷ rest) e =
     let x : Bool = good-ref top a in
-    let t = all-true-at _ (both-left x (good-refs top rest) e) in
-    (record { aligned = eqb-true _ _ (t 0); some = leb-true _ _ (t 1); most = leb-true _ _ (t 2) }, good-refs-each top rest (both-right x (good-refs top rest) e))
+    let t = all-true-at _ (and-left x (good-refs top rest) e) in
+    (record { aligned = eqb-true _ _ (t 0); some = leb-true _ _ (t 1); most = leb-true _ _ (t 2) }, good-refs-each top rest (and-right x (good-refs top rest) e))
 
 -- a row of which the numbers are good
 module _ (h : Header) (names refs : List ℕ) (index : ℕ) (r : Row) (g : good-numbers h index (length refs) (length names) r ≡ true) where
@@ -166,9 +166,9 @@ module _ (h : Header) (names refs : List ℕ) (index : ℕ) (r : Row) (g : good-
       let n = all-true-at _ row-numbers-good in
       let p = all-true-at _ (n 0) in
       let l : SpansInBounds names refs r = spans-in-bounds in
-      let k : Bool = pick (h .hashed) (eqb (r .hashkind) 3) (ltb (r .hashkind) 3) in
+      let k : Bool = cond (h .hashed) (eqb (r .hashkind) 3) (ltb (r .hashkind) 3) in
       let b : Bool = ltb (r .hash) (256 ^ hash-bytes (r .hashkind)) in
-      let hk = both-left k b (n 2) in
+      let hk = and-left k b (n 2) in
       record {
         aligned = eqb-true _ _ (p 0);
         most = leb-true _ _ (p 1);
@@ -180,13 +180,13 @@ module _ (h : Header) (names refs : List ℕ) (index : ℕ) (r : Row) (g : good-
         namelen = length-slice names (r .place) (r .namelen) (l .name-in-bounds);
         all-hashed = λ e. eqb-true _ _ (rw e at hk);
         not-all-hashed = λ e. ltb-true _ _ (rw e at hk);
-        hash = ltb-true _ _ (both-right k b (n 2));
+        hash = ltb-true _ _ (and-right k b (n 2));
         kind-good = kind-at h names refs index r row-numbers-good .0 _ (all-true-at _ g 2);
       }
 
 -- ---- no bad row
 
-none-found : (b : Bool) (x : Search) (i : ℕ) → pick b x (At i) ≡ NotFound → (b ≡ true) × (x ≡ NotFound)
+none-found : (b : Bool) (x : Search) (i : ℕ) → cond b x (At i) ≡ NotFound → (b ≡ true) × (x ≡ NotFound)
 none-found true x i e = (refl, e)
 none-found false x i e = let z : _≡_ {A = ℕ} 0 1 = cc in absurd (omega arith)
 
@@ -212,7 +212,11 @@ module _ (h : Header) (names refs : List ℕ) (P : Row → Type 0) (f : (index :
 module _ (h : Header) (names : List ℕ) (rows : List Row) (refs : List ℕ) (g : good-header h names rows refs ≡ true) where
   pub header-bits-good : ValidBits (h .bits)
   unfolding good-header
-  header-bits-good = by-test (eqb (h .bits) 32) true (eqb (h .bits) 64) (all-true-at _ g 0) (λ e _. inl (eqb-true _ _ e)) (λ _ e. inr (eqb-true _ _ e))
+  header-bits-good = by (eqb (h .bits) 32) (eqb (h .bits) 64) (all-true-at _ g 0) (λ e. inl (eqb-true _ _ e)) (λ e. inr (eqb-true _ _ e))
+    where
+      by : (a b : Bool) → a || b ≡ true → (a ≡ true → ValidBits (h .bits)) → (b ≡ true → ValidBits (h .bits)) → ValidBits (h .bits)
+      by true b e p q = p refl
+      by false b e p q = q e
 
   pub row-count-bound : length rows ≤ 2 ^ 30
   unfolding good-header

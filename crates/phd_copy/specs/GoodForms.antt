@@ -5,14 +5,14 @@ use mathlib.Core.Path.{_≡_, refl, sym, _∙_}
 use mathlib.Core.Logic.{inl, inr}
 use Prim.Native.Nat.{ℕ, _+_, _/_, _%_, _^_, _≤_, _<_}
 use native.Mathlib.Omega.{arith}
-use mathlib.Core.Bool.{Bool, true, false}
+use mathlib.Core.Bool.{Bool, true, false, cond}
 use mathlib.Core.List.{List, [], _∷_, _++_}
 use lib.Dec.{leb, eqb}
 use lib.ListN.{length, take, drop, length-append}
 use lib.Seq.{take-all, drop-at}
 use borrow.Author.Tests.{le-leb, lt-ltb, eq-eqb, ne-eqb}
-use Rattle.decode.specs.Numbers.{pick, all-within}
-use Rattle.decode.specs.Values.{pick-either}
+use Rattle.decode.specs.Numbers.{all-within}
+use Rattle.decode.specs.Values.{cond-elim}
 use Rattle.decode.specs.declared.Maybe.the-variants.{Just}
 use Rattle.table.specs.Rows.{refs-of, name-of}
 use Rattle.table.specs.declared.Row.{Row}
@@ -104,14 +104,14 @@ hash-kind-all-hashed h t f e = rw e
 
 hash-kind-not-all-hashed : (h : Header) (t f : ℕ) → h .hashed ≡ false → hash-kind h t f < 3
 unfolding hash-kind
-hash-kind-not-all-hashed h t f e = rw e (pick-either (λ k. k < 3) (moved-bit t f) 2 _ (omega arith) (pick-either (λ k. k < 3) (hashed-bit t f) 1 0 (omega arith) (omega arith)))
+hash-kind-not-all-hashed h t f e = rw e (cond-elim (λ k. k < 3) (moved-bit t f) 2 _ (omega arith) (cond-elim (λ k. k < 3) (hashed-bit t f) 1 0 (omega arith) (omega arith)))
 
 -- a class is never hashed without a hash
 class-hash-kind : (h : Header) (t f : ℕ) → eqb t 6 ≡ true → hash-kind h t f ≡ 1 → ⊥
 unfolding hash-kind moved-bit hashed-bit
 class-hash-kind h t f e = rw e (by (h .hashed) (bit 0x08 f))
   where
-    by : (x y : Bool) → _≡_ {A = ℕ} (pick x 3 (pick y 2 0)) 1 → ⊥
+    by : (x y : Bool) → _≡_ {A = ℕ} (cond x 3 (cond y 2 0)) 1 → ⊥
     by true y z = omega arith
     by false true z = omega arith
     by false false z = omega arith

@@ -11,7 +11,7 @@ use lib.ListN.{length, getD, drop, length-append, length-drop}
 use lib.Seq.{take-append-le, drop-append-le}
 use Rattle.decode.specs.Numbers.{all-within}
 use Rattle.decode.specs.Layout.{whole, run}
-use Rattle.decode.specs.Values.{Gives, gives-yield, gives-then, gives-then-any, gives-weaken, gives-pick, gives-need}
+use Rattle.decode.specs.Values.{Gives, gives-yield, gives-then, gives-then-any, gives-weaken, gives-cond, gives-need}
 use Rattle.decode.specs.ByteValues.{AllBytes}
 use Rattle.decode.specs.declared.Maybe.the-variants.{Just}
 use Rattle.table.specs.Table.{row-width, whole-append}
@@ -123,7 +123,7 @@ module _ (h : Header) (w : ValidBits (h .bits)) (s : List ℕ) (b : AllBytes s) 
   entry-good at r rs sp k n e =
       let f = entry-advances h before c (length refs) s at (item r rs sp k) n e in
       let x : GoodRecord h s refs (row-at r 0) rs =
-      gives-then-any _ _ (λ t. gives-pick (eqb t 3) _ _ (gives-yield end-item tt) (gives-record (origin-at at (length refs)) t refl))
+      gives-then-any _ _ (λ t. gives-cond (eqb t 3) _ _ (gives-yield end-item tt) (gives-record (origin-at at (length refs)) t refl))
       .each at (item r rs sp k) n (omega arith) (rw entry-from-tag at e) in
       let a = entry-read-from h s before c (length refs) at r rs sp k n e .address in
       let m = entry-cache-step h s before c (length refs) at r rs sp k n w e .0 in

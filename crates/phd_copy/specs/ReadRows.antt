@@ -4,13 +4,12 @@ use mathlib.Core.Path.{_≡_, refl, sym, ap, _∙_}
 use Prim.Native.Nat.{ℕ, zero, suc, _/_, _%_, _^_, _≤_, _<_}
 use native.Mathlib.Decide.{decLt, ℕ-discrete}
 use native.Mathlib.Omega.{arith}
-use mathlib.Core.Bool.{Bool, true, false}
+use mathlib.Core.Bool.{Bool, true, false, cond}
 use mathlib.Core.List.{List, [], _∷_}
 use lib.Dec.{leb, ltb, eqb}
 use lib.ListN.{length, getD, set}
 use lib.Seq.{getD-set-same, getD-set-other, set-out}
 use borrow.Author.Tests.{eq-eqb}
-use Rattle.decode.specs.Numbers.{pick}
 use Rattle.decode.specs.Fields.{no-string}
 use Rattle.decode.specs.Values.{Gives, gives-yield, gives-then, gives-then-any, gives-weaken, gives-cases, gives-count, gives-address, gives-ref, true-not-false}
 use Rattle.decode.specs.ByteValues.{AllBytes, StringAt, gives-and, gives-field, gives-count-bounds, gives-address-aligned, gives-ref-aligned, gives-string}
@@ -56,7 +55,7 @@ set-le l j a top m k i = elim (ℕ-discrete i j) [
   | no e ↦ rw (getD-set-other l j i a 0 e) (m i)
 ]
 
-pub push-le : (c : Cache) (b : Bool) (w top : ℕ) → ((i : ℕ) → getD (c .classes) i 0 ≤ top) → w ≤ top → (i : ℕ) → getD (pick b (push c w) c .classes) i 0 ≤ top
+pub push-le : (c : Cache) (b : Bool) (w top : ℕ) → ((i : ℕ) → getD (c .classes) i 0 ≤ top) → w ≤ top → (i : ℕ) → getD (cond b (push c w) c .classes) i 0 ≤ top
 unfolding push
 push-le c true w top m k = set-le (c .classes) (c .pushes % 4) w top m k
 push-le c false w top m k = m
@@ -66,7 +65,7 @@ pub known-le : (c : Cache) (t known top : ℕ) → ((i : ℕ) → getD (c .class
 unfolding slot-class slot
 known-le c t known top m e = by (leb 0x80 t) (ltb (t / 0x20 % 4) (c .pushes)) e
   where
-    by : (x y : Bool) → pick x (pick y (Just (getD (c .classes) (t / 0x20 % 4) 0)) Nothing) (Just 0) ≡ Just known → known ≤ top
+    by : (x y : Bool) → cond x (cond y (Just (getD (c .classes) (t / 0x20 % 4) 0)) Nothing) (Just 0) ≡ Just known → known ≤ top
     by true true e = let z : getD (c .classes) (t / 0x20 % 4) 0 ≡ known = cc in omega (arith, m (t / 0x20 % 4))
     by true false e = let z : _≡_ {A = ℕ} 0 1 = cc in absurd (omega arith)
     by false y e = let z : 0 ≡ known = cc in omega arith

@@ -7,16 +7,16 @@ use mathlib.Core.Logic.{_↔_, _⊎_, inl, inr}
 use Prim.Native.Nat.{ℕ, _+_, _*_, _^_, _≤_, _<_}
 use native.Mathlib.Decide.{decLe}
 use native.Mathlib.Omega.{arith}
-use mathlib.Core.Bool.{Bool, true, false, not}
+use mathlib.Core.Bool.{Bool, true, false, not, _||_}
 use mathlib.Core.List.{List, [], _∷_}
 use lib.Dec.{leb, ltb, eqb}
 use lib.ListN.{length, take, drop}
 use lib.Seq.{take-append-seam}
 use borrow.Author.Tests.{le-leb, lt-ltb}
-use Rattle.decode.specs.Numbers.{either, all-within}
+use Rattle.decode.specs.Numbers.{all-within}
 use Rattle.decode.specs.Layout.{reply-of, missing-of}
 use Rattle.decode.specs.Fields.{no-string}
-use Rattle.decode.specs.Values.{Gives, gives-yield, gives-refuse, gives-then, gives-then-any, gives-pick, true-not-false}
+use Rattle.decode.specs.Values.{Gives, gives-yield, gives-refuse, gives-then, gives-then-any, gives-cond, true-not-false}
 use Rattle.decode.specs.ByteValues.{AllBytes, StringAt, gives-string}
 use Rattle.decode.specs.declared.StringSpan.{StringSpan}
 use Rattle.table.specs.Table.{row-width, row-count}
@@ -57,7 +57,7 @@ at-is-not-notfound e = let z : _≡_ {A = ℕ} 0 1 = cc in absurd (omega arith)
 gives-vm : {s : List ℕ} → AllBytes s → Gives s (VmInDump s) header-records
 unfolding header-records
 gives-vm b =
-    gives-then-any _ _ (λ tag. gives-pick (eqb tag 2) _ _ (gives-yield no-string (λ e. absurd (true-not-false (sym e)))) (gives-pick (eqb tag 4) _ _
+    gives-then-any _ _ (λ tag. gives-cond (eqb tag 2) _ _ (gives-yield no-string (λ e. absurd (true-not-false (sym e)))) (gives-cond (eqb tag 4) _ _
     (gives-then _ _ _ (gives-string b 0x20 0) (λ vm k. gives-then-any _ _ (λ _. gives-yield vm (λ _. k))))
     (gives-refuse 6)))
 
@@ -70,11 +70,11 @@ unfolding good-vm all-true
 vm-good s t k = by (t .present) k
   where
     by : (x : Bool) → (x ≡ true → StringAt s 0x20 0 t)
-        → either (not x) (all-true (ltb (t .len) 65536 ∷ leb (t .place + t .len) (length s) ∷ all-within 0x20 0x7E (take (t .len) (drop (t .place) s)) ∷ [])) ≡ true
+        → not x || all-true (ltb (t .len) 65536 ∷ leb (t .place + t .len) (length s) ∷ all-within 0x20 0x7E (take (t .len) (drop (t .place) s)) ∷ []) ≡ true
     by true k = let v = k refl in rw (lt-ltb _ _ (v .short), le-leb _ _ (v .inside), v .bytes)
     by false k = refl
 
-bits-good : (w : ℕ) → ValidBits w → either (eqb w 32) (eqb w 64) ≡ true
+bits-good : (w : ℕ) → ValidBits w → eqb w 32 || eqb w 64 ≡ true
 bits-good w (inl e) = rw e
 bits-good w (inr e) = rw e
 

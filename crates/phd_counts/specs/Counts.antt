@@ -2,8 +2,8 @@
 -- and a reader must believe the definitions.
 use Prim.Native.Nat.{ℕ, _+_, _-_}
 use mathlib.Core.List.{List}
+use mathlib.Core.Bool.{cond}
 use lib.ListN.{length}
-use Rattle.decode.specs.Numbers.{pick}
 use Rattle.table.specs.Rows.{is-kind}
 use Rattle.table.specs.Sums.{sum}
 use Rattle.table.specs.declared.Row.{Row}
@@ -13,7 +13,7 @@ use Rattle.phd_counts.specs.declared.Tally.{Tally}
 
 -- 1 for a row of a kind, else 0
 abbrev pub kind-count : ℕ → Row → ℕ
-kind-count k r = pick (is-kind k r) 1 0
+kind-count k r = cond (is-kind k r) 1 0
 
 -- the references that it lists
 abbrev pub row-ref-count : Row → ℕ
@@ -22,7 +22,7 @@ row-ref-count r = r .count
 -- An object array's nulls: its true length less its reference count. No other row has any. (A good array has no more references
 -- than its length, so that nothing is cut off: Exact.)
 unfoldable pub nulls-of : Row → ℕ
-nulls-of r = pick (is-kind 3 r) (r .len - r .count) 0
+nulls-of r = cond (is-kind 3 r) (r .len - r .count) 0
 
 -- ---- of rows
 

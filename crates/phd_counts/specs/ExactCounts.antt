@@ -4,11 +4,10 @@ use mathlib.Core.Path.{_≡_, refl}
 use Prim.Native.Nat.{ℕ, suc, _+_, _*_, _^_, _≤_, _<_}
 use native.Mathlib.Nat.{zero-add}
 use native.Mathlib.Omega.{arith}
-use mathlib.Core.Bool.{true}
+use mathlib.Core.Bool.{true, cond}
 use mathlib.Core.List.{List, [], _∷_}
 use lib.ListN.{length}
 use borrow.Author.Tests.{eq-eqb, ne-eqb}
-use Rattle.decode.specs.Numbers.{pick}
 use Rattle.table.specs.Rows.{All, is-kind, without-place, rec-of}
 use Rattle.table.specs.Sums.{sum}
 use Rattle.table.specs.declared.Row.{Row}
@@ -21,7 +20,7 @@ use Rattle.phd_counts.specs.CountLoop.{CountBounds}
 
 -- what a row has, nulls included: an object array its true length, any other row its references
 abbrev pub with-nulls : Row → ℕ
-with-nulls r = pick (is-kind 3 r) (r .len) (r .count)
+with-nulls r = cond (is-kind 3 r) (r .len) (r .count)
 
 -- What holds of rows, with the table of references.
 pub record ExactCounts (refs : List ℕ) (rows : List Row) : Type 0 where

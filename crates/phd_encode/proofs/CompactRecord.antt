@@ -1,12 +1,11 @@
 -- The bytes of a lean record: its tests, and the fields that are left.
 use mathlib.Core.Path.{_≡_, sym, ap, _∙_}
 use Prim.Native.Nat.{ℕ, _≤_}
-use mathlib.Core.Bool.{Bool, true}
+use mathlib.Core.Bool.{Bool, true, cond}
 use mathlib.Core.List.{List, [], _∷_, append-nil, append-assoc}
 use lib.ListN.{take, drop}
 use lib.Dec.{leb, ltb, eqb}
 use borrow.Author.Tests.{leb-true, eqb-true, le-ltb}
-use Rattle.decode.specs.Numbers.{pick}
 use Rattle.encode.specs.Encode.{join, be, gap, twos-complement, encode-ref-list}
 use Rattle.phd.specs.Phd.{hash-bytes}
 use Rattle.phd_plan.specs.declared.Plan.{Plan}
@@ -52,7 +51,7 @@ be-zero-width : (n v : ℕ) → n ≡ 0 → be n v ≡ []
 unfolding be
 be-zero-width n v e = ap (λ (k : ℕ). be k v) e
 
-no-flag-byte : (p : Plan) → 0x20 ≤ p .tag → be (pick (ltb (p .tag) 0x20) 1 0) (p .flags) ≡ []
+no-flag-byte : (p : Plan) → 0x20 ≤ p .tag → be (cond (ltb (p .tag) 0x20) 1 0) (p .flags) ≡ []
 unfolding be
 no-flag-byte p h = rw (le-ltb (p .tag) 0x20 h)
 

@@ -4,8 +4,8 @@
 use mathlib.Core.Path.{_≡_}
 use Prim.Native.Nat.{ℕ, _+_, _/_, _≤_}
 use mathlib.Core.List.{List, [], _∷_, _++_}
+use mathlib.Core.Bool.{cond}
 use lib.Dec.{ltb}
-use Rattle.decode.specs.Numbers.{pick}
 use Rattle.encode.specs.Encode.{join, be, gap, twos-complement, encode-ref-list}
 use Rattle.phd.specs.Phd.{hash-bytes, push}
 use Rattle.phd.specs.Shapes.{record-bytes}
@@ -20,7 +20,7 @@ use Rattle.phd_encode.specs.declared.sizes.EncodedSize.{EncodedSize}
 
 -- the tag, and the flag byte where the form has one
 unfoldable pub encode-tag : Plan → List ℕ
-encode-tag p = be 1 (p .tag) ++ be (pick (ltb (p .tag) 0x20) 1 0) (p .flags)
+encode-tag p = be 1 (p .tag) ++ be (cond (ltb (p .tag) 0x20) 1 0) (p .flags)
 
 -- gap, class word and array length of a row, after a record at the address `before`
 unfoldable pub encode-front : ℕ → Shape → Row → List ℕ
@@ -73,7 +73,7 @@ encode-record h before c r = encode-planned before (plan-record h before c r) (r
 
 -- the cache after it
 unfoldable pub cache-after : Header → ℕ → Cache → Rec → Cache
-cache-after h before c r = pick (plan-record h before c r .shape .cached) (push c (r .row .class)) c
+cache-after h before c r = cond (plan-record h before c r .shape .cached) (push c (r .row .class)) c
 
 -- how many bytes a plan has for a row
 abbrev pub plan-size : Plan → Row → ℕ

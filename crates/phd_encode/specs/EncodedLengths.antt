@@ -5,9 +5,9 @@ use Prim.Native.Nat.{ℕ, _+_, _*_, _≤_}
 use native.Mathlib.Nat.{mul-le-mul-left}
 use native.Mathlib.Omega.{arith}
 use mathlib.Core.List.{List}
+use mathlib.Core.Bool.{cond}
 use lib.ListN.{length, length-append}
 use lib.Dec.{ltb}
-use Rattle.decode.specs.Numbers.{pick}
 use Rattle.decode.specs.Values.{bit-le-one}
 use Rattle.encode.specs.NumberRoundTrip.{length-be}
 use Rattle.encode.specs.SetsLaws.{length-encode-ref-list as length-of-refs}
@@ -18,7 +18,7 @@ use Rattle.phd_plan.specs.declared.Plan.{Plan}
 use Rattle.table.specs.declared.Row.{Row}
 use Rattle.phd_encode.specs.EncodeRecord.{encode-tag, encode-front, encode-middle, encode-name, encode-refs, encode-tail, encode-fields, encode-planned, plan-size}
 
-length-tag : (p : Plan) → length (encode-tag p) ≡ 1 + pick (ltb (p .tag) 0x20) 1 0
+length-tag : (p : Plan) → length (encode-tag p) ≡ 1 + cond (ltb (p .tag) 0x20) 1 0
 unfolding encode-tag
 length-tag p = simp (length-append, length-be)
 

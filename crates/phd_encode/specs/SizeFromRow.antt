@@ -2,12 +2,11 @@
 -- Assumes nothing.
 use mathlib.Core.Path.{_≡_, refl, ap, _∙_}
 use Prim.Native.Nat.{ℕ, _+_, _*_, _≤_, _<_}
-use mathlib.Core.Bool.{Bool, true, false, _&&_, _||_}
+use mathlib.Core.Bool.{Bool, true, false, _&&_, _||_, cond}
 use native.Mathlib.Omega.{arith}
 use native.Mathlib.Decide.{decLe}
 use lib.Dec.{leb, ltb, eqb, lit<}
 use borrow.Author.Tests.{le-leb, lt-leb, le-ltb, lt-ltb, eq-eqb, ne-eqb}
-use Rattle.decode.specs.Numbers.{pick, both}
 use Rattle.phd.specs.Phd.{bit, width, hash-bytes, shape}
 use Rattle.phd.specs.Shapes.{record-bytes}
 use Rattle.phd.specs.declared.Form.{Form}
@@ -37,16 +36,16 @@ payload-size m r = width (m .gap) + hash-name-size r + r .count * width (m .refc
 -- an object, by its hash kind, slot, count, gap code, and those bytes
 unfoldable pub object-size : ℕ → ℕ → ℕ → ℕ → ℕ → ℕ → EncodedSize
 object-size w k slot count gap more =
-    pick (needs-flag-byte k || leb 2 gap || ltb 7 count) (make-size (6 + w + more) true)
-    (pick (leb count 3 && ltb slot 4) (make-size (1 + more) false) (make-size (1 + w + more) true))
+    cond (needs-flag-byte k || leb 2 gap || ltb 7 count) (make-size (6 + w + more) true)
+    (cond (leb count 3 && ltb slot 4) (make-size (1 + more) false) (make-size (1 + w + more) true))
 
 -- a primitive array, by its hash kind, the code of its gap and length, and the bytes of the hash and the name
 unfoldable pub primitive-size : ℕ → ℕ → ℕ → ℕ → EncodedSize
 primitive-size w k paircode more =
-    pick (needs-flag-byte k) (pick (eqb paircode 0) (make-size (8 + more) false) (make-size (6 + 2 * w + more) false)) (make-size (5 + 2 * width paircode + more) false)
+    cond (needs-flag-byte k) (cond (eqb paircode 0) (make-size (8 + more) false) (make-size (6 + 2 * w + more) false)) (make-size (5 + 2 * width paircode + more) false)
 
 -- a wide gap leaves the long form
-wide-gap-is-long : (l s n : Bool) → pick (both l (both s false)) Short (pick (both n false) Medium Long) ≡ Long
+wide-gap-is-long : (l s n : Bool) → cond (l && (s && false)) Short (cond (n && false) Medium Long) ≡ Long
 wide-gap-is-long true true true = refl
 wide-gap-is-long true true false = refl
 wide-gap-is-long true false true = refl
@@ -148,7 +147,7 @@ module _ (w : ℕ) (m : PlanInput) (r : Row) (b : Bounded m) where
       rw (le-ltb t 0x20 (omega arith), k .3) (ap (λ (x : ℕ). make-size x false) (omega arith))
 
   -- v says whether the gap and the length are words or bytes, of u bytes then
-  long-primitive-form-size : (v u : ℕ) → v < 2 → pick (eqb v 1) w 1 ≡ u → pick (eqb (m .paircode) 0) 0 1 ≡ v
+  long-primitive-form-size : (v u : ℕ) → v < 2 → cond (eqb v 1) w 1 ≡ u → cond (eqb (m .paircode) 0) 0 1 ≡ v
       → record-size (plan-in-form LongPrimitive) r ≡ make-size (6 + 2 * u + hash-name-size r) false
   unfolding record-size record-bytes tag-of flags-of shape bit
   long-primitive-form-size v u l e f =
@@ -156,7 +155,7 @@ module _ (w : ℕ) (m : PlanInput) (r : Row) (b : Bounded m) where
       rw (f, k .2, e) (ap (λ (x : ℕ). make-size x false) (omega arith))
 
   chosen-primitive-size : (a : Bool) → needs-flag-byte (m .hashkind) ≡ a
-      → record-size (plan-in-form (pick (needs-flag-byte (m .hashkind)) LongPrimitive Primitive)) r ≡ primitive-size w (m .hashkind) (m .paircode) (hash-name-size r)
+      → record-size (plan-in-form (cond (needs-flag-byte (m .hashkind)) LongPrimitive Primitive)) r ≡ primitive-size w (m .hashkind) (m .paircode) (hash-name-size r)
   unfolding primitive-size
   chosen-primitive-size true f = elim (decLe (m .paircode) 0) [
     | yes p ↦ let q = eq-eqb (m .paircode) 0 (omega arith) in rw (f, q) (long-primitive-form-size 0 1 (lit< tt) refl (rw q))
@@ -168,5 +167,5 @@ module _ (w : ℕ) (m : PlanInput) (r : Row) (b : Bounded m) where
       → record-size (make-plan w m) r ≡ primitive-size w (m .hashkind) (m .paircode) (hash-name-size r)
   unfolding form-of
   primitive-plan-size x y z =
-      chosen-form-size (pick (needs-flag-byte (m .hashkind)) LongPrimitive Primitive) (rw (ne-eqb (m .kind) 1 x, ne-eqb (m .kind) 2 y, ne-eqb (m .kind) 3 z))
+      chosen-form-size (cond (needs-flag-byte (m .hashkind)) LongPrimitive Primitive) (rw (ne-eqb (m .kind) 1 x, ne-eqb (m .kind) 2 y, ne-eqb (m .kind) 3 z))
       ∙ chosen-primitive-size (needs-flag-byte (m .hashkind)) refl

@@ -2,13 +2,12 @@
 -- Assumes nothing.
 use mathlib.Core.Path.{_≡_, refl, sym}
 use Prim.Native.Nat.{ℕ, zero, suc, _+_, _*_, _/_, _%_, _≤_, _<_}
-use mathlib.Core.Bool.{Bool, true, false}
+use mathlib.Core.Bool.{Bool, true, false, cond, _&&_, _||_}
 use lib.ListN.{getD}
 use lib.Dec.{ltb, eqb, lit<}
 use native.Mathlib.Omega.{arith}
 use borrow.Author.Tests.{eqb-true, eq-eqb, ne-eqb}
-use Rattle.decode.specs.Numbers.{pick, both, either}
-use Rattle.decode.specs.Values.{pick-either, both-left, both-right, true-not-false}
+use Rattle.decode.specs.Values.{cond-elim, and-left, and-right, true-not-false}
 use Rattle.decode.specs.declared.Maybe.the-variants.{Just, Nothing}
 use Rattle.phd.specs.Phd.{bit, slot, moved-bit, hashed-bit}
 use Rattle.phd.specs.declared.cache.Cache.{Cache}
@@ -18,8 +17,8 @@ use Rattle.phd_plan.specs.FormChoice.{slot-holds, find-slot, hash-flags, class-
 
 -- a record's bits say its hash kind k again, in a dump that is all hashed or not
 pub record HashBits (all : Bool) (k : ℕ) (moved hashed : Bool) : Type 0 where
-  pub bits-clear : both all (either moved hashed) ≡ false
-  pub kind : pick all 3 (pick moved 2 (pick hashed 1 0)) ≡ k
+  pub bits-clear : all && (moved || hashed) ≡ false
+  pub kind : cond all 3 (cond moved 2 (cond hashed 1 0)) ≡ k
 
 -- hash kind 3 exactly in all-hashed dumps
 pub record HashKindValid (all : Bool) (k : ℕ) : Type 0 where
@@ -35,14 +34,14 @@ unfolding bit
 bit-clear m x e = rw e
 
 -- a record with no flag byte
-no-hash-bits : (all : Bool) (k : ℕ) → HashKindValid all k → either (eqb k 1) (eqb k 2) ≡ false → HashBits all k false false
+no-hash-bits : (all : Bool) (k : ℕ) → HashKindValid all k → eqb k 1 || eqb k 2 ≡ false → HashBits all k false false
 no-hash-bits true k a n = record { bits-clear = refl; kind = sym (a .all-hashed refl) }
 no-hash-bits false zero a n = record { bits-clear = refl; kind = refl }
 no-hash-bits false (suc zero) a n = absurd (true-not-false n)
 no-hash-bits false (suc (suc zero)) a n = absurd (true-not-false n)
 no-hash-bits false (suc (suc (suc k))) a n = absurd (omega (arith, a .not-all-hashed refl))
 
-pub no-flag-byte-bits : (all : Bool) (k t : ℕ) → HashKindValid all k → either (eqb k 1) (eqb k 2) ≡ false → 0x20 ≤ t
+pub no-flag-byte-bits : (all : Bool) (k t : ℕ) → HashKindValid all k → eqb k 1 || eqb k 2 ≡ false → 0x20 ≤ t
     → HashBits all k (moved-bit t 0) (hashed-bit t 0)
 unfolding moved-bit hashed-bit bit
 no-flag-byte-bits all k t a n l = rw (ne-eqb t 6 (omega arith)) (no-hash-bits all k a n)
@@ -79,7 +78,7 @@ pub hash-flags-lt : (k : ℕ) → hash-flags k < 16
 unfolding hash-flags
 hash-flags-lt k = by (eqb k 2) (eqb k 1)
   where
-    by : (a b : Bool) → pick a 3 (pick b 1 0) < 16
+    by : (a b : Bool) → cond a 3 (cond b 1 0) < 16
     by true b = lit< tt
     by false true = lit< tt
     by false false = lit< tt
@@ -88,7 +87,7 @@ pub class-flags-lt : (k : ℕ) → class-flags k < 16
 unfolding class-flags
 class-flags-lt k = by (eqb k 2)
   where
-    by : (a : Bool) → pick a 8 0 < 16
+    by : (a : Bool) → cond a 8 0 < 16
     by true = lit< tt
     by false = lit< tt
 
@@ -121,15 +120,15 @@ long-primitive-flags y w b p q u = omega arith
 abbrev SlotFound : Cache → ℕ → ℕ → Type 0
 SlotFound c w i = (i ≤ 4) × (i < 4 → slot c i ≡ Just w)
 
-slot-found-step : (c : Cache) (w i n : ℕ) → i ≤ 4 → SlotFound c w n → SlotFound c w (pick (slot-holds c w i) i n)
+slot-found-step : (c : Cache) (w i n : ℕ) → i ≤ 4 → SlotFound c w n → SlotFound c w (cond (slot-holds c w i) i n)
 unfolding slot slot-holds
 slot-found-step c w i n l g = by (slot-holds c w i) refl
   where
-    by : (b : Bool) → slot-holds c w i ≡ b → SlotFound c w (pick b i n)
+    by : (b : Bool) → slot-holds c w i ≡ b → SlotFound c w (cond b i n)
     by true e =
         let x : Bool = ltb i (c .pushes) in
         let y : Bool = eqb (getD (c .classes) i 0) w in
-        (l, λ m. rw (both-left x y e, eqb-true (getD (c .classes) i 0) w (both-right x y e)))
+        (l, λ m. rw (and-left x y e, eqb-true (getD (c .classes) i 0) w (and-right x y e)))
     by false e = g
 
 slot-found-any : (c : Cache) (w : ℕ) → SlotFound c w (find-slot c w)
@@ -149,7 +148,7 @@ slot-holds-of : (c : Cache) (w i : ℕ) → slot c i ≡ Just w → slot-holds c
 unfolding slot slot-holds
 slot-holds-of c w i h = by (ltb i (c .pushes)) h
   where
-    by : (b : Bool) → pick b (Just (getD (c .classes) i 0)) Nothing ≡ Just w → both b (eqb (getD (c .classes) i 0) w) ≡ true
+    by : (b : Bool) → cond b (Just (getD (c .classes) i 0)) Nothing ≡ Just w → b && eqb (getD (c .classes) i 0) w ≡ true
     by true g = let z : getD (c .classes) i 0 ≡ w = cc in eq-eqb _ _ z
     by false g = let z : _≡_ {A = ℕ} 0 1 = cc in absurd (omega arith)
 
@@ -166,13 +165,13 @@ find-slot-complete c w i l h = by i l (slot-holds-of c w i h)
     x₂ : Bool
     x₂ = slot-holds c w 2
 
-    less : (b : Bool) (x y : ℕ) → x < 4 → y < 4 → pick b x y < 4
-    less b x y p q = pick-either (λ v. v < 4) b x y p q
+    less : (b : Bool) (x y : ℕ) → x < 4 → y < 4 → cond b x y < 4
+    less b x y p q = cond-elim (λ v. v < 4) b x y p q
 
-    by : (i : ℕ) → i < 4 → slot-holds c w i ≡ true → pick x₀ 0 (pick x₁ 1 (pick x₂ 2 (pick (slot-holds c w 3) 3 4))) < 4
+    by : (i : ℕ) → i < 4 → slot-holds c w i ≡ true → cond x₀ 0 (cond x₁ 1 (cond x₂ 2 (cond (slot-holds c w 3) 3 4))) < 4
     by zero l e = rw e (lit< tt)
     by (suc zero) l e = rw e (less x₀ 0 1 (lit< tt) (lit< tt))
-    by (suc (suc zero)) l e = rw e (less x₀ 0 (pick x₁ 1 2) (lit< tt) (less x₁ 1 2 (lit< tt) (lit< tt)))
+    by (suc (suc zero)) l e = rw e (less x₀ 0 (cond x₁ 1 2) (lit< tt) (less x₁ 1 2 (lit< tt) (lit< tt)))
     by (suc (suc (suc zero))) l e =
-        rw e (less x₀ 0 (pick x₁ 1 (pick x₂ 2 3)) (lit< tt) (less x₁ 1 (pick x₂ 2 3) (lit< tt) (less x₂ 2 3 (lit< tt) (lit< tt))))
+        rw e (less x₀ 0 (cond x₁ 1 (cond x₂ 2 3)) (lit< tt) (less x₁ 1 (cond x₂ 2 3) (lit< tt) (less x₂ 2 3 (lit< tt) (lit< tt))))
     by (suc (suc (suc (suc i)))) l e = absurd (omega arith)

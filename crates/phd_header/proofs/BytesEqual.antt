@@ -1,6 +1,6 @@
 -- Comparing bytes one by one. Assumes nothing.
 use mathlib.Core.Path.{_≡_}
-use mathlib.Core.Bool.{false}
+use mathlib.Core.Bool.{false, _&&_}
 use mathlib.Core.List.{List}
 use Prim.Native.Nat.{ℕ, suc, _+_, _-_, _≤_, _<_}
 use native.Mathlib.Omega.{arith}
@@ -8,14 +8,13 @@ use lib.ListN.{length, take, drop, getD}
 use lib.Seq.{drop-cons}
 use lib.Dec.{eqb}
 use borrow.Author.Tests.{eq-eqb, ne-eqb}
-use Rattle.decode.specs.Numbers.{both}
 use Rattle.decode.specs.Slices.{slice-next}
 use Rattle.phd.specs.Phd.{bytes-equal}
 
 -- the n bytes of s at a place, against those of t, from the byte i on
 module _ (s t : List ℕ) (at n i : ℕ) (h : i < n) (in-bounds : at + n ≤ length s) (long : n ≤ length t) where
   bytes-equal-step : bytes-equal (take (n - i) (drop (at + i) s)) (drop i t)
-      ≡ both (eqb (getD s (at + i) 0) (getD t i 0)) (bytes-equal (take (n - (i + 1)) (drop (at + (i + 1)) s)) (drop (i + 1) t))
+      ≡ eqb (getD s (at + i) 0) (getD t i 0) && bytes-equal (take (n - (i + 1)) (drop (at + (i + 1)) s)) (drop (i + 1) t)
   unfolding bytes-equal
   bytes-equal-step =
       let k : suc i ≡ i + 1 = omega arith in

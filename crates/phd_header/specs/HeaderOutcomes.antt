@@ -1,12 +1,11 @@
 -- What the answers of this crate's functions say, as outcomes of a layout, and a law of every header that is read whole.
 -- A reader must believe `header-outcome`, which the contract of `read_header` cites. Assumes nothing.
 use mathlib.Core.Path.{_≡_, refl, subst}
-use mathlib.Core.Bool.{Bool, true, false}
+use mathlib.Core.Bool.{Bool, true, false, cond}
 use mathlib.Core.Logic.{inl, inr}
 use mathlib.Core.List.{List}
 use Prim.Native.Nat.{ℕ}
 use Rattle.decode.specs.Layout.{Outcome, whole, stops, run, then-inv, run-yield}
-use Rattle.decode.specs.Numbers.{pick}
 use Rattle.decode.specs.declared.StringSpan.{StringSpan}
 use Rattle.phd.specs.Phd.{bit, header, make-header}
 use Rattle.phd.specs.Shapes.{ValidBits}
@@ -28,7 +27,7 @@ unit-outcome (StopsUnit w) = stops w
 
 -- ---- W is 32 or 64
 
-bits-32-or-64 : (b : Bool) → ValidBits (pick b 64 32)
+bits-32-or-64 : (b : Bool) → ValidBits (cond b 64 32)
 bits-32-or-64 true = inr refl
 bits-32-or-64 false = inl refl
 

@@ -1,9 +1,9 @@
 // Reading the header of a portable heap dump.
 // Each function's contract is an equation with a definition of the format (crates/phd/specs/Phd.antt).
 ghost use mathlib.Core.Path.{_≡_};
+ghost use mathlib.Core.Bool.{cond};
 ghost use Prim.Native.Nat.{_+_, _≤_};
 ghost use lib.ListN.{length, take, drop};
-ghost use Rattle.decode.specs.Numbers.{pick};
 ghost use Rattle.decode.specs.Layout.{run};
 ghost use Rattle.decode.specs.Fields.{outcome, string-outcome};
 ghost use Rattle.phd.specs.Phd.{bit as bitOf, bytes-equal, magic, magic-bytes, preamble as preambleOf, after-vm, header-records, make-header, header};
@@ -149,7 +149,7 @@ fn header_records(s: &[u8], at: usize) -> StringRead
 
 // W, by the flags.
 fn bits_of(flags: u64) -> u64
-    ensures { λ r. ⌜ r ≡ pick (bitOf 1 flags) 64 32 ⌝ }
+    ensures { λ r. ⌜ r ≡ cond (bitOf 1 flags) 64 32 ⌝ }
 {
     if bit(1, flags) {
         return 64;

@@ -1,12 +1,11 @@
 -- Which form a record is written in, with its tag and its flag byte: 01's "Writing", second paragraph.
 -- A reader must believe these definitions.
 use Prim.Native.Nat.{ℕ, _+_, _*_, _^_, _≤_, _<_}
-use mathlib.Core.Bool.{Bool}
+use mathlib.Core.Bool.{Bool, cond, _&&_, _||_}
 use mathlib.Core.List.{List}
 use lib.ListN.{getD}
 use lib.Dec.{leb, ltb, eqb}
 use lib.IntN.{pos}
-use Rattle.decode.specs.Numbers.{pick, both, either}
 use Rattle.encode.specs.Encode.{gap, width-code, max, refs-code}
 use Rattle.phd.specs.Phd.{shape}
 use Rattle.phd.specs.declared.cache.Cache.{Cache}
@@ -18,11 +17,11 @@ use Rattle.phd_plan.specs.declared.Plan.{Plan}
 
 -- whether the slot i is filled and holds the class word w
 unfoldable pub slot-holds : Cache → ℕ → ℕ → Bool
-slot-holds c w i = both (ltb i (c .pushes)) (eqb (getD (c .classes) i 0) w)
+slot-holds c w i = ltb i (c .pushes) && eqb (getD (c .classes) i 0) w
 
 -- the lowest filled slot that holds the class word w, and 4 where none does
 unfoldable pub find-slot : Cache → ℕ → ℕ
-find-slot c w = pick (slot-holds c w 0) 0 (pick (slot-holds c w 1) 1 (pick (slot-holds c w 2) 2 (pick (slot-holds c w 3) 3 4)))
+find-slot c w = cond (slot-holds c w 0) 0 (cond (slot-holds c w 1) 1 (cond (slot-holds c w 2) 2 (cond (slot-holds c w 3) 3 4)))
 
 -- All that the form, the tag and the flag byte of a row and its references go by: after a record at the address `before`,
 -- with the cache c.
@@ -49,20 +48,20 @@ pub record Bounded (m : PlanInput) : Type 0 where
 
 -- Hash kinds 1 and 2 need a flag byte.
 unfoldable pub needs-flag-byte : ℕ → Bool
-needs-flag-byte k = either (eqb k 1) (eqb k 2)
+needs-flag-byte k = eqb k 1 || eqb k 2
 
 -- a gap fits a short where its width code is below 2
 unfoldable pub object-form : PlanInput → Form
 object-form m =
-    pick (needs-flag-byte (m .hashkind)) Long
-    (pick (both (leb (m .count) 3) (both (ltb (m .slot) 4) (ltb (m .gap) 2))) Short
-    (pick (both (leb (m .count) 7) (ltb (m .gap) 2)) Medium Long))
+    cond (needs-flag-byte (m .hashkind)) Long
+    (cond (leb (m .count) 3 && (ltb (m .slot) 4 && ltb (m .gap) 2)) Short
+    (cond (leb (m .count) 7 && ltb (m .gap) 2) Medium Long))
 
 unfoldable pub form-of : PlanInput → Form
 form-of m =
-    pick (eqb (m .kind) 1) Class
-    (pick (eqb (m .kind) 2) (object-form m)
-    (pick (eqb (m .kind) 3) ObjectArray (pick (needs-flag-byte (m .hashkind)) LongPrimitive Primitive)))
+    cond (eqb (m .kind) 1) Class
+    (cond (eqb (m .kind) 2) (object-form m)
+    (cond (eqb (m .kind) 3) ObjectArray (cond (needs-flag-byte (m .hashkind)) LongPrimitive Primitive)))
 
 unfoldable pub tag-of : Form → PlanInput → ℕ
 tag-of Short m = 0x80 + 0x20 * m .slot + 0x08 * m .count + 0x04 * m .gap + m .refcode
@@ -75,10 +74,10 @@ tag-of ObjectArray m = 8
 
 -- Hash kind 2 sets 0x02 and 0x01, kind 1 sets 0x01. In a class record kind 2 sets 0x08.
 unfoldable pub hash-flags : ℕ → ℕ
-hash-flags k = pick (eqb k 2) 0x03 (pick (eqb k 1) 0x01 0)
+hash-flags k = cond (eqb k 2) 0x03 (cond (eqb k 1) 0x01 0)
 
 unfoldable pub class-flags : ℕ → ℕ
-class-flags k = pick (eqb k 2) 0x08 0
+class-flags k = cond (eqb k 2) 0x08 0
 
 -- A long primitive array's gap and length are bytes where both fit, else words.
 unfoldable pub flags-of : Form → PlanInput → ℕ
@@ -88,7 +87,7 @@ flags-of Primitive m = 0
 flags-of Long m = 0x40 * m .gap + 0x10 * m .refcode + hash-flags (m .hashkind)
 flags-of ObjectArray m = 0x40 * m .gap + 0x10 * m .refcode + hash-flags (m .hashkind)
 flags-of Class m = 0x40 * m .gap + 0x10 * m .refcode + class-flags (m .hashkind)
-flags-of LongPrimitive m = 0x20 * m .prim + 0x10 * pick (eqb (m .paircode) 0) 0 1 + hash-flags (m .hashkind)
+flags-of LongPrimitive m = 0x20 * m .prim + 0x10 * cond (eqb (m .paircode) 0) 0 1 + hash-flags (m .hashkind)
 
 -- The tag, the flag byte and the shape that they name, by the reader's own table; W is w bytes.
 unfoldable pub make-plan : ℕ → PlanInput → Plan

@@ -4,13 +4,12 @@
 use mathlib.Core.Path.{_≡_, refl}
 use Prim.Native.Nat.{ℕ, _+_, _^_, _≤_, _<_}
 use native.Mathlib.Omega.{arith}
-use mathlib.Core.Bool.{Bool, true, false}
+use mathlib.Core.Bool.{Bool, true, false, cond, _&&_}
 use mathlib.Core.List.{List}
 use lib.Dec.{leb, ltb}
 use lib.IntN.{pos}
 use borrow.Author.Tests.{le-leb, lt-ltb, leb-true, ltb-true}
-use Rattle.decode.specs.Numbers.{pick, both}
-use Rattle.decode.specs.Values.{both-left, both-right}
+use Rattle.decode.specs.Values.{and-left, and-right}
 use Rattle.encode.specs.Encode.{gap, fits, width-code}
 use Rattle.encode.specs.Widths.{AllFit, code-least, max-le, refs-code-least}
 use Rattle.table.specs.declared.Row.{Row}
@@ -60,7 +59,7 @@ overhead w ObjectArray = 0
 overhead w Primitive = 0
 overhead w LongPrimitive = 0
 
-short-or-medium : (w : ℕ) (b : Bool) → overhead w (pick b Short Medium) ≤ 1 + w
+short-or-medium : (w : ℕ) (b : Bool) → overhead w (cond b Short Medium) ≤ 1 + w
 short-or-medium w true = omega arith
 short-or-medium w false = omega arith
 
@@ -77,7 +76,7 @@ at-most-long w LongPrimitive = omega arith
 pub object-form-shortest : (w : ℕ) (fm : Form) (m : PlanInput) → CanHold fm m → overhead w (object-form m) ≤ overhead w fm
 unfolding object-form
 object-form-shortest w Short m x = rw (x .0, lt-ltb _ _ (x .1), le-leb _ _ (x .2), lt-ltb _ _ (x .3)) (omega arith)
-object-form-shortest w Medium m x = rw (x .0, lt-ltb _ _ (x .1), le-leb _ _ (x .2)) (short-or-medium w (both (leb (m .count) 3) (both (ltb (m .slot) 4) true)))
+object-form-shortest w Medium m x = rw (x .0, lt-ltb _ _ (x .1), le-leb _ _ (x .2)) (short-or-medium w (leb (m .count) 3 && (ltb (m .slot) 4 && true)))
 object-form-shortest w Long m x = at-most-long w (object-form m)
 object-form-shortest w Class m x = absurd x
 object-form-shortest w ObjectArray m x = absurd x
@@ -87,7 +86,7 @@ object-form-shortest w LongPrimitive m x = absurd x
 -- And the one chosen can hold it.
 pub object-form-can-hold : (m : PlanInput) → CanHold (object-form m) m
 unfolding object-form
-object-form-can-hold m = by (needs-flag-byte (m .hashkind)) (both n3 (both s4 g2)) (both n7 g2) refl refl refl
+object-form-can-hold m = by (needs-flag-byte (m .hashkind)) (n3 && (s4 && g2)) (n7 && g2) refl refl refl
   where
     n3 : Bool
     n3 = leb (m .count) 3
@@ -101,10 +100,10 @@ object-form-can-hold m = by (needs-flag-byte (m .hashkind)) (both n3 (both s4 g2
     g2 : Bool
     g2 = ltb (m .gap) 2
 
-    by : (f a b : Bool) → needs-flag-byte (m .hashkind) ≡ f → both n3 (both s4 g2) ≡ a → both n7 g2 ≡ b → CanHold (pick f Long (pick a Short (pick b Medium Long))) m
+    by : (f a b : Bool) → needs-flag-byte (m .hashkind) ≡ f → n3 && (s4 && g2) ≡ a → n7 && g2 ≡ b → CanHold (cond f Long (cond a Short (cond b Medium Long))) m
     by true a b ef ea eb = tt
     by false true b ef ea eb =
-        let t = both-right n3 (both s4 g2) ea in
-        (ef, ltb-true _ _ (both-right s4 g2 t), leb-true _ _ (both-left n3 (both s4 g2) ea), ltb-true _ _ (both-left s4 g2 t))
-    by false false true ef ea eb = (ef, ltb-true _ _ (both-right n7 g2 eb), leb-true _ _ (both-left n7 g2 eb))
+        let t = and-right n3 (s4 && g2) ea in
+        (ef, ltb-true _ _ (and-right s4 g2 t), leb-true _ _ (and-left n3 (s4 && g2) ea), ltb-true _ _ (and-left s4 g2 t))
+    by false false true ef ea eb = (ef, ltb-true _ _ (and-right n7 g2 eb), leb-true _ _ (and-left n7 g2 eb))
     by false false false ef ea eb = tt

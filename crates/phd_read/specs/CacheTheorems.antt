@@ -5,14 +5,14 @@ use mathlib.Core.Path.{_≡_, refl, sym, ap, subst, _∙_}
 use Prim.Native.Nat.{ℕ, zero, suc, _+_, _-_, _*_, _/_, _%_, _<_}
 use native.Mathlib.Decide.{decLe}
 use native.Mathlib.Omega.{arith}
-use mathlib.Core.Bool.{Bool, true, false}
+use mathlib.Core.Bool.{Bool, true, false, cond}
 use mathlib.Core.List.{List, [], _∷_, _++_}
 use lib.Dec.{leb, eqb}
 use lib.ListN.{length, getD, take, drop}
 use lib.Seq.{getD-take, length-take-le}
-use Rattle.decode.specs.Numbers.{pick, value}
+use Rattle.decode.specs.Numbers.{value}
 use Rattle.decode.specs.Layout.{yield, whole, stops, run, run-then, run-field, run-field-short, reply-of, missing-of}
-use Rattle.decode.specs.Values.{Gives, gives-yield, gives-refuse, gives-then, gives-then-any, gives-weaken, gives-pick, gives-need, refuses-yield, refuses-pick, true-not-false}
+use Rattle.decode.specs.Values.{Gives, gives-yield, gives-refuse, gives-then, gives-then-any, gives-weaken, gives-cond, gives-need, refuses-yield, refuses-cond, true-not-false}
 use Rattle.decode.specs.declared.Stop.{Stop}
 use Rattle.decode.specs.declared.Stop.the-variants.{Cut, Refused}
 use Rattle.decode.specs.declared.Maybe.the-variants.{Just, Nothing}
@@ -58,7 +58,7 @@ pushes-class Other = false
 unfoldable pub classes-pushed : List ℕ → List ℕ → ℕ → List ℕ
 classes-pushed s rows zero = []
 classes-pushed s rows (suc i) =
-    pick (pushes-class (tag-form (tag-at s (offset-of rows i)))) (number rows i 2 ∷ classes-pushed s rows i) (classes-pushed s rows i)
+    cond (pushes-class (tag-form (tag-at s (offset-of rows i)))) (number rows i 2 ∷ classes-pushed s rows i) (classes-pushed s rows i)
 
 -- ---- one record
 
@@ -66,7 +66,7 @@ classes-pushed s rows (suc i) =
 abbrev CacheStep : Cache → ℕ → Item → Type 0
 CacheStep c t end-item = Unit {0}
 CacheStep c t (item r rs sp k) =
-    (k .cache ≡ pick (pushes-class (tag-form t)) (push c (getD r 2 0)) c) × (tag-form t ≡ Begins Short → slot c (t / 0x20 % 4) ≡ Just (getD r 2 0))
+    (k .cache ≡ cond (pushes-class (tag-form t)) (push c (getD r 2 0)) c) × (tag-form t ≡ Begins Short → slot c (t / 0x20 % 4) ≡ Just (getD r 2 0))
 
 -- what the shape of a form says of it, where W has a byte at least
 record ShapeCaches (fm : Form) (sh : Shape) : Type 0 where
@@ -94,9 +94,9 @@ short-no-class w fm t f e =
 abbrev CacheStepByShape : Cache → ℕ → Shape → Item → Type 0
 CacheStepByShape c known sh end-item = Unit {0}
 CacheStepByShape c known sh (item r rs sp k) =
-    (k .cache ≡ pick (sh .cached) (push c (getD r 2 0)) c) × (sh .class ≡ 0 → sh .superclass ≡ 0 → getD r 2 0 ≡ known)
+    (k .cache ≡ cond (sh .cached) (push c (getD r 2 0)) c) × (sh .class ≡ 0 → sh .superclass ≡ 0 → getD r 2 0 ≡ known)
 
-push-if-same-class : (c : Cache) (b x : Bool) (v o : ℕ) → (b ≡ true → x ≡ false) → pick b (push c v) c ≡ pick b (push c (pick x o v)) c
+push-if-same-class : (c : Cache) (b x : Bool) (v o : ℕ) → (b ≡ true → x ≡ false) → cond b (push c v) c ≡ cond b (push c (cond x o v)) c
 push-if-same-class c true x v o e = rw (e refl)
 push-if-same-class c false x v o e = refl
 
@@ -124,7 +124,7 @@ module _ (h : Header) (before : ℕ) (c : Cache) (w : eqb (h .bits / 8) 0 ≡ fa
       by fm known f e d end-item x = tt
       by fm known f e d (item r rs sp k) x =
           let g = shape-caches _ w fm t f in (
-            x .0 ∙ ap (λ (b : Bool). pick b (push c (getD r 2 0)) c) (g .cached ∙ sym (ap pushes-class e)),
+            x .0 ∙ ap (λ (b : Bool). cond b (push c (getD r 2 0)) c) (g .cached ∙ sym (ap pushes-class e)),
             λ l.
                 let q = short-no-class _ fm t f (sym e ∙ l) in
                 rw (x .1 (q .0) (q .1)) (rw (tag-matches t Short l) at d),
@@ -136,7 +136,7 @@ pub entry-cache-step : (h : Header) (s : List ℕ) (before : ℕ) (c : Cache) (i
 unfolding from-tag
 entry-cache-step h s before c index at r rs sp k n w e =
     let f = entry-advances h before c index s at (item r rs sp k) n e in
-    gives-pick (eqb (tag-at s at) 3) _ _ (gives-yield end-item tt) (gives-record-body h before c (bits-bytes-nonzero (h .bits) w) (origin-at at index) (tag-at s at))
+    gives-cond (eqb (tag-at s at) 3) _ _ (gives-yield end-item tt) (gives-record-body h before c (bits-bytes-nonzero (h .bits) w) (origin-at at index) (tag-at s at))
     .each (at + 1) (item r rs sp k) n (omega arith) (rw (entry-from-tag, run-then, run-field 1 s at (omega arith)) at e)
 
 -- ---- record after record
@@ -153,7 +153,7 @@ pub record CacheFilled (s : List ℕ) (st : State) : Type 0 where
   pub whole-rows : length (st .rows) % row-width ≡ 0
   pub cache : st .context .cache ≡ push-all (classes-pushed s (st .rows) (row-count (st .rows)))
 
-push-if-push-all : (c : Cache) (b : Bool) (w : ℕ) (ws : List ℕ) → c ≡ push-all ws → pick b (push c w) c ≡ push-all (pick b (w ∷ ws) ws)
+push-if-push-all : (c : Cache) (b : Bool) (w : ℕ) (ws : List ℕ) → c ≡ push-all ws → cond b (push c w) c ≡ push-all (cond b (w ∷ ws) ws)
 push-if-push-all c true w ws e = ap (λ (x : Cache). push x w) e
 push-if-push-all c false w ws e = e
 
@@ -256,12 +256,12 @@ slot-empty h s before c index at e = elim (decLe (at + 1) (length s)) [
     t : ℕ
     t = tag-at s at
 
-    refused : run (pick (eqb t 3) (yield end-item) (record-body h before c (origin-at at index) t)) s (at + 1) ≡ stops (Refused 10) → slot-class c t ≡ Nothing
+    refused : run (cond (eqb t 3) (yield end-item) (record-body h before c (origin-at at index) t)) s (at + 1) ≡ stops (Refused 10) → slot-class c t ≡ Nothing
     refused x =
-        refuses-pick {P = λ r. r ≡ 10 → slot-class c t ≡ Nothing} (eqb t 3) _ _ (refuses-yield end-item)
+        refuses-cond {P = λ r. r ≡ 10 → slot-class c t ≡ Nothing} (eqb t 3) _ _ (refuses-yield end-item)
         (record-body-refuses (λ r. r ≡ 10 → slot-class c t ≡ Nothing) field-reply-not-10 h before c (origin-at at index) t (λ k _. k)) .each s (at + 1) 10 x refl
 
-    by : (b : Bool) → leb 0x80 t ≡ b → pick b (slot c (t / 0x20 % 4)) (Just 0) ≡ Nothing → (tag-form t ≡ Begins Short) × (slot c (t / 0x20 % 4) ≡ Nothing)
+    by : (b : Bool) → leb 0x80 t ≡ b → cond b (slot c (t / 0x20 % 4)) (Just 0) ≡ Nothing → (tag-form t ≡ Begins Short) × (slot c (t / 0x20 % 4) ≡ Nothing)
     by true d k = (rw d, k)
     by false d k = let z : _≡_ {A = ℕ} 0 1 = cc in absurd (omega arith)
 

@@ -8,7 +8,7 @@ use mathlib.Core.List.{List}
 use lib.ListN.{length, getD}
 use lib.Dec.{eqb}
 use borrow.Author.Tests.{leb-true}
-use Rattle.decode.specs.Values.{Gives, pick-either, gives-yield, gives-then, gives-then-any, gives-pick, gives-cases, gives-check, gives-count}
+use Rattle.decode.specs.Values.{Gives, cond-elim, gives-yield, gives-then, gives-then-any, gives-cond, gives-cases, gives-check, gives-count}
 use Rattle.phd.specs.Phd.{shape, front, true-length, tail, field-or, row, Item, end-item, item, from-ref-count, fields, record-body, from-tag, entry, State, read-result}
 use Rattle.table.specs.Table.{row-count, row-slice, number, number-row-slice}
 use Rattle.phd.specs.EntryLaws.{entry-gives}
@@ -61,7 +61,7 @@ gives-fields top before c origin known hk sh k =
     gives-then _ _ _ (gives-front top before sh) (λ v l. gives-then-any _ _ (λ m. gives-then-any _ _ (λ name. gives-then-any _ _ (λ n. gives-then-any _ _ (λ ls.
     gives-then _ _ _ (gives-tail (sh .size) (sh .truelen) n) (λ t p.
     gives-yield _ (record {
-      short = pick-either (λ x. x < 2 ^ 31) (eqb (sh .truelen) 0) (v .len) (t .truelen) l (p .0);
+      short = cond-elim (λ x. x < 2 ^ 31) (eqb (sh .truelen) 0) (v .len) (t .truelen) l (p .0);
       array = λ e. rw (k e) (p .1 (k e));
     })))))))
 
@@ -79,7 +79,7 @@ array-has-true-length w LongPrimitive t f e = absurd (omega arith)
 gives-entry : {s : List ℕ} (h : Header) (before : ℕ) (c : Cache) (index : ℕ) → Gives s ItemLengthInBounds (entry h before c index)
 unfolding from-tag record-body
 gives-entry h before c index = entry-gives h before c index (λ origin.
-    gives-then-any _ _ (λ t. gives-pick (eqb t 3) _ _ (gives-yield end-item tt) (gives-then-any _ _ (λ fm. gives-then-any _ _ (λ known. gives-then-any _ _ (λ f.
+    gives-then-any _ _ (λ t. gives-cond (eqb t 3) _ _ (gives-yield end-item tt) (gives-then-any _ _ (λ fm. gives-then-any _ _ (λ known. gives-then-any _ _ (λ f.
     gives-fields _ before c origin known _ _ (array-has-true-length _ fm t f)))))))
 
 -- ---- the tables of a reading

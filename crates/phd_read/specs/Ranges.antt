@@ -3,12 +3,12 @@
 -- Assumes nothing.
 use mathlib.Core.Path.{_≡_, refl, _∙_}
 use Prim.Native.Nat.{ℕ, _≤_, _<_}
-use mathlib.Core.Bool.{Bool, true, false}
+use mathlib.Core.Bool.{Bool, true, false, _&&_}
 use mathlib.Core.List.{List, [], _∷_, _++_}
 use lib.ListN.{length}
 use lib.Dec.{leb}
 use native.Mathlib.Omega.{arith}
-use Rattle.decode.specs.Numbers.{both, all-within}
+use Rattle.decode.specs.Numbers.{all-within}
 use Rattle.phd.specs.Phd.{max-address, State, phd, capacity, read-result}
 use Rattle.table.specs.Table.{row-count, number, number-row-slice}
 use Rattle.phd_read.specs.RecordProperties.{entry-read-from}
@@ -17,14 +17,14 @@ use Rattle.reader.specs.Steps.{read-tables}
 
 -- ---- references
 
-both-assoc : (a b c : Bool) → both a (both b c) ≡ both (both a b) c
+both-assoc : (a b c : Bool) → a && (b && c) ≡ (a && b) && c
 both-assoc true b c = refl
 both-assoc false b c = refl
 
-within-append : (low high : ℕ) (xs ys : List ℕ) → all-within low high (xs ++ ys) ≡ both (all-within low high xs) (all-within low high ys)
+within-append : (low high : ℕ) (xs ys : List ℕ) → all-within low high (xs ++ ys) ≡ all-within low high xs && all-within low high ys
 unfolding all-within
 within-append low high [] ys = refl
-within-append low high (x ∷ xs) ys = rw (within-append low high xs ys) (both-assoc (both (leb low x) (leb x high)) (all-within low high xs) (all-within low high ys))
+within-append low high (x ∷ xs) ys = rw (within-append low high xs ys) (both-assoc (leb low x && leb x high) (all-within low high xs) (all-within low high ys))
 
 pub refs-within : (s : List ℕ) (R F : ℕ) → all-within 1 (max-address (read-result s R F .header .bits)) (read-result s R F .refs) ≡ true
 unfolding all-within

@@ -2,16 +2,15 @@
 -- Assumes nothing.
 use mathlib.Core.Path.{_≡_, refl}
 use Prim.Native.Nat.{ℕ, zero, suc, _≤_}
-use mathlib.Core.Bool.{true, not}
+use mathlib.Core.Bool.{true, not, _&&_}
 use mathlib.Core.List.{List, []}
 use lib.Dec.{leb, eqb, lit≤}
 use native.Mathlib.Omega.{arith}
 use borrow.Author.Tests.{leb-true}
-use Rattle.decode.specs.Numbers.{both}
 use Rattle.decode.specs.Layout.{Layout}
 use Rattle.decode.specs.Fields.{no-string}
 use Rattle.decode.specs.declared.Maybe.the-variants.{Nothing}
-use Rattle.decode.specs.Values.{both-left, both-right, Refuses, refuses-yield, refuses-refuse, refuses-then, refuses-pick, refuses-field, refuses-raw, refuses-position, refuses-check, refuses-need-nothing, refuses-exactly, refuses-below, refuses-address, refuses-ref, refuses-count, refuses-string}
+use Rattle.decode.specs.Values.{and-left, and-right, Refuses, refuses-yield, refuses-refuse, refuses-then, refuses-cond, refuses-field, refuses-raw, refuses-position, refuses-check, refuses-need-nothing, refuses-exactly, refuses-below, refuses-address, refuses-ref, refuses-count, refuses-string}
 use Rattle.phd.specs.Phd.{magic-bytes, preamble, after-vm, header-records, header, need-form, slot-class, flag-byte, front, middle, class-name, ref-count, ref-list, spanned-refs, true-length, tail, end-item, from-ref-count, fields, record-body, from-tag, entry, phd, capacity, read-result}
 use Rattle.phd.specs.EntryLaws.{entry-refuses}
 use Rattle.phd.specs.declared.cache.Cache.{Cache}
@@ -24,10 +23,10 @@ use Rattle.reader.specs.WithinCapacity.{read-replies}
 
 -- a reply to what was read and is refused, and one to a field
 abbrev PhdRefusal : ℕ → Type 0
-PhdRefusal r = both (leb 3 r) (leb r 12) ≡ true
+PhdRefusal r = leb 3 r && leb r 12 ≡ true
 
 abbrev pub FieldReply : ℕ → Type 0
-FieldReply r = both (both (leb 3 r) (leb r 12)) (not (eqb r 10)) ≡ true
+FieldReply r = (leb 3 r && leb r 12) && not (eqb r 10) ≡ true
 
 -- What holds of every reply to a field holds of those that a header is refused with, and a record's fields.
 module _ (P : ℕ → Type 0) (p : (r : ℕ) → FieldReply r → P r) where
@@ -51,7 +50,7 @@ module _ (P : ℕ → Type 0) (p : (r : ℕ) → FieldReply r → P r) where
   header-records-refuses : Refuses P header-records
   unfolding header-records
   header-records-refuses =
-      refuses-then _ _ (refuses-field 1) (λ tag. refuses-pick (eqb tag 2) _ _ (refuses-yield no-string) (refuses-pick (eqb tag 4) _ _
+      refuses-then _ _ (refuses-field 1) (λ tag. refuses-cond (eqb tag 2) _ _ (refuses-yield no-string) (refuses-cond (eqb tag 4) _ _
       (refuses-then _ _ (refuses-string 0x20 0 (p 7 refl)) (λ vm. refuses-then _ _ after-vm-refuses (λ _. refuses-yield vm)))
       (refuses-refuse 6 (p 6 refl))))
 
@@ -86,11 +85,11 @@ module _ (P : ℕ → Type 0) (p : (r : ℕ) → FieldReply r → P r) where
 
   class-name-refuses : (n : ℕ) → Refuses P (class-name n)
   unfolding class-name
-  class-name-refuses n = refuses-pick (eqb n 0) _ _ (refuses-yield no-string) (refuses-string 0x21 1 (p 7 refl))
+  class-name-refuses n = refuses-cond (eqb n 0) _ _ (refuses-yield no-string) (refuses-string 0x21 1 (p 7 refl))
 
   ref-count-refuses : (n known : ℕ) → Refuses P (ref-count n known)
   unfolding ref-count
-  ref-count-refuses n known = refuses-pick (eqb n 0) _ _ (refuses-yield known) (refuses-count n (p 12 refl))
+  ref-count-refuses n known = refuses-cond (eqb n 0) _ _ (refuses-yield known) (refuses-count n (p 12 refl))
 
   ref-list-refuses : (w a top n : ℕ) → Refuses P (ref-list w a top n)
   unfolding ref-list
@@ -105,7 +104,7 @@ module _ (P : ℕ → Type 0) (p : (r : ℕ) → FieldReply r → P r) where
   true-length-refuses : (w n : ℕ) → Refuses P (true-length w n)
   unfolding true-length
   true-length-refuses w n =
-      refuses-pick (eqb w 0) _ _ (refuses-yield 0)
+      refuses-cond (eqb w 0) _ _ (refuses-yield 0)
       (refuses-then _ _ (refuses-count w (p 12 refl)) (λ t. refuses-then _ _ (refuses-check 12 _ (p 12 refl)) (λ _. refuses-yield t)))
 
   tail-refuses : (size truelen n : ℕ) → Refuses P (tail size truelen n)
@@ -131,7 +130,7 @@ abbrev pub RefusalsOnly : {A : Type 0} → Layout A → Type 0
 RefusalsOnly l = Refuses PhdRefusal l
 
 field-is-refusal : (r : ℕ) → FieldReply r → PhdRefusal r
-field-is-refusal r k = both-left (both (leb 3 r) (leb r 12)) (not (eqb r 10)) k
+field-is-refusal r k = and-left (leb 3 r && leb r 12) (not (eqb r 10)) k
 
 pub header-refusals : RefusalsOnly header
 header-refusals = header-refuses PhdRefusal field-is-refusal
@@ -139,13 +138,13 @@ header-refusals = header-refuses PhdRefusal field-is-refusal
 pub entry-refusals : (h : Header) (before : ℕ) (c : Cache) (index : ℕ) → RefusalsOnly (entry h before c index)
 unfolding from-tag
 entry-refusals h before c index = entry-refuses h before c index (λ origin.
-    refuses-then _ _ (refuses-field 1) (λ t. refuses-pick (eqb t 3) _ _ (refuses-yield end-item) (record-body-refuses PhdRefusal field-is-refusal h before c origin t (λ _. refl))))
+    refuses-then _ _ (refuses-field 1) (λ t. refuses-cond (eqb t 3) _ _ (refuses-yield end-item) (record-body-refuses PhdRefusal field-is-refusal h before c origin t (λ _. refl))))
 
 -- ---- the reading
 
 -- what holds of a number of the replies 3 to 12
 pub refusal-bounds : (r : ℕ) → PhdRefusal r → (3 ≤ r) × (r ≤ 12)
-refusal-bounds r k = (leb-true _ _ (both-left (leb 3 r) (leb r 12) k), leb-true _ _ (both-right (leb 3 r) (leb r 12) k))
+refusal-bounds r k = (leb-true _ _ (and-left (leb 3 r) (leb r 12) k), leb-true _ _ (and-right (leb 3 r) (leb r 12) k))
 
 -- Any bytes and any room give one of the replies 0 to 14.
 pub read-reply-le-14 : (s : List ℕ) (R F : ℕ) → read-result s R F .reply ≤ 14

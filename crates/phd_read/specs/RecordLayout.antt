@@ -5,10 +5,10 @@ use Prim.Native.Nat.{ℕ, zero, suc, _+_, _*_, _/_, _≤_}
 use native.Mathlib.Nat.{suc-mul}
 use native.Mathlib.Omega.{arith}
 use mathlib.Core.List.{List, [], _∷_}
+use mathlib.Core.Bool.{cond}
 use lib.ListN.{length}
 use lib.Dec.{ltb, eqb}
 use borrow.Author.Tests.{le-ltb, eqb-true, eqb-false}
-use Rattle.decode.specs.Numbers.{pick}
 use Rattle.decode.specs.Layout.{whole, run}
 use Rattle.decode.specs.Fields.{no-string}
 use Rattle.decode.specs.Takes.{Takes, AddressIn, CountIn, takes-yield, takes-refuse, takes-then, takes-weaken, takes-cases, takes-field, takes-position, takes-check, takes-need, takes-address, takes-ref, takes-count, takes-string}
@@ -186,10 +186,10 @@ unfolding need-form
 takes-need-form (Begins fm) = takes-yield fm (refl, refl)
 takes-need-form Other = takes-refuse 6
 
-takes-flag-byte : (h : Header) (t : ℕ) → Takes (λ f n. (n ≡ pick (ltb t 0x20) 1 0) × (0x20 ≤ t → f ≡ 0)) (flag-byte h t)
+takes-flag-byte : (h : Header) (t : ℕ) → Takes (λ f n. (n ≡ cond (ltb t 0x20) 1 0) × (0x20 ≤ t → f ≡ 0)) (flag-byte h t)
 unfolding flag-byte
 takes-flag-byte h t =
-    takes-then _ _ _ (takes-field (pick (ltb t 0x20) 1 0)) (λ f n e. takes-then _ _ _ (takes-check 11 _) (λ _ n₁ e₁.
+    takes-then _ _ _ (takes-field (cond (ltb t 0x20) 1 0)) (λ f n e. takes-then _ _ _ (takes-check 11 _) (λ _ n₁ e₁.
     takes-yield f (omega (arith, e .0, e₁ .0), λ l. e .1 (rw (le-ltb t 0x20 l)))))
 
 module _ (h : Header) (before : ℕ) (c : Cache) where
@@ -206,7 +206,7 @@ module _ (h : Header) (before : ℕ) (c : Cache) where
       (laid fm known f n n₁ n₂ e e₁ e₂))))
     where
       laid : (fm : Form) (known f n n₁ n₂ : ℕ) → (n ≡ 0) × (tag-form t ≡ Begins fm) → (n₁ ≡ 0) × (slot-class c t ≡ Just known)
-          → (n₂ ≡ pick (ltb t 0x20) 1 0) × (0x20 ≤ t → f ≡ 0)
+          → (n₂ ≡ cond (ltb t 0x20) 1 0) × (0x20 ≤ t → f ≡ 0)
           → (i : Item) (k : ℕ) → FieldsFit (max-address (h .bits)) before known (hash-kind h t f) (shape (h .bits / 8) fm t f) i k → ItemHasLayout i (1 + (n + (n₁ + (n₂ + k))))
       laid fm known f n n₁ n₂ e e₁ e₂ end-item k x = tt
       laid fm known f n n₁ n₂ e e₁ e₂ (item r rs sp y) k x = record {

@@ -2,16 +2,16 @@
 -- Assumes nothing.
 use mathlib.Core.Path.{_≡_, refl, subst}
 use Prim.Native.Nat.{ℕ, zero, suc, _+_, _≤_, _<_}
-use mathlib.Core.Bool.{Bool, true, false}
+use mathlib.Core.Bool.{Bool, true, false, cond}
 use mathlib.Core.List.{List, [], _∷_}
 use lib.ListN.{length, getD, take, drop}
 use lib.Dec.{eqb}
 use native.Mathlib.Omega.{arith}
 use borrow.Author.Tests.{le-leb}
-use Rattle.decode.specs.Numbers.{pick, value, all-within}
+use Rattle.decode.specs.Numbers.{value, all-within}
 use Rattle.decode.specs.Layout.{yield, whole, stops, run, run-then, run-position, run-yield, run-refuse, run-field, then-inv, _>>=_, field}
 use Rattle.decode.specs.declared.Stop.the-variants.{Refused}
-use Rattle.decode.specs.Values.{Gives, gives-yield, gives-then, gives-then-any, gives-pick, gives-address, gives-ref}
+use Rattle.decode.specs.Values.{Gives, gives-yield, gives-then, gives-then-any, gives-cond, gives-address, gives-ref}
 use Rattle.table.specs.Table.{row-width, offset-number}
 use Rattle.phd.specs.Phd.{max-address, tag-form, need-form, ref-list, SpannedRefs, spanned-refs, front, row, RecordContext, Item, end-item, item, from-ref-count, fields, record-body, from-tag, entry}
 use Rattle.phd.specs.EntryLaws.{origin-at, entry-from-tag}
@@ -103,14 +103,14 @@ gives-fields h s before c origin known hk sh small =
 gives-from-tag : (h : Header) (s : List ℕ) (before : ℕ) (c : Cache) (origin : Origin) → Gives s (ItemReadFrom h s origin) (from-tag h before c origin)
 unfolding from-tag record-body
 gives-from-tag h s before c origin =
-    gives-then-any _ _ (λ t. gives-pick (eqb t 3) _ _ (gives-yield end-item tt) (gives-then-any _ _ (λ fm. gives-then-any _ _ (λ known. gives-then-any _ _ (λ f.
+    gives-then-any _ _ (λ t. gives-cond (eqb t 3) _ _ (gives-yield end-item tt) (gives-then-any _ _ (λ fm. gives-then-any _ _ (λ known. gives-then-any _ _ (λ f.
     gives-fields h s before c origin known _ _ (ref-width-le-8 _ fm t f))))))
 
 -- ---- its tag
 
 -- a tag behind which a record was read begins one
 tag-has-form : (h : Header) (s : List ℕ) (before : ℕ) (c : Cache) (origin : Origin) (t m : ℕ) (r rs : List ℕ) (sp : Span) (k : RecordContext) (n : ℕ)
-    → run (pick (eqb t 3) (yield end-item) (record-body h before c origin t)) s m ≡ whole (item r rs sp k) n → (fm : Form) × (tag-form t ≡ Begins fm)
+    → run (cond (eqb t 3) (yield end-item) (record-body h before c origin t)) s m ≡ whole (item r rs sp k) n → (fm : Form) × (tag-form t ≡ Begins fm)
 unfolding record-body need-form
 tag-has-form h s before c origin t m r rs sp k n e = by (eqb t 3) (tag-form t) refl refl
   where

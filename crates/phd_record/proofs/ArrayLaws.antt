@@ -1,12 +1,12 @@
 -- What the layout of an array finds where its bytes are there, part by part.
 use mathlib.Core.Path.{_≡_, refl, ap, _∙_}
-use mathlib.Core.Bool.{Bool, true, false, not}
+use mathlib.Core.Bool.{Bool, true, false, not, _&&_, _||_}
 use mathlib.Core.List.{List, []}
 use Prim.Native.Nat.{ℕ, _+_, _*_, _/_, _≤_, _<_}
 use native.Mathlib.Omega.{arith}
 use lib.ListN.{length, take, drop}
 use borrow.Author.Tests.{le-leb, lt-leb}
-use Rattle.decode.specs.Numbers.{both, either, value, signed, add-gap, to-count}
+use Rattle.decode.specs.Numbers.{value, signed, add-gap, to-count}
 use Rattle.decode.specs.Layout.{whole, stops, run, field, run-then, run-yield, run-position, run-field, run-check, run-need}
 use Rattle.decode.specs.Fields.{no-string}
 use Rattle.decode.specs.declared.Maybe.the-variants.{Just}
@@ -58,12 +58,12 @@ hash-whole s sh hk hb hash at i u eb eh h =
 -- its flag byte is one byte
 pub flag-byte-end : (h : Header) (s : List ℕ) (at f p : ℕ) → at + 1 ≤ length s → run (flag-byte h 8) s at ≡ whole f p → p ≡ at + 1
 unfolding flag-byte
-flag-byte-end h s at f p l e = by (not (both (h .hashed) (either (moved-bit 8 x) (hashed-bit 8 x)))) refl
+flag-byte-end h s at f p l e = by (not (h .hashed && (moved-bit 8 x || hashed-bit 8 x))) refl
   where
     x : ℕ
     x = value (take 1 (drop at s))
 
-    by : (b : Bool) → not (both (h .hashed) (either (moved-bit 8 x) (hashed-bit 8 x))) ≡ b → p ≡ at + 1
+    by : (b : Bool) → not (h .hashed && (moved-bit 8 x || hashed-bit 8 x)) ≡ b → p ≡ at + 1
     by true k =
         let g : run (flag-byte h 8) s at ≡ whole x (at + 1) = rw (run-then, run-field 1 s at l, run-then, run-check, k, run-yield) in
         cc

@@ -1,6 +1,6 @@
 -- What the layout of a record finds where its bytes are there and its references need no judging, part by part.
 use mathlib.Core.Path.{_≡_, refl, sym, ap, _∙_}
-use mathlib.Core.Bool.{Bool, true, false, not}
+use mathlib.Core.Bool.{Bool, true, false, not, cond, _&&_, _||_}
 use mathlib.Core.List.{List, [], _∷_}
 use mathlib.Core.Logic.{_⊎_, inl, inr, ⊎-elim}
 use Prim.Native.Nat.{ℕ, zero, suc, _+_, _-_, _*_, _/_, _%_, _≤_, _<_}
@@ -9,7 +9,7 @@ use native.Mathlib.Omega.{arith}
 use borrow.Author.Tests.{le-ltb, le-leb, lt-leb, ne-eqb}
 use lib.Dec.{eqb, leb}
 use lib.ListN.{length, take, drop}
-use Rattle.decode.specs.Numbers.{pick, both, either, value, value-after, signed, add-gap, to-count}
+use Rattle.decode.specs.Numbers.{value, value-after, signed, add-gap, to-count}
 use Rattle.decode.specs.Layout.{Outcome, whole, and-then, run, field, run-then, run-yield, run-position, run-field, run-field-empty, run-need, run-check}
 use Rattle.decode.specs.Fields.{address, count, no-string}
 use Rattle.decode.specs.declared.Maybe.the-variants.{Just}
@@ -139,7 +139,7 @@ module _ (top before : ℕ) (c : Cache) (origin : Origin) (known hk : ℕ) (sh :
 
 -- ---- a record behind a tag that has no flag byte
 
-no-hash-bits : (h : Bool) (t : ℕ) → 0x20 ≤ t → not (both h (either (moved-bit t 0) (hashed-bit t 0))) ≡ true
+no-hash-bits : (h : Bool) (t : ℕ) → 0x20 ≤ t → not (h && (moved-bit t 0 || hashed-bit t 0)) ≡ true
 unfolding moved-bit hashed-bit bit
 no-hash-bits true t l = rw (ne-eqb t 6 (λ e. omega arith))
 no-hash-bits false t l = refl
@@ -209,7 +209,7 @@ bits-class-width w h = inr (⊎-elim (λ e. inl (omega arith)) (λ e. inr (omega
 pub class-width-le-8 : (w : ℕ) → ClassWidth w → w ≤ 8
 class-width-le-8 w h = ⊎-elim (λ e. omega arith) (λ r. ⊎-elim (λ e. omega arith) (λ e. omega arith) r) h
 
-tag-short-or-medium : (b : Bool) (fm : Form) → pick b (Begins Short) (Begins Medium) ≡ Begins fm → (fm ≡ Short) ⊎ (fm ≡ Medium)
+tag-short-or-medium : (b : Bool) (fm : Form) → cond b (Begins Short) (Begins Medium) ≡ Begins fm → (fm ≡ Short) ⊎ (fm ≡ Medium)
 tag-short-or-medium true fm e = inl cc
 tag-short-or-medium false fm e = inr cc
 
@@ -226,7 +226,7 @@ module _ (w t : ℕ) (fm : Form) (l : 0x40 ≤ t) (g : tag-form t ≡ Begins fm)
   unfolding shape
   object-class-width = ⊎-elim (λ e. rw e (inl refl)) (λ e. rw e h) object-forms
 
-pick-few : (a b : Bool) → pick a 4 (pick b 2 0) ≤ 4
+pick-few : (a b : Bool) → cond a 4 (cond b 2 0) ≤ 4
 pick-few true b = omega arith
 pick-few false true = omega arith
 pick-few false false = omega arith

@@ -4,10 +4,10 @@ use mathlib.Core.Path.{_≡_, refl, sym, ap, _∙_}
 use Prim.Native.Nat.{ℕ}
 use native.Mathlib.Omega.{arith}
 use mathlib.Core.List.{List}
+use mathlib.Core.Bool.{cond}
 use lib.ListN.{replicate}
 use Rattle.decode.specs.Layout.{Outcome, whole, stops}
 use Rattle.decode.specs.declared.Stop.{Stop}
-use Rattle.decode.specs.Numbers.{pick}
 use Rattle.decode.specs.declared.StringSpan.{StringSpan}
 use Rattle.table.specs.Table.{row-width}
 use Rattle.phd.specs.Phd.{make-context, Item, end-item, item, row, push}
@@ -63,7 +63,7 @@ make-record next place n t c origin known hk sh v m name = record {
   row = row origin hk known sh v m name n t;
   span = record { place = place; width = sh .refwidth; count = n };
   address = v .address;
-  cache = pick (sh .cached) (push c (v .class)) c;
+  cache = cond (sh .cached) (push c (v .class)) c;
 }
 
 -- ---- what was found, by what the answer says

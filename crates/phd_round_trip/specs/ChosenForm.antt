@@ -2,11 +2,10 @@
 -- Assumes nothing.
 use mathlib.Core.Path.{_≡_, refl}
 use Prim.Native.Nat.{ℕ, _%_, _≤_, _<_}
-use mathlib.Core.Bool.{Bool, true, false}
+use mathlib.Core.Bool.{Bool, true, false, cond, _&&_}
 use lib.Dec.{leb, ltb}
 use native.Mathlib.Omega.{arith}
 use borrow.Author.Tests.{leb-true, ltb-true, eq-eqb, ne-eqb}
-use Rattle.decode.specs.Numbers.{pick, both}
 use Rattle.encode.specs.Encode.{gap, width-code}
 use Rattle.phd.specs.Phd.{max-address}
 use Rattle.phd.specs.Shapes.{ValidBits}
@@ -53,13 +52,13 @@ module _ (h : Header) (c : Cache) (before index : ℕ) (r : Rec)
       a-long : DecodableForm Long
       a-long = (0, long-decodable h c before index r w g bf bl k2 s0 l0 y0 n0)
 
-      not-short : (n7 d2 : Bool) → needs-flag-byte (m .hashkind) ≡ false → ltb d 2 ≡ d2 → leb n 7 ≡ n7 → DecodableForm (pick (both n7 d2) Medium Long)
+      not-short : (n7 d2 : Bool) → needs-flag-byte (m .hashkind) ≡ false → ltb d 2 ≡ d2 → leb n 7 ≡ n7 → DecodableForm (cond (n7 && d2) Medium Long)
       not-short true true e1 e4 e5 = (0, medium-decodable h c before index r w g bf bl k2 s0 l0 y0 n0 e1 (ltb-true _ _ e4) (leb-true _ _ e5))
       not-short true false e1 e4 e5 = a-long
       not-short false d2 e1 e4 e5 = a-long
 
       by : (f n3 s4 d2 n7 : Bool) → needs-flag-byte (m .hashkind) ≡ f → leb n 3 ≡ n3 → ltb s 4 ≡ s4 → ltb d 2 ≡ d2 → leb n 7 ≡ n7
-          → DecodableForm (pick f Long (pick (both n3 (both s4 d2)) Short (pick (both n7 d2) Medium Long)))
+          → DecodableForm (cond f Long (cond (n3 && (s4 && d2)) Short (cond (n7 && d2) Medium Long)))
       by true n3 s4 d2 n7 e1 e2 e3 e4 e5 = a-long
       by false true true true n7 e1 e2 e3 e4 e5 =
           (r .row .class, short-decodable h c before index r w g bf bl k2 s0 l0 y0 n0 e1 (ltb-true _ _ e4) (leb-true _ _ e2) (ltb-true _ _ e3))
@@ -75,7 +74,7 @@ module _ (h : Header) (c : Cache) (before index : ℕ) (r : Rec)
       m = plan-input c before (r .row) (r .refs)
 
       array : (a : Bool) → needs-flag-byte (m .hashkind) ≡ a → r .row .kind ≡ 4 → r .row .class ≡ 0 → r .row .count ≡ 0
-          → r .row .prim < 8 → r .row .namelen ≡ 0 → DecodableForm (pick a LongPrimitive Primitive)
+          → r .row .prim < 8 → r .row .namelen ≡ 0 → DecodableForm (cond a LongPrimitive Primitive)
       array true e k4 c0 r0 y8 n0 = (0, long-primitive-decodable h c before index r w g bf bl k4 c0 r0 y8 n0)
       array false e k4 c0 r0 y8 n0 = (0, primitive-decodable h c before index r w g bf bl k4 c0 r0 y8 n0 e)
 

@@ -3,11 +3,11 @@
 -- Assumes nothing.
 use mathlib.Core.Path.{_≡_}
 use Prim.Native.Nat.{ℕ, zero, suc, _+_, _/_, _%_, _^_, _≤_, _<_}
-use mathlib.Core.Bool.{true, false}
+use mathlib.Core.Bool.{true, false, cond, _&&_, _||_}
 use mathlib.Core.List.{List, [], _∷_}
 use lib.ListN.{length}
 use lib.Dec.{ltb, eqb}
-use Rattle.decode.specs.Numbers.{pick, both, either, all-within}
+use Rattle.decode.specs.Numbers.{all-within}
 use Rattle.decode.specs.declared.Maybe.the-variants.{Just}
 use Rattle.encode.specs.Encode.{gap, fits}
 use Rattle.phd.specs.Phd.{max-address, tag-form, slot-class, moved-bit, hashed-bit, hash-kind, hash-bytes, shape, field-or}
@@ -86,8 +86,8 @@ pub record Decodable (h : Header) (c : Cache) (before : ℕ) (r : Rec) (fm : For
   pub not-end-tag : eqb t 3 ≡ false
   pub form-is : tag-form t ≡ Begins fm
   pub known-is : slot-class c t ≡ Just known
-  pub flag-byte : f < 256 ^ pick (ltb t 0x20) 1 0
-  pub bits-clear : both (h .hashed) (either (moved-bit t f) (hashed-bit t f)) ≡ false
+  pub flag-byte : f < 256 ^ cond (ltb t 0x20) 1 0
+  pub bits-clear : h .hashed && (moved-bit t f || hashed-bit t f) ≡ false
   pub hash : hash-kind h t f ≡ r .row .hashkind
   pub fit : FieldsFit (max-address (h .bits)) before (shape (h .bits / 8) fm t f) r
   pub matches : ShapeMatches known (shape (h .bits / 8) fm t f) r

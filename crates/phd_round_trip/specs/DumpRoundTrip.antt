@@ -3,14 +3,13 @@
 use mathlib.Core.Path.{_≡_, refl}
 use Prim.Native.Nat.{ℕ, suc, _+_, _*_, _≤_, _<_}
 use native.Mathlib.Nat.{zero-add}
-use mathlib.Core.Bool.{true}
+use mathlib.Core.Bool.{true, cond}
 use mathlib.Core.List.{List, [], _++_}
 use lib.ListN.{length, take, length-append, length-take}
 use lib.Dec.{leb}
 use native.Mathlib.Omega.{arith}
 use native.Mathlib.Decide.{decLe}
 use borrow.Author.Tests.{le-leb, lt-leb}
-use Rattle.decode.specs.Numbers.{pick}
 use Rattle.decode.specs.Layout.{whole, run, reply-of}
 use Rattle.decode.specs.CutLaws.{run-prefix, prefix-cut}
 use Rattle.decode.specs.declared.Stop.the-variants.{Cut}
@@ -40,7 +39,7 @@ pub record GoodDump (names : List ℕ) (h : Header) (rs : List Rec) : Type 0 whe
 pub record ReadsCut (names : List ℕ) (h : Header) (rs : List Rec) (m : ℕ) (rd : Result) : Type 0 where
   pub rows : rd .rows ≡ decoded-rows (written-header h) (length (encode-header names h)) 0 empty-cache (cut-recs names h rs m)
   pub refs : rd .refs ≡ all-refs (cut-recs names h rs m)
-  pub reply : rd .reply ≡ pick (leb (length (encode-dump names h rs)) m) 0 1
+  pub reply : rd .reply ≡ cond (leb (length (encode-dump names h rs)) m) 0 1
   pub place : rd .place ≡ stop-at names h rs m
   pub header : length (encode-header names h) ≤ m → rd .header ≡ written-header h
   pub no-header : m < length (encode-header names h) → rd .header ≡ empty-header

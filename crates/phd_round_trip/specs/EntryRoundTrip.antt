@@ -3,14 +3,13 @@
 -- Assumes nothing.
 use mathlib.Core.Path.{_≡_, refl, sym, ap, _∙_}
 use Prim.Native.Nat.{ℕ, _+_, _/_}
-use mathlib.Core.Bool.{Bool, true, false, not}
+use mathlib.Core.Bool.{Bool, true, false, not, cond, _&&_, _||_}
 use mathlib.Core.List.{List, [], _∷_, _++_, append-assoc, append-nil}
 use native.Mathlib.Omega.{arith}
 use lib.ListN.{length, take, drop, length-append}
 use lib.Seq.{take-at, drop-at}
 use lib.Dec.{ltb, eqb}
 use borrow.Author.Tests.{eqb-true}
-use Rattle.decode.specs.Numbers.{pick, both, either}
 use Rattle.decode.specs.Layout.{position}
 use Rattle.decode.specs.declared.StringSpan.{StringSpan}
 use Rattle.encode.specs.Encode.{join, be, encode-ref-list as encode-list}
@@ -40,14 +39,14 @@ use Rattle.phd_round_trip.specs.Decodable.{field-value, NameFits, unname
 
 -- where the fields begin of a record that is put at p, and where the length of a name stands in fields that begin at q
 abbrev fields-at : ℕ → Plan → ℕ
-fields-at p pl = p + 1 + pick (ltb (pl .tag) 0x20) 1 0
+fields-at p pl = p + 1 + cond (ltb (pl .tag) 0x20) 1 0
 
 abbrev name-length-at : ℕ → Shape → Row → ℕ
 name-length-at q sh r = q + (sh .gap + sh .class + sh .len) + (sh .inst + hash-bytes (r .hashkind) + sh .superclass)
 
 -- the place of the name and of the references, in fields that begin at q
 abbrev name-in : ℕ → Shape → Row → ℕ
-name-in q sh r = pick (eqb (sh .name) 0) 0 (name-length-at q sh r + sh .name)
+name-in q sh r = cond (eqb (sh .name) 0) 0 (name-length-at q sh r + sh .name)
 
 abbrev span-in : ℕ → Shape → Row → Span
 span-in q sh r = record { place = name-length-at q sh r + (sh .name + r .namelen) + sh .countwidth; width = sh .refwidth; count = r .count }
@@ -62,7 +61,7 @@ span-at p pl r = span-in (fields-at p pl) (pl .shape) r
 
 -- ---- what is read of a record
 
-text-place : (b : Bool) (w place len : ℕ) → eqb w 0 ≡ b → name-text w place len .place ≡ pick b 0 place
+text-place : (b : Bool) (w place len : ℕ) → eqb w 0 ≡ b → name-text w place len .place ≡ cond b 0 place
 text-place true w place len e = rw e
 text-place false w place len e = rw e
 
@@ -70,7 +69,7 @@ text-len : (w place len : ℕ) (name : List ℕ) → NameFits w name → length 
 text-len w place len name (unnamed e) l = rw e at l
 text-len w place len name (named some short seen) l = refl
 
-cached-same : (c : Cache) (b : Bool) (v w : ℕ) → (b ≡ true → v ≡ w) → pick b (push c v) c ≡ pick b (push c w) c
+cached-same : (c : Cache) (b : Bool) (v w : ℕ) → (b ≡ true → v ≡ w) → cond b (push c v) c ≡ cond b (push c w) c
 cached-same c true v w e = ap (push c) (e refl)
 cached-same c false v w e = refl
 
@@ -91,7 +90,7 @@ module _ (top before known : ℕ) (origin : Origin) (c : Cache) (sh : Shape) (r 
   abbrev as-read : StringSpan → ℕ → Item
   as-read name place =
       item (as-row name) (r .refs) (record { place = place; width = sh .refwidth; count = r .row .count })
-      (make-context (r .row .address) (pick (sh .cached) (push c (field-value (sh .class) (r .row .class))) c))
+      (make-context (r .row .address) (cond (sh .cached) (push c (field-value (sh .class) (r .row .class))) c))
 
   reads-refs-and-tail : (q : ℕ) (name : StringSpan)
       → Reads q (from-ref-count top c origin known (r .row .hashkind) sh as-front as-middle name) (join (encode-refs sh (r .row) (r .refs) ∷ encode-tail sh (r .row) ∷ []))
@@ -108,18 +107,18 @@ module _ (top before known : ℕ) (origin : Origin) (c : Cache) (sh : Shape) (r 
       (reads-then _ _ _ (encode-tail sh (r .row)) [] as-tail _ (reads-tail top before sh r t _) (reads-yield _ _)))))
 
   row-of-numbers : (place : ℕ) → ShapeMatches known sh r → r .row .first ≡ origin .index
-      → as-row (name-text (sh .name) place (r .row .namelen)) ≡ numbers (pick (eqb (sh .name) 0) 0 place) (origin .offset) r
+      → as-row (name-text (sh .name) place (r .row .namelen)) ≡ numbers (cond (eqb (sh .name) 0) 0 place) (origin .offset) r
   unfolding row numbers
   row-of-numbers place s e =
       let n : ℕ = r .row .namelen in
-      let at : name-text (sh .name) place n .place ≡ pick (eqb (sh .name) 0) 0 place = text-place (eqb (sh .name) 0) (sh .name) place n refl in
+      let at : name-text (sh .name) place n .place ≡ cond (eqb (sh .name) 0) 0 place = text-place (eqb (sh .name) 0) (sh .name) place n refl in
       let long : name-text (sh .name) place n .len ≡ n = text-len (sh .name) place n (r .name) (t .name) (t .namelen) in
       rw (s .kind, s .class, s .size, s .len, s .prim, e, at, long)
 
   reads-fields : (q : ℕ) → ShapeMatches known sh r → r .row .first ≡ origin .index
       → Reads q (fields top before c origin known (r .row .hashkind) sh) (encode-fields before sh (r .row) (r .refs) (r .name))
       (item (numbers (name-in q sh (r .row)) (origin .offset) r) (r .refs) (span-in q sh (r .row))
-      (make-context (r .row .address) (pick (sh .cached) (push c (r .row .class)) c)))
+      (make-context (r .row .address) (cond (sh .cached) (push c (r .row .class)) c)))
   unfolding fields encode-fields
   reads-fields q s e =
       let place : ℕ = name-length-at q sh (r .row) in
@@ -149,7 +148,7 @@ name-after-length before pl r p n pre post e d =
     let middle : List ℕ = encode-middle sh (r .row) in
     let len : List ℕ = be (sh .name) (r .row .namelen) in
     let tag : List ℕ = be 1 (pl .tag) in
-    let flag : List ℕ = be (pick (ltb (pl .tag) 0x20) 1 0) (pl .flags) in
+    let flag : List ℕ = be (cond (ltb (pl .tag) 0x20) 1 0) (pl .flags) in
     let ahead : List ℕ = pre ++ (tag ++ (flag ++ (front ++ (middle ++ len)))) in
     let bytes-after : List ℕ = join (encode-refs sh (r .row) (r .refs) ∷ encode-tail sh (r .row) ∷ []) ++ post in
     let parts : pre ++ (encode-planned before pl (r .row) (r .refs) (r .name) ++ post) ≡ ahead ++ (r .name ++ bytes-after) = simp (append-nil, append-assoc) in
@@ -170,22 +169,22 @@ unfolding need-form
 reads-form p t fm e = rw e (reads-yield p fm)
 
 module _ (h : Header) (c : Cache) (before index : ℕ) (r : Rec) (fm : Form) (t f known p : ℕ) (s : Decodable h c before r fm t f known) where
-  reads-flag-byte : (q : ℕ) → Reads q (flag-byte h t) (be (pick (ltb t 0x20) 1 0) f) f
+  reads-flag-byte : (q : ℕ) → Reads q (flag-byte h t) (be (cond (ltb t 0x20) 1 0) f) f
   unfolding flag-byte
   reads-flag-byte q =
-      let e : not (both (h .hashed) (either (moved-bit t f) (hashed-bit t f))) ≡ true = rw (s .bits-clear) in
-      reads-end q _ _ _ f f (reads-field q (pick (ltb t 0x20) 1 0) f (s .flag-byte)) (reads-skip _ _ _ [] tt f (reads-check _ 11 _ e) (reads-yield _ f))
+      let e : not (h .hashed && (moved-bit t f || hashed-bit t f)) ≡ true = rw (s .bits-clear) in
+      reads-end q _ _ _ f f (reads-field q (cond (ltb t 0x20) 1 0) f (s .flag-byte)) (reads-skip _ _ _ [] tt f (reads-check _ 11 _ e) (reads-yield _ f))
 
   -- A record that is put at any place p of a dump is read there, whatever stands before and after it.
   pub reads-planned : r .row .first ≡ index
       → let pl : Plan = record { tag = t; flags = f; shape = shape (h .bits / 8) fm t f } in
       Reads p (entry h before c index) (encode-planned before pl (r .row) (r .refs) (r .name))
       (item (numbers (name-at p pl (r .row)) p r) (r .refs) (span-at p pl (r .row))
-      (make-context (r .row .address) (pick (pl .shape .cached) (push c (r .row .class)) c)))
+      (make-context (r .row .address) (cond (pl .shape .cached) (push c (r .row .class)) c)))
   unfolding from-tag record-body encode-planned encode-tag name-at span-at
   reads-planned e =
       let sh : Shape = shape (h .bits / 8) fm t f in
-      let w : ℕ = pick (ltb t 0x20) 1 0 in
+      let w : ℕ = cond (ltb t 0x20) 1 0 in
       let body : List ℕ = encode-fields before sh (r .row) (r .refs) (r .name) in
       reads-entry h before c index p
       (rw (append-assoc (be 1 t) (be w f))
@@ -210,7 +209,7 @@ module _ (h : Header) (c : Cache) (before index : ℕ) (r : Rec) (fm : Form) (t 
       all = pre ++ (encode-planned before pl (r .row) (r .refs) (r .name) ++ post)
 
       by : (b : Bool) → eqb (pl .shape .name) 0 ≡ b
-          → take (r .row .namelen) (drop (pick b 0 (name-length-at (fields-at p pl) (pl .shape) (r .row) + pl .shape .name)) all) ≡ r .name
+          → take (r .row .namelen) (drop (cond b 0 (name-length-at (fields-at p pl) (pl .shape) (r .row) + pl .shape .name)) all) ≡ r .name
       by true k =
           let z : r .name ≡ [] = no-name (pl .shape .name) (r .name) (s .fit .name) (eqb-true _ _ k) in
           let n : r .row .namelen ≡ 0 = sym (s .fit .namelen) ∙ ap length z in

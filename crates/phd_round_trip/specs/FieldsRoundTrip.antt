@@ -2,13 +2,12 @@
 -- Assumes nothing.
 use mathlib.Core.Path.{_≡_, refl}
 use Prim.Native.Nat.{ℕ, zero, suc, _+_, _%_, _^_, _≤_, _<_}
-use mathlib.Core.Bool.{true}
+use mathlib.Core.Bool.{true, cond}
 use mathlib.Core.List.{List, [], _∷_, _++_}
 use native.Mathlib.Omega.{arith}
 use lib.ListN.{length}
 use lib.Dec.{eqb}
 use borrow.Author.Tests.{le-leb, ne-eqb}
-use Rattle.decode.specs.Numbers.{pick}
 use Rattle.decode.specs.Layout.{field, position}
 use Rattle.decode.specs.Fields.{count, no-string}
 use Rattle.decode.specs.declared.StringSpan.{StringSpan}
@@ -38,7 +37,7 @@ reads-count-field p w v h = rw (be-field-value w v) at (reads-count p w (field-v
 
 -- a name of a length at a place, where the form has one: its length is put in w bytes
 abbrev pub name-text : ℕ → ℕ → ℕ → StringSpan
-name-text w place len = pick (eqb w 0) no-string (record { present = true; place = place; len = len })
+name-text w place len = cond (eqb w 0) no-string (record { present = true; place = place; len = len })
 
 reads-name : (p w len : ℕ) (name : List ℕ) → NameFits w name → length name ≡ len → Reads p (class-name w) (be w len ++ name) (name-text w (p + w) len)
 unfolding class-name be

@@ -2,13 +2,12 @@
 -- they name. Assumes nothing.
 use mathlib.Core.Path.{_≡_, refl, sym}
 use Prim.Native.Nat.{ℕ, _+_, _*_, _/_, _%_, _^_, _≤_, _<_}
-use mathlib.Core.Bool.{Bool, true, false}
+use mathlib.Core.Bool.{Bool, true, false, cond}
 use lib.Dec.{ltb, lit<}
 use lib.Pow.{pow-pos}
 use native.Mathlib.Omega.{arith}
 use borrow.Author.Tests.{le-leb, lt-leb, le-ltb, ne-eqb}
 use Rattle.decode.specs.Values.{true-not-false}
-use Rattle.decode.specs.Numbers.{pick}
 use Rattle.decode.specs.declared.Maybe.the-variants.{Just}
 use Rattle.encode.specs.Encode.{gap, fits, width-code, refs-code}
 use Rattle.encode.specs.Widths.{gap-fits, code-lt, code-fits, refs-code-lt, refs-code-fits}
@@ -33,7 +32,7 @@ module _ (h : Header) (c : Cache) (before index : ℕ) (r : Rec)
     (w : AddressSize (h .bits)) (g : GoodRec h index r) (bf : before % 4 ≡ 0) (bl : before ≤ max-address (h .bits)) where
   -- the tag and the flag byte name the form and the shape sh: sound, if the record fits the shape and the shape says it
   pub decodable-of : (fm : Form) (t f known : ℕ) (sh : Shape)
-      → t < 256 → (t ≡ 3 → ⊥) → tag-form t ≡ Begins fm → slot-class c t ≡ Just known → f < 256 ^ pick (ltb t 0x20) 1 0
+      → t < 256 → (t ≡ 3 → ⊥) → tag-form t ≡ Begins fm → slot-class c t ≡ Just known → f < 256 ^ cond (ltb t 0x20) 1 0
       → HashBits (h .hashed) (r .row .hashkind) (moved-bit t f) (hashed-bit t f)
       → shape (h .bits / 8) fm t f ≡ sh → FormFits h before sh r → ShapeMatches known sh r
       → Decodable h c before r fm t f known

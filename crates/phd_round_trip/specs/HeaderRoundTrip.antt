@@ -3,14 +3,14 @@
 use mathlib.Core.Path.{_≡_, refl}
 use mathlib.Core.Logic.{⊎-elim}
 use Prim.Native.Nat.{ℕ, _+_, _^_, _<_}
-use mathlib.Core.Bool.{Bool, true, false}
+use mathlib.Core.Bool.{Bool, true, false, cond}
 use mathlib.Core.List.{List, [], _∷_, _++_, append-nil, append-assoc}
 use lib.ListN.{length, length-append}
 use lib.Seq.{take-at, drop-at}
 use lib.Dec.{eqb, lit<}
 use native.Mathlib.Omega.{arith}
 use borrow.Author.Tests.{eq-eqb, lt-ltb}
-use Rattle.decode.specs.Numbers.{pick, all-within}
+use Rattle.decode.specs.Numbers.{all-within}
 use Rattle.decode.specs.Layout.{Layout, field, raw, _>>_}
 use Rattle.decode.specs.Fields.{exactly, below, string, no-string}
 use Rattle.decode.specs.declared.StringSpan.{StringSpan}
@@ -28,7 +28,7 @@ use Rattle.phd_write.specs.HeaderBytes.{length-preamble, header-parts}
 
 -- the VM string stands 32 bytes into a dump
 unfoldable pub written-vm : StringSpan → StringSpan
-written-vm t = pick (t .present) (record { present = true; place = 32; len = t .len }) no-string
+written-vm t = cond (t .present) (record { present = true; place = 32; len = t .len }) no-string
 
 -- the facts of a header that was written, as they are read
 abbrev pub written-header : Header → Header
@@ -95,8 +95,8 @@ reads-vm names t g = by (t .present) refl
     v = vm-in-bounds names t g
 
     by : (b : Bool) → t .present ≡ b
-        → Reads 29 header-records (pick b (join (be 1 4 ∷ be 2 (t .len) ∷ vm-text names t ∷ [])) [] ++ be 1 2)
-        (pick b (record { present = true; place = 32; len = t .len }) no-string)
+        → Reads 29 header-records (cond b (join (be 1 4 ∷ be 2 (t .len) ∷ vm-text names t ∷ [])) [] ++ be 1 2)
+        (cond b (record { present = true; place = 32; len = t .len }) no-string)
     by true e = reads-vm-string (vm-text names t) (t .len) (length-vm-text names t v e) (v .short e) (v .printable e)
     by false e = reads-end 29 (field 1) _ (be 1 2) 2 no-string (reads-field 29 1 2 (lit< tt)) (reads-yield _ no-string)
 
@@ -113,7 +113,7 @@ header-flags-bits false true false = (lit< tt, refl, refl, refl)
 header-flags-bits false false true = (lit< tt, refl, refl, refl)
 header-flags-bits false false false = (lit< tt, refl, refl, refl)
 
-bits-of-flag : (w : ℕ) → ValidBits w → pick (eqb w 64) 64 32 ≡ w
+bits-of-flag : (w : ℕ) → ValidBits w → cond (eqb w 64) 64 32 ≡ w
 bits-of-flag w k = ⊎-elim (λ e. rw e) (λ e. rw e) k
 
 header-of-flags : (h : Header) → ValidBits (h .bits) → make-header (header-flags h) (written-vm (h .vm)) ≡ written-header h
@@ -147,7 +147,7 @@ pub written-vm-present : (t : StringSpan) → written-vm t .present ≡ t .prese
 unfolding written-vm
 written-vm-present t = by (t .present)
   where
-    by : (b : Bool) → pick b (record { present = true; place = 32; len = t .len }) no-string .present ≡ b
+    by : (b : Bool) → cond b (record { present = true; place = 32; len = t .len }) no-string .present ≡ b
     by true = refl
     by false = refl
 

@@ -5,11 +5,11 @@ use mathlib.Core.Path.{_≡_, ap, _∙_}
 use Prim.Native.Nat.{ℕ, _*_, _≤_, _<_}
 use native.Mathlib.Omega.{arith}
 use mathlib.Core.List.{List}
+use mathlib.Core.Bool.{cond}
 use lib.ListN.{length, take, length-append}
 use lib.Seq.{take-append-le}
 use lib.Dec.{leb}
 use borrow.Author.Tests.{le-leb}
-use Rattle.decode.specs.Numbers.{pick}
 use Rattle.table.specs.Table.{row-width}
 use Rattle.table.specs.Rows.{Rec, recs, rows-of, first-recs}
 use Rattle.table.specs.Buffer.{overwrite}
@@ -33,7 +33,7 @@ pub record CutRead (h : Header) (names : List ℕ) (rs : List Rec) (n m : ℕ) (
   pub refs-count : b .refs ≡ length (all-refs (cut-recs names h rs m))
   pub refs-all : take (b .refs) refs ≡ all-refs (cut-recs names h rs m)
   -- done exactly if all bytes written lie within it, and else cut, with the place where that is
-  pub reply : b .reply ≡ pick (leb n m) 0 1
+  pub reply : b .reply ≡ cond (leb n m) 0 1
   pub place : b .place ≡ stop-at names h rs m
   -- the header is the one passed in, if it lies within the cut
   pub header : length (encode-header names h) ≤ m → SameHeader h names (b .header) (take m out)

@@ -3,12 +3,12 @@
 use mathlib.Core.Path.{_≡_, refl, sym}
 use Prim.Native.Nat.{ℕ, zero, suc, _+_, _*_, _%_, _≤_, _<_}
 use mathlib.Core.List.{List, [], _∷_, _++_, append-nil, append-assoc}
+use mathlib.Core.Bool.{cond}
 use lib.ListN.{length, take, length-append}
 use lib.Dec.{leb, lit<}
 use native.Mathlib.Omega.{arith}
 use native.Mathlib.Decide.{decLe}
 use borrow.Author.Tests.{le-leb, lt-leb}
-use Rattle.decode.specs.Numbers.{pick}
 use Rattle.decode.specs.Layout.{whole, stops, field, reply-of, missing-of}
 use Rattle.decode.specs.CutLaws.{run-prefix, prefix-cut}
 use Rattle.decode.specs.declared.Stop.the-variants.{Cut}
@@ -55,7 +55,7 @@ length-decoded-rows h p before c (r ∷ rs) =
 pub record ReadsCutFrom (m total : ℕ) (h : Header) (st : State) (rs : List Rec) (rd : Result) : Type 0 where
   pub rows : rd .rows ≡ st .rows ++ decoded-rows h (st .at) (st .context .address) (st .context .cache) (within-cut m h (st .at) (st .context .address) (st .context .cache) rs)
   pub refs : rd .refs ≡ st .refs ++ all-refs (within-cut m h (st .at) (st .context .address) (st .context .cache) rs)
-  pub reply : rd .reply ≡ pick (leb total m) 0 1
+  pub reply : rd .reply ≡ cond (leb total m) 0 1
   pub place : rd .place ≡ stop-in m h (st .at) (st .context .address) (st .context .cache) rs
   pub header : rd .header ≡ h
 
@@ -97,7 +97,7 @@ reads-cut-beyond m total k h st r rs l t = record {
 }
 
 -- no record is left
-reads-cut-end : (m total : ℕ) (h : Header) (st : State) (reply place k : ℕ) → reply ≡ pick (leb total m) 0 1
+reads-cut-end : (m total : ℕ) (h : Header) (st : State) (reply place k : ℕ) → reply ≡ cond (leb total m) 0 1
     → place ≡ stop-in m h (st .at) (st .context .address) (st .context .cache) []
     → ReadsCutFrom m total h st [] (ended h st reply place k)
 unfolding within-cut decoded-rows all-refs ended

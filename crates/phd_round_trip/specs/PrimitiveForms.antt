@@ -2,13 +2,12 @@
 -- fits the shape that they name. Assumes nothing.
 use mathlib.Core.Path.{_≡_, refl, sym}
 use Prim.Native.Nat.{ℕ, _+_, _*_, _/_, _%_, _^_, _≤_, _<_}
-use mathlib.Core.Bool.{Bool, true, false}
+use mathlib.Core.Bool.{Bool, true, false, cond}
 use lib.Dec.{eqb, lit<, lit≤}
 use lib.IntN.{ℤ, pos}
 use native.Mathlib.Omega.{arith}
 use borrow.Author.Tests.{le-leb, lt-leb, le-ltb, lt-ltb, ltb-true, eqb-true}
 use Rattle.decode.specs.Values.{true-not-false}
-use Rattle.decode.specs.Numbers.{pick}
 use Rattle.encode.specs.Encode.{gap, fits, width-code, max}
 use Rattle.encode.specs.Widths.{gap-fits, code-lt, code-fits-wider, le-max-left, le-max-right, max-lt}
 use Rattle.phd.specs.Phd.{max-address, tag-form, slot-class, moved-bit, hashed-bit, width, bit, make-shape, shape, field-or}
@@ -101,7 +100,7 @@ module _ (h : Header) (c : Cache) (before index : ℕ) (r : Rec)
         (primitive-shape-matches (width p) (l .1))
 
     -- v says whether the two are as wide as W, of u bytes then, or one byte each
-    long-primitive-by-width : (v u : ℕ) → v < 2 → pick (eqb v 1) (h .bits / 8) 1 ≡ u → 1 ≤ u → fits u (gap before (r .row .address)) ≡ true
+    long-primitive-by-width : (v u : ℕ) → v < 2 → cond (eqb v 1) (h .bits / 8) 1 ≡ u → 1 ≤ u → fits u (gap before (r .row .address)) ≡ true
         → r .row .len + r .row .len < 256 ^ u
         → Decodable h c before r LongPrimitive 7 (0x20 * r .row .prim + 0x10 * v + hash-flags (r .row .hashkind)) 0
     unfolding tag-form slot-class moved-bit hashed-bit shape bit
@@ -123,7 +122,7 @@ module _ (h : Header) (c : Cache) (before index : ℕ) (r : Rec)
         p = max (width-code (gap before (r .row .address))) (width-code (pos (r .row .len)))
 
         by : (a : Bool) → eqb p 0 ≡ a
-            → Decodable h c before r LongPrimitive 7 (0x20 * r .row .prim + 0x10 * pick a 0 1 + hash-flags (r .row .hashkind)) 0
+            → Decodable h c before r LongPrimitive 7 (0x20 * r .row .prim + 0x10 * cond a 0 1 + hash-flags (r .row .hashkind)) 0
         by true e = let l = pair-code-fits 0 (eqb-true p 0 e) in long-primitive-by-width 0 1 (lit< tt) refl (lit≤ tt) (l .0) (l .1)
         by false e = long-primitive-by-width 1 (h .bits / 8) (lit< tt) refl (w .some)
             (gap-fits (h .bits / 8) before (r .row .address) (omega (arith, w .max-address-fits)) (omega (arith, g .most, w .max-address-fits)))

@@ -3,14 +3,13 @@
 -- A reader must believe the statements and their records. Assumes nothing.
 use mathlib.Core.Path.{_≡_, refl, sym, ap, subst, _∙_}
 use Prim.Native.Nat.{ℕ, _+_, _-_, _*_, _≤_, _<_}
-use mathlib.Core.Bool.{true}
+use mathlib.Core.Bool.{true, cond}
 use mathlib.Core.List.{List, [], append-nil, _++_}
 use lib.ListN.{length, take, drop, length-append}
 use lib.Seq.{take-length, take-append-seam, take-append-add}
 use lib.Dec.{leb}
 use native.Mathlib.Omega.{arith}
 use borrow.Author.Tests.{le-leb}
-use Rattle.decode.specs.Numbers.{pick}
 use Rattle.table.specs.Table.{row-width, row-count}
 use Rattle.table.specs.Rows.{Rec, recs, rows-of, first-recs, first-recs-all, length-rows}
 use Rattle.table.specs.Buffer.{overwrite}
@@ -124,7 +123,7 @@ pub record PrefixRead (h : Header) (names refs : List ℕ) (rows : List Row) (by
   pub rows-count : row-count (rd .rows) ≡ length (cut-recs names h (recs names refs rows) m)
   pub refs-all : rd .refs ≡ all-refs (cut-recs names h (recs names refs rows) m)
   -- the reply is cut exactly when the end tag, which is the last byte, lies outside the cut, and else done
-  pub reply : rd .reply ≡ pick (leb (length bytes) m) 0 1
+  pub reply : rd .reply ≡ cond (leb (length bytes) m) 0 1
   -- with it, the place: after the end tag, or else the tag of the first record that is not whole, and 0 in the header
   pub place : rd .place ≡ stop-at names h (recs names refs rows) m
   -- the header is the one passed in, if it lies within the cut, and else there are no header facts
@@ -158,7 +157,7 @@ pub record PrefixReadTables (h : Header) (names refs : List ℕ) (rows : List Ro
   pub records : first-recs (read-answer rd .rows) (take m bytes) (overwrite refs′ (rd .refs)) (overwrite rows′ (rd .rows)) ≡ cut-recs names h (recs names refs rows) m
   pub rows-count : read-answer rd .rows ≡ length (cut-recs names h (recs names refs rows) m)
   pub refs-count : read-answer rd .refs ≡ length (all-refs (cut-recs names h (recs names refs rows) m))
-  pub reply : read-answer rd .reply ≡ pick (leb (length bytes) m) 0 1
+  pub reply : read-answer rd .reply ≡ cond (leb (length bytes) m) 0 1
   pub place : read-answer rd .place ≡ stop-at names h (recs names refs rows) m
   pub refs-all : take (read-answer rd .refs) (overwrite refs′ (rd .refs)) ≡ all-refs (cut-recs names h (recs names refs rows) m)
   pub header : length (encode-header names h) ≤ m → SameHeader h names (read-answer rd .header) (take m bytes)

@@ -6,11 +6,10 @@ use mathlib.Core.Logic.{inl, inr}
 use Prim.Native.Nat.{ℕ, _+_, _*_, _/_, _%_, _≤_, _<_}
 use native.Mathlib.Nat.{mul-le-mul-left}
 use native.Mathlib.Omega.{arith}
-use mathlib.Core.Bool.{Bool, true, false}
+use mathlib.Core.Bool.{Bool, true, false, cond}
 use mathlib.Core.List.{List, [], _∷_}
 use lib.Dec.{leb, eqb}
 use borrow.Author.Tests.{le-leb, le-ltb, lt-ltb, leb-true, leb-false}
-use Rattle.decode.specs.Numbers.{pick}
 use Rattle.decode.specs.Takes.{AddressIn, CountIn}
 use Rattle.decode.specs.declared.Maybe.the-variants.{Just}
 use Rattle.encode.specs.Widths.{AllFit}
@@ -54,8 +53,8 @@ tag-in-form fm t = by (leb 0x80 t) (leb 0x40 t) (leb 0x20 t) (eqb t 4) (eqb t 6)
     that f x e = let z : f ≡ fm = cc in subst (λ f. TagInForm f t) z x
 
     by : (a b d l c p o : Bool) → leb 0x80 t ≡ a → leb 0x40 t ≡ b → leb 0x20 t ≡ d
-        → pick a (Begins Short) (pick b (Begins Medium) (pick d (Begins Primitive) (pick l (Begins Long) (pick c (Begins Class)
-        (pick p (Begins LongPrimitive) (pick o (Begins ObjectArray) Other)))))) ≡ Begins fm → TagInForm fm t
+        → cond a (Begins Short) (cond b (Begins Medium) (cond d (Begins Primitive) (cond l (Begins Long) (cond c (Begins Class)
+        (cond p (Begins LongPrimitive) (cond o (Begins ObjectArray) Other)))))) ≡ Begins fm → TagInForm fm t
     by true b d l c p o ea eb ed e = that Short (leb-true 0x80 t ea) e
     by false true d l c p o ea eb ed e = that Medium (omega (arith, leb-true 0x40 t eb)) e
     by false false true l c p o ea eb ed e = that Primitive (leb-true 0x20 t ed) e
@@ -70,7 +69,7 @@ no-flag-byte-hash : (h : Header) (t : ℕ) → needs-flag-byte (hash-kind h t 0)
 unfolding needs-flag-byte hash-kind moved-bit hashed-bit bit
 no-flag-byte-hash h t = by (h .hashed) (eqb t 6)
   where
-    by : (a b : Bool) → needs-flag-byte (pick a 3 (pick (pick b false false) 2 (pick (pick b false false) 1 0))) ≡ false
+    by : (a b : Bool) → needs-flag-byte (cond a 3 (cond (cond b false false) 2 (cond (cond b false false) 1 0))) ≡ false
     by true b = refl
     by false true = refl
     by false false = refl
@@ -90,7 +89,7 @@ primitive-bytes-size : (w k p more : ℕ) → p ≡ 0 → primitive-size w k p m
 unfolding primitive-size width
 primitive-bytes-size w k p more z = rw z (by (needs-flag-byte k))
   where
-    by : (a : Bool) → pick a (make-size (8 + more) false) (make-size (5 + 2 * 1 + more) false) .size ≤ 8 + more
+    by : (a : Bool) → cond a (make-size (8 + more) false) (make-size (5 + 2 * 1 + more) false) .size ≤ 8 + more
     by true = omega arith
     by false = omega arith
 
@@ -98,7 +97,7 @@ primitive-words-size : (w k p more : ℕ) → 1 ≤ w → width p ≤ w → prim
 unfolding primitive-size
 primitive-words-size w k p more s l = by (needs-flag-byte k) (eqb p 0)
   where
-    by : (a b : Bool) → pick a (pick b (make-size (8 + more) false) (make-size (6 + 2 * w + more) false)) (make-size (5 + 2 * width p + more) false) .size ≤ 6 + 2 * w + more
+    by : (a b : Bool) → cond a (cond b (make-size (8 + more) false) (make-size (6 + 2 * w + more) false)) (make-size (5 + 2 * width p + more) false) .size ≤ 6 + 2 * w + more
     by true true = omega arith
     by true false = omega arith
     by false b = omega arith
@@ -180,8 +179,8 @@ module _ (h : Header) (c : Cache) (before index : ℕ) (r : Rec)
       by (inr e) = (3, rw e)
 
   -- a long primitive array, of which the gap and the length are bytes or words
-  long-primitive-le : (d : Bool) → AddressIn (pick d address-size 1) before top (r .row .address) → CountIn (pick d address-size 1) (r .row .len)
-      → primitive-size address-size (r .row .hashkind) (m .paircode) (hash-name-size (r .row)) .size ≤ 6 + 2 * pick d address-size 1 + hash-name-size (r .row)
+  long-primitive-le : (d : Bool) → AddressIn (cond d address-size 1) before top (r .row .address) → CountIn (cond d address-size 1) (r .row .len)
+      → primitive-size address-size (r .row .hashkind) (m .paircode) (hash-name-size (r .row)) .size ≤ 6 + 2 * cond d address-size 1 + hash-name-size (r .row)
   unfolding width
   long-primitive-le true p q =
       let k = address-size-is-width in

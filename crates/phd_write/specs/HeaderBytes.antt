@@ -3,10 +3,9 @@
 use mathlib.Core.Path.{_≡_, refl}
 use Prim.Native.Nat.{ℕ, _+_, _<_}
 use native.Mathlib.Omega.{arith}
-use mathlib.Core.Bool.{Bool, true, false}
+use mathlib.Core.Bool.{Bool, true, false, cond}
 use mathlib.Core.List.{List, [], _∷_, _++_, append-nil}
 use lib.ListN.{length, length-append}
-use Rattle.decode.specs.Numbers.{pick}
 use Rattle.decode.specs.declared.StringSpan.{StringSpan}
 use Rattle.encode.specs.Encode.{join, be}
 use Rattle.encode.specs.NumberRoundTrip.{length-be}
@@ -27,13 +26,13 @@ header-parts names h = rw append-nil
 
 -- how many bytes the VM string's record has
 unfoldable pub vm-size : StringSpan → ℕ
-vm-size t = pick (t .present) (3 + t .len) 0
+vm-size t = cond (t .present) (3 + t .len) 0
 
 pub length-vm : (names : List ℕ) (t : StringSpan) → VmInBounds names t → length (encode-vm names t) ≡ vm-size t
 unfolding encode-vm vm-size
 length-vm names t v = by (t .present) refl
   where
-    by : (b : Bool) → t .present ≡ b → length (pick b (join (be 1 4 ∷ be 2 (t .len) ∷ vm-text names t ∷ [])) []) ≡ pick b (3 + t .len) 0
+    by : (b : Bool) → t .present ≡ b → length (cond b (join (be 1 4 ∷ be 2 (t .len) ∷ vm-text names t ∷ [])) []) ≡ cond b (3 + t .len) 0
     by true e = let l = length-vm-text names t v e in simp (length-append, length-be, append-nil) (omega arith)
     by false e = refl
 
@@ -49,6 +48,6 @@ pub header-small : (names : List ℕ) (h : Header) → VmInBounds names (h .vm) 
 unfolding header-size vm-size
 header-small names h v = by (h .vm .present) refl
   where
-    by : (b : Bool) → h .vm .present ≡ b → 31 + pick b (3 + h .vm .len) 0 < 65570
+    by : (b : Bool) → h .vm .present ≡ b → 31 + cond b (3 + h .vm .len) 0 < 65570
     by true e = let s = v .short e in omega arith
     by false e = omega arith

@@ -4,9 +4,9 @@ use mathlib.Core.Path.{_≡_, refl}
 use Prim.Native.Nat.{ℕ, suc, _+_, _-_, _*_, _/_, _%_, _≤_, _<_}
 use native.Mathlib.Omega.{arith}
 use mathlib.Core.List.{List, _++_}
+use mathlib.Core.Bool.{cond}
 use lib.ListN.{length}
 use Rattle.encode.specs.Encode.{be}
-use Rattle.decode.specs.Numbers.{pick}
 use Rattle.phd.specs.Phd.{max-address, push, shape}
 use Rattle.phd.specs.Shapes.{ValidBits, WidthsLe8, shape-widths-le-8}
 use Rattle.phd.specs.declared.cache.Cache.{Cache}
@@ -50,7 +50,7 @@ module _ (h : Header) (names refs table : List ℕ) where
   nth-size i before c = plan-size (nth-plan i before c) (row-at table i)
 
   abbrev pub cache-after-nth : ℕ → ℕ → Cache → Cache
-  cache-after-nth i before c = pick (nth-plan i before c .shape .cached) (push c (row-at table i .class)) c
+  cache-after-nth i before c = cond (nth-plan i before c .shape .cached) (push c (row-at table i .class)) c
 
   -- Between two rows: the next has number i, its references begin at `index`, and it is after a record at `before`.
   pub record BetweenRows (i index before : ℕ) : Type 0 where

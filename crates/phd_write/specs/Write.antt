@@ -2,11 +2,10 @@
 -- answers.
 -- A reader must believe these definitions.
 use Prim.Native.Nat.{ℕ, _+_}
-use mathlib.Core.Bool.{Bool}
+use mathlib.Core.Bool.{Bool, cond, _&&_}
 use mathlib.Core.List.{List, [], _∷_, _++_}
 use lib.ListN.{length}
 use lib.Dec.{leb, eqb}
-use Rattle.decode.specs.Numbers.{pick, both}
 use Rattle.decode.specs.declared.StringSpan.{StringSpan}
 use Rattle.encode.specs.Encode.{join, be}
 use Rattle.phd.specs.Phd.{limit, magic, empty-cache}
@@ -24,14 +23,14 @@ use Rattle.phd_encode.specs.EncodeRecord.{encode-record, cache-after}
 
 -- the header's flags: 1 W is 64, 2 all objects hashed, 4 from OpenJ9
 abbrev pub flag-value : Bool → ℕ → ℕ
-flag-value b n = pick b n 0
+flag-value b n = cond b n 0
 
 unfoldable pub header-flags : Header → ℕ
 header-flags h = flag-value (eqb (h .bits) 64) 1 + flag-value (h .hashed) 2 + flag-value (h .openj9) 4
 
 -- the header record of the VM string, whose place and length are those in the name bytes
 unfoldable pub encode-vm : List ℕ → StringSpan → List ℕ
-encode-vm names t = pick (t .present) (join (be 1 4 ∷ be 2 (t .len) ∷ vm-text names t ∷ [])) []
+encode-vm names t = cond (t .present) (join (be 1 4 ∷ be 2 (t .len) ∷ vm-text names t ∷ [])) []
 
 -- the opening string, the version, the flags and the byte 1
 unfoldable pub encode-preamble : ℕ → List ℕ
@@ -53,7 +52,7 @@ encode-dump names h rs = encode-header names h ++ encode-records h 0 empty-cache
 
 -- a dump has room in the output, and is within the size limit
 unfoldable pub fits-capacity : ℕ → List ℕ → Bool
-fits-capacity out-capacity dump = both (leb (length dump) out-capacity) (leb (length dump) limit)
+fits-capacity out-capacity dump = leb (length dump) out-capacity && leb (length dump) limit
 
 -- What writing rows and their references under the header h gives, with the name bytes passed in and an output of `room` bytes. The
 -- writer looks for no class.

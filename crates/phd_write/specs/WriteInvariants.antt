@@ -5,8 +5,8 @@ use mathlib.Core.Path.{_≡_, refl, ap, _∙_}
 use Prim.Native.Nat.{ℕ, _+_, _*_, _^_, _≤_, _<_}
 use native.Mathlib.Omega.{arith}
 use mathlib.Core.List.{List, [], _++_, append-nil}
+use mathlib.Core.Bool.{cond}
 use lib.ListN.{length, length-append}
-use Rattle.decode.specs.Numbers.{pick}
 use Rattle.encode.specs.Encode.{be}
 use Rattle.encode.specs.NumberRoundTrip.{length-be}
 use Rattle.encode.specs.Writes.{Writes, HasCapacity, Remaining, capacity-first, remaining-start, remaining-next, remaining-capacity, remaining-done}
@@ -127,11 +127,11 @@ module _ (h : Header) (names refs table : List ℕ) where
       sized-is : s ≡ record-size (nth-plan h names refs table i before c) (row-at table i)
       sized-is = f ∙ ap (λ (x : Row). record-size (plan-row h refs before c x) x) e
 
-      cached-is : (k : Cache) → k ≡ pick (s .cached) (push c (r .class)) c → k ≡ cache-after-nth h names refs table i before c
+      cached-is : (k : Cache) → k ≡ cond (s .cached) (push c (r .class)) c → k ≡ cache-after-nth h names refs table i before c
       unfolding record-size
       cached-is k g = rw (sized-is, e) at g
 
-      pub size-loop-row : (header total : ℕ) (k : Cache) → k ≡ pick (s .cached) (push c (r .class)) c
+      pub size-loop-row : (header total : ℕ) (k : Cache) → k ≡ cond (s .cached) (push c (r .class)) c
           → ValidBits (h .bits) → SizeLoop header i before total c → i < row-count table → SizeLoop header (i + 1) (r .address) (total + s .size) k
       unfolding record-size
       size-loop-row header total k g w z l = rw (cached-is k g, sized-is, e) (size-loop-step header i before total c w z l)
@@ -155,12 +155,12 @@ module _ (h : Header) (names refs table : List ℕ) where
       bytes-is : encode-planned before p r (refs-of refs r) (name-of names r) ≡ nth-bytes h names refs table i before c
       bytes-is = rw (plan-is, e)
 
-      cache-is : (k : Cache) → k ≡ pick (p .shape .cached) (push c (r .class)) c → k ≡ cache-after-nth h names refs table i before c
+      cache-is : (k : Cache) → k ≡ cond (p .shape .cached) (push c (r .class)) c → k ≡ cache-after-nth h names refs table i before c
       cache-is k g = rw (plan-is, e) at g
 
       pub encode-loop-row : (at₀ : ℕ) (out₀ : List ℕ) (to : ℕ) (out : List ℕ) → EncodeLoop at₀ out₀ i before to c out → ValidBits (h .bits) → i < row-count table
           → (to′ : ℕ) (out′ : List ℕ) (k : Cache) → Writes out to (encode-planned before p r (refs-of refs r) (name-of names r)) out′ to′
-          → k ≡ pick (p .shape .cached) (push c (r .class)) c → EncodeLoop at₀ out₀ (i + 1) (r .address) to′ k out′
+          → k ≡ cond (p .shape .cached) (push c (r .class)) c → EncodeLoop at₀ out₀ (i + 1) (r .address) to′ k out′
       encode-loop-row at₀ out₀ to out z w l to′ out′ k a j =
           rw (cache-is k j, e) (encode-loop-step at₀ out₀ i before to c out z w l to′ out′ (rw bytes-is at a))
 

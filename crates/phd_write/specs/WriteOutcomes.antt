@@ -3,13 +3,12 @@
 use mathlib.Core.Path.{_≡_, refl, ap, _∙_}
 use mathlib.Core.Logic.{_⊎_, inl, inr}
 use Prim.Native.Nat.{ℕ, _≤_, _<_}
-use mathlib.Core.Bool.{Bool, true, false}
+use mathlib.Core.Bool.{Bool, true, false, _&&_}
 use mathlib.Core.List.{List, [], _∷_, _++_, append-assoc}
 use lib.ListN.{length}
 use lib.Dec.{leb}
 use borrow.Author.Tests.{le-leb, lt-leb, leb-true, leb-false}
-use Rattle.decode.specs.Numbers.{both}
-use Rattle.decode.specs.Values.{both-left, both-right}
+use Rattle.decode.specs.Values.{and-left, and-right}
 use Rattle.encode.specs.Encode.{be}
 use Rattle.table.specs.Rows.{Rec}
 use Rattle.table.specs.CheckOrder.{WriteResult, done, checked-write, checked-input, CheckReplies, check-replies}
@@ -39,35 +38,35 @@ encode-records-end h before c (r ∷ rs) = ends-append (encode-record h before c
 -- ---- the ways
 
 -- room that there is or not, as a test
-both-true : (a b : Bool) → a ≡ true → b ≡ true → both a b ≡ true
-both-true a b p q = rw (p, q)
+and-of : (a b : Bool) → a ≡ true → b ≡ true → a && b ≡ true
+and-of a b p q = rw (p, q)
 
-not-both : (a b : Bool) → (a ≡ false) ⊎ (b ≡ false) → both a b ≡ false
-not-both a b (inl p) = rw p
-not-both true b (inr p) = p
-not-both false b (inr p) = refl
+and-false-of : (a b : Bool) → (a ≡ false) ⊎ (b ≡ false) → a && b ≡ false
+and-false-of a b (inl p) = rw p
+and-false-of true b (inr p) = p
+and-false-of false b (inr p) = refl
 
-which : (a b : Bool) → both a b ≡ false → (a ≡ false) ⊎ (b ≡ false)
-which true b e = inr e
-which false b e = inl refl
+and-false-cases : (a b : Bool) → a && b ≡ false → (a ≡ false) ⊎ (b ≡ false)
+and-false-cases true b e = inr e
+and-false-cases false b e = inl refl
 
 pub fits-capacity-true : (out-capacity : ℕ) (dump : List ℕ) → length dump ≤ out-capacity → length dump ≤ limit → fits-capacity out-capacity dump ≡ true
 unfolding fits-capacity
-fits-capacity-true out-capacity dump l m = both-true _ _ (le-leb _ _ l) (le-leb _ _ m)
+fits-capacity-true out-capacity dump l m = and-of _ _ (le-leb _ _ l) (le-leb _ _ m)
 
 pub fits-capacity-false : (out-capacity : ℕ) (dump : List ℕ) → TooLong out-capacity dump → fits-capacity out-capacity dump ≡ false
 unfolding fits-capacity
-fits-capacity-false out-capacity dump (inl p) = not-both (leb (length dump) out-capacity) (leb (length dump) limit) (inl (lt-leb (length dump) out-capacity p))
-fits-capacity-false out-capacity dump (inr p) = not-both (leb (length dump) out-capacity) (leb (length dump) limit) (inr (lt-leb (length dump) limit p))
+fits-capacity-false out-capacity dump (inl p) = and-false-of (leb (length dump) out-capacity) (leb (length dump) limit) (inl (lt-leb (length dump) out-capacity p))
+fits-capacity-false out-capacity dump (inr p) = and-false-of (leb (length dump) out-capacity) (leb (length dump) limit) (inr (lt-leb (length dump) limit p))
 
 pub fits-capacity-bounds : (out-capacity : ℕ) (dump : List ℕ) → fits-capacity out-capacity dump ≡ true → (length dump ≤ out-capacity) × (length dump ≤ limit)
 unfolding fits-capacity
 fits-capacity-bounds out-capacity dump e =
-    (leb-true _ _ (both-left (leb (length dump) out-capacity) (leb (length dump) limit) e), leb-true _ _ (both-right (leb (length dump) out-capacity) (leb (length dump) limit) e))
+    (leb-true _ _ (and-left (leb (length dump) out-capacity) (leb (length dump) limit) e), leb-true _ _ (and-right (leb (length dump) out-capacity) (leb (length dump) limit) e))
 
 pub fits-capacity-fails : (out-capacity : ℕ) (dump : List ℕ) → fits-capacity out-capacity dump ≡ false → TooLong out-capacity dump
 unfolding fits-capacity
-fits-capacity-fails out-capacity dump e = by (which (leb (length dump) out-capacity) (leb (length dump) limit) e)
+fits-capacity-fails out-capacity dump e = by (and-false-cases (leb (length dump) out-capacity) (leb (length dump) limit) e)
   where
     by : (leb (length dump) out-capacity ≡ false) ⊎ (leb (length dump) limit ≡ false) → TooLong out-capacity dump
     by (inl p) = inl (leb-false _ _ p)
@@ -94,7 +93,7 @@ module _ (h : Header) (names refs : List ℕ) (rows : List Row) (out-capacity : 
 
 -- ---- asking for the size
 
-both-self : (b : Bool) → b ≡ both b b
+both-self : (b : Bool) → b ≡ b && b
 both-self true = refl
 both-self false = refl
 

@@ -2,11 +2,10 @@
 -- and a stop keeps its place. A reader must believe these definitions.
 -- A dump and the tables are lists of numbers, a byte being one below 256. A reply is 01's number.
 use Prim.Native.Nat.{ℕ, zero, suc, _+_, _≤_}
-use mathlib.Core.Bool.{true, false}
+use mathlib.Core.Bool.{true, false, cond}
 use mathlib.Core.List.{List, [], _++_}
 use lib.ListN.{length}
 use lib.Dec.{leb}
-use Rattle.decode.specs.Numbers.{pick}
 use Rattle.decode.specs.Layout.{Layout, Outcome, whole, stops, run, reply-of, missing-of}
 
 infix 4 _⊑_
@@ -87,8 +86,8 @@ append-item st r rs c n = record { at = n; context = c; rows = st .rows ++ r; re
 unfoldable pub transition : {D : Format} → D .Header → Capacity → State D → Outcome (ItemOf D) → Transition D
 transition h A st (whole end-item n) = halt (ended h st 0 n 0)
 transition h A st (whole (item r rs _ c) n) =
-    pick (leb (length (st .rows) + length r) (A .rows))
-    (pick (leb (length (st .refs) + length rs) (A .refs))
+    cond (leb (length (st .rows) + length r) (A .rows))
+    (cond (leb (length (st .refs) + length rs) (A .refs))
     (go (append-item st r rs c n))
     (halt (ended h st 14 (st .at) 0)))
     (halt (ended h st 13 (st .at) 0))

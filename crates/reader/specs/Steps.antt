@@ -3,13 +3,12 @@
 -- A reader must believe `Lawful`, what a format shows of itself.
 use mathlib.Core.Path.{_≡_, refl}
 use Prim.Native.Nat.{ℕ, zero, suc, _+_, _≤_, _<_}
-use mathlib.Core.Bool.{Bool, true, false}
+use mathlib.Core.Bool.{Bool, true, false, cond}
 use mathlib.Core.List.{List, [], _++_}
 use lib.ListN.{length, getD, take, drop}
 use lib.Dec.{leb}
 use native.Mathlib.Omega.{arith}
 use borrow.Author.Tests.{leb-true, le-leb, lt-leb}
-use Rattle.decode.specs.Numbers.{pick}
 use Rattle.decode.specs.Layout.{Layout, bytes, Outcome, whole, stops, run, run-enough, whole-has-bytes, start-le-end, end-in-bounds, reply-of, missing-of}
 use Rattle.decode.specs.Values.{Refuses}
 use Rattle.decode.specs.declared.Stop.{Stop}
@@ -101,7 +100,7 @@ module _ (D : Format) (P : Transition D → Type 0) (h : D .Header) (s : List �
         by-capacity : (r rs : List ℕ) (m : D .Note) (c : D .Context) (n : ℕ) (x y : Bool)
             → next-item D h s st ≡ whole (item r rs m c) n
             → leb (length (st .rows) + length r) (A .rows) ≡ x → leb (length (st .refs) + length rs) (A .refs) ≡ y
-            → P (pick x (pick y (go (append-item st r rs c n)) (halt (ended h st 14 (st .at) 0))) (halt (ended h st 13 (st .at) 0)))
+            → P (cond x (cond y (go (append-item st r rs c n)) (halt (ended h st 14 (st .at) 0))) (halt (ended h st 13 (st .at) 0)))
         by-capacity r rs m c n true true e p q = at-item r rs m c n e (leb-true _ _ p) (leb-true _ _ q)
         by-capacity r rs m c n true false e p q = no-refs
         by-capacity r rs m c n false y e p q = no-row

@@ -2,7 +2,7 @@
 -- Assumes nothing.
 use borrow.Author.Tests.{eq-eqb, ne-eqb}
 use mathlib.Core.Path.{_≡_, refl}
-use mathlib.Core.Bool.{Bool, true, false}
+use mathlib.Core.Bool.{Bool, true, false, cond}
 use mathlib.Core.List.{List, [], _∷_}
 use Prim.Native.Nat.{ℕ, _+_, _-_, _*_, _%_, _≤_, _<_}
 use native.Mathlib.Nat.{add-zero}
@@ -10,7 +10,6 @@ use native.Mathlib.Omega.{arith}
 use lib.ListN.{length, getD, take, drop}
 use lib.Seq.{sets, getD-take, getD-drop}
 use lib.Dec.{eqb}
-use Rattle.decode.specs.Numbers.{pick}
 use Rattle.decode.specs.Layout.{whole, stops, run, field, run-then, run-yield, run-raw, run-raw-short, reply-of, missing-of}
 use Rattle.decode.specs.Slices.{length-slice}
 use Rattle.decode.specs.declared.Stop.{Stop}
@@ -28,7 +27,7 @@ row-length : (letter count n b at : ℕ) → length (row letter count n b at) �
 unfolding row
 row-length letter count n b at = by (eqb (b % 2) 0)
   where
-    by : (t : Bool) → length (pick t [] (letter ∷ count ∷ n ∷ 0 ∷ 0 ∷ 0 ∷ 0 ∷ 0 ∷ 0 ∷ 0 ∷ 0 ∷ 0 ∷ at ∷ [])) ≡ pick t 0 row-width
+    by : (t : Bool) → length (cond t [] (letter ∷ count ∷ n ∷ 0 ∷ 0 ∷ 0 ∷ 0 ∷ 0 ∷ 0 ∷ 0 ∷ 0 ∷ 0 ∷ at ∷ [])) ≡ cond t 0 row-width
     by true = refl
     by false = refl
 

@@ -3,9 +3,9 @@
 use mathlib.Core.Path.{_≡_}
 use Prim.Native.Nat.{ℕ, suc, _+_, _%_, _≤_}
 use mathlib.Core.List.{List}
+use mathlib.Core.Bool.{cond}
 use lib.ListN.{length, getD, take, drop}
 use lib.Dec.{eqb}
-use Rattle.decode.specs.Numbers.{pick}
 use Rattle.decode.specs.Layout.{whole, run}
 use Rattle.table.specs.Table.{row-width, row-count}
 use Rattle.reader.specs.Reader.{limit, capacity, item, Result, records, initial-state}
@@ -26,7 +26,7 @@ records-from letter s at rows refs = records toy (suc limit) letter s (capacity 
 
 -- how many numbers the row has of a record whose first byte is b
 abbrev pub record-row-width : ℕ → ℕ
-record-row-width b = pick (eqb (b % 2) 0) 0 row-width
+record-row-width b = cond (eqb (b % 2) 0) 0 row-width
 
 -- ---- steps
 

@@ -5,13 +5,14 @@
 use mathlib.Core.Path.{_≡_, refl}
 use Prim.Native.Nat.{ℕ, _+_, _-_, _*_, _%_, _≤_, _<_}
 use mathlib.Core.List.{List, [], _∷_, _++_}
+use mathlib.Core.Bool.{cond}
 use lib.ListN.{length, getD, take}
 use lib.Dec.{eqb, lit≤}
 use native.Mathlib.Omega.{arith}
-use Rattle.decode.specs.Numbers.{pick, value-after}
+use Rattle.decode.specs.Numbers.{value-after}
 use Rattle.decode.specs.Layout.{Layout, yield, whole, run, run-then, run-position, _>>=_, _>>_, position, raw, field, check}
 use Rattle.decode.specs.Fields.{exactly}
-use Rattle.decode.specs.Values.{Gives, pick-either, gives-yield, gives-then-any, gives-pick, refuses-yield, refuses-then, refuses-pick, refuses-field, refuses-raw, refuses-position, refuses-exactly}
+use Rattle.decode.specs.Values.{Gives, cond-elim, gives-yield, gives-then-any, gives-cond, refuses-yield, refuses-then, refuses-cond, refuses-field, refuses-raw, refuses-position, refuses-exactly}
 use Rattle.decode.specs.Takes.{Takes, takes-yield, takes-then, takes-cases, takes-field, takes-raw, takes-exactly}
 use Rattle.table.specs.Table.{row-count}
 use Rattle.reader.specs.Reader.{limit, Capacity, capacity, _⊑_, Item, end-item, item, Format, ended, transition, step, records, initial-state, from-header, read-result}
@@ -26,13 +27,13 @@ use Rattle.reader.specs.RowOrigins.{offset-of, AllRowOrigins, read-row-origins,
 -- The row of a record of n bytes, the first of them b: none if b is even; else the letter, how many records came before, n, and
 -- the record's offset.
 unfoldable pub row : (letter count n b at : ℕ) → List ℕ
-row letter count n b at = pick (eqb (b % 2) 0) [] (letter ∷ count ∷ n ∷ 0 ∷ 0 ∷ 0 ∷ 0 ∷ 0 ∷ 0 ∷ 0 ∷ 0 ∷ 0 ∷ at ∷ [])
+row letter count n b at = cond (eqb (b % 2) 0) [] (letter ∷ count ∷ n ∷ 0 ∷ 0 ∷ 0 ∷ 0 ∷ 0 ∷ 0 ∷ 0 ∷ 0 ∷ 0 ∷ at ∷ [])
 
 -- a record at the offset `at`, with `count` records before it
 unfoldable pub toy-record : ℕ → ℕ → ℕ → Layout (Item (Unit {0}) ℕ)
 toy-record letter count at = do
   n ← field 1
-  pick (eqb n 0) (yield end-item) (do
+  cond (eqb n 0) (yield end-item) (do
     b ← raw n
     yield (item (row letter count n (getD b 0 0) at) b tt (count + 1)))
 
@@ -60,8 +61,8 @@ ValidRowAt at (item r rs m c) = ValidRow at r
 gives-row : {s : List ℕ} (letter count at : ℕ) → Gives s (ValidRowAt at) (toy-record letter count at)
 unfolding toy-record row
 gives-row letter count at =
-    gives-then-any _ _ (λ n. gives-pick (eqb n 0) _ _ (gives-yield end-item tt)
-    (gives-then-any _ _ (λ b. gives-yield _ (pick-either (ValidRow at) (eqb (getD b 0 0 % 2) 0) _ _ (empty-row refl) (full-row refl refl)))))
+    gives-then-any _ _ (λ n. gives-cond (eqb n 0) _ _ (gives-yield end-item tt)
+    (gives-then-any _ _ (λ b. gives-yield _ (cond-elim (ValidRow at) (eqb (getD b 0 0 % 2) 0) _ _ (empty-row refl) (full-row refl refl)))))
 
 entry-advances : (letter count : ℕ) (s : List ℕ) (at : ℕ) (i : Item (Unit {0}) ℕ) (e : ℕ) → run (position >>= toy-record letter count) s at ≡ whole i e
     → (at < e) × (e ≤ length s)
@@ -77,13 +78,13 @@ lawful = record {
       gives-row letter count at .each at (item r rs m k) e (omega arith) (rw run-toy-record at f);
   header-refusals = refuses-exactly 1 0x54 3 (record { not-end = λ z. omega arith; not-cut = λ z. omega arith });
   entry-refusals = λ _ count _. refuses-then _ _ refuses-position (λ at. refuses-then _ _ (refuses-field 1) (λ n.
-      refuses-pick (eqb n 0) _ _ (refuses-yield end-item) (refuses-then _ _ (refuses-raw n) (λ b. refuses-yield _))));
+      refuses-cond (eqb n 0) _ _ (refuses-yield end-item) (refuses-then _ _ (refuses-raw n) (λ b. refuses-yield _))));
 }
 
 -- the header takes a byte, and a record one beside its references, whether it has a row or not
 one-row : (letter count n b at : ℕ) → row-count (row letter count n b at) ≤ 1
 unfolding row row-count
-one-row letter count n b at = pick-either (λ r. row-count r ≤ 1) (eqb (b % 2) 0) _ _ (lit≤ tt) (lit≤ tt)
+one-row letter count n b at = cond-elim (λ r. row-count r ≤ 1) (eqb (b % 2) 0) _ _ (lit≤ tt) (lit≤ tt)
 
 abbrev ItemBytes : Item (Unit {0}) ℕ → ℕ → Type 0
 ItemBytes end-item n = Unit {0}

@@ -6,10 +6,9 @@ use Prim.Native.Nat.{ℕ, zero, suc, _+_, _≤_, _<_}
 use native.Mathlib.Nat.{lt-of-not-le}
 use native.Mathlib.Numerals.{add-one}
 use native.Mathlib.Omega.{arith}
-use mathlib.Core.Bool.{Bool, true, false}
+use mathlib.Core.Bool.{Bool, true, false, cond}
 use mathlib.Core.List.{List, [], _∷_}
 use lib.ListN.{length}
-use Rattle.decode.specs.Numbers.{pick}
 use Rattle.table.specs.Table.{row-count}
 use Rattle.table.specs.Rows.{row-at, zero-row, rows-of, nth, rows-left, rows-left-next, rows-left-none, length-rows, nth-row}
 use Rattle.table.specs.declared.Row.{Row}
@@ -19,7 +18,7 @@ use Rattle.table.specs.declared.Search.the-variants.{At, NotFound}
 -- the first row that passes a test, of rows that are counted from number i on
 unfoldable pub first-from : (Row → Bool) → ℕ → List Row → Search
 first-from test i [] = NotFound
-first-from test i (r ∷ rows) = pick (test r) (At i) (first-from test (suc i) rows)
+first-from test i (r ∷ rows) = cond (test r) (At i) (first-from test (suc i) rows)
 
 -- of all rows
 abbrev pub first-row : (Row → Bool) → List Row → Search
@@ -52,7 +51,7 @@ module _ (P : Row → Type 0) (test : Row → Bool) (is : (r : Row) → (test r 
   SearchMeans i rows NotFound = NoneSatisfies P rows
 
   -- one row more before them
-  search-means-cons : (i : ℕ) (r : Row) (rows : List Row) (b : Bool) → test r ≡ b → (f : Search) → SearchMeans (suc i) rows f → SearchMeans i (r ∷ rows) (pick b (At i) f)
+  search-means-cons : (i : ℕ) (r : Row) (rows : List Row) (b : Bool) → test r ≡ b → (f : Search) → SearchMeans (suc i) rows f → SearchMeans i (r ∷ rows) (cond b (At i) f)
   search-means-cons i r rows true e f s = (omega arith, λ j q. at-first j (omega arith))
     where
       at-first : (j : ℕ) → j ≡ 0 → IsFirst P (r ∷ rows) j
@@ -128,7 +127,7 @@ pub search-start : (test : Row → Bool) (table : List ℕ) → SearchInvariant 
 search-start test table = (omega arith, refl)
 
 module _ (test : Row → Bool) (table : List ℕ) (i : ℕ) where
-  row-step : i < row-count table → first-from test i (rows-left table i) ≡ pick (test (row-at table i)) (At i) (first-from test (i + 1) (rows-left table (i + 1)))
+  row-step : i < row-count table → first-from test i (rows-left table i) ≡ cond (test (row-at table i)) (At i) (first-from test (i + 1) (rows-left table (i + 1)))
   unfolding first-from
   row-step l = rw (rows-left-next table i l, add-one)
 

@@ -3,14 +3,13 @@
 use mathlib.Core.Path.{_≡_, refl, sym, ap}
 use mathlib.Core.Logic.{_↔_}
 use Prim.Native.Nat.{ℕ, _≤_, _<_}
-use mathlib.Core.Bool.{Bool, true, false}
+use mathlib.Core.Bool.{Bool, true, false, _&&_}
 use mathlib.Core.List.{List}
 use lib.ListN.{length}
 use lib.Dec.{leb}
 use native.Mathlib.Omega.{arith}
 use native.Mathlib.Decide.{decLe}
 use borrow.Author.Tests.{le-leb, lt-leb}
-use Rattle.decode.specs.Numbers.{both}
 use Rattle.table.specs.CheckOrder.{WriteResult, refused, done, checked-write, checked-input, checked-input-refused}
 use Rattle.table.specs.declared.Search.{Search}
 use Rattle.table.specs.declared.Search.the-variants.{At, NotFound}
@@ -67,7 +66,7 @@ capacity-agrees bytes capacity l = record {
 
 -- Of any checks: beside all that the query checks, the write checks whether the output holds the bytes.
 pub query-agrees : (good : Bool) (bad class-missing : Search) (within : Bool) (bytes : List ℕ) (capacity : ℕ)
-    → QueryAgrees (checked-write good bad class-missing within bytes .answer) capacity (checked-write good bad class-missing (both (leb (length bytes) capacity) within) bytes)
+    → QueryAgrees (checked-write good bad class-missing within bytes .answer) capacity (checked-write good bad class-missing (leb (length bytes) capacity && within) bytes)
 unfolding checked-write
 query-agrees false bad class-missing within bytes capacity = refused-agrees 15 0 capacity (λ z. omega arith)
 query-agrees true (At i) class-missing within bytes capacity = refused-agrees 16 i capacity (λ z. omega arith)
@@ -104,5 +103,5 @@ module _ (good : Bool) (bad class-missing : Search) (within : Bool) (bytes : Lis
 
   -- what it says of a write
   pub query-agrees-by : (query : Answer) (capacity : ℕ) → query ≡ checked-write good bad class-missing within bytes .answer
-      → QueryAgrees query capacity (checked-write good bad class-missing (both (leb (length bytes) capacity) within) bytes)
+      → QueryAgrees query capacity (checked-write good bad class-missing (leb (length bytes) capacity && within) bytes)
   query-agrees-by query capacity e = rw e (query-agrees good bad class-missing within bytes capacity)

@@ -1,10 +1,9 @@
 -- `find_label` meets its contract: by the row's kind, and by what the search found.
 use mathlib.Core.Path.{_≡_, refl, sym, ap, _∙_}
-use mathlib.Core.Bool.{false}
+use mathlib.Core.Bool.{false, cond}
 use Prim.Native.Nat.{_*_}
 use borrow.Author.Needs.{needs}
 use borrow.Author.Tests.{eq-eqb, ne-eqb}
-use Rattle.decode.specs.Numbers.{pick}
 use Rattle.table.specs.Rows.{is-kind, rows-of}
 use Rattle.table.specs.Search.{found-in-table, found-row-at}
 use Rattle.classic.specs.ClassicText.{is-not-found, class-missing, naming-class, bytes-of}
@@ -24,7 +23,7 @@ missing c = class-missing-by-search _ _ (start c .pre .1) (c .before .before .be
 -- where it found a row, that is the class
 class : (c : tie.After-row-at) → let a = start (c .before .before .before .before) .args in let class = c .row-at .result in
     (class-missing (rows-of (a .rows .now)) (a .row) ≡ false)
-    × (type-label (rows-of (a .rows .now)) (a .row) ≡ record { bytes = pick (is-kind 2 (a .row)) (class .size) (4 * a .row .size); place = class .place; len = class .namelen })
+    × (type-label (rows-of (a .rows .now)) (a .row) ≡ record { bytes = cond (is-kind 2 (a .row)) (class .size) (4 * a .row .size); place = class .place; len = class .namelen })
 unfolding type-label naming-class bytes-of
 class c =
     let d = c .before .before in

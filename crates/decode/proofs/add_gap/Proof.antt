@@ -2,10 +2,11 @@
 use borrow.Author.Needs.{needs}
 use borrow.Author.Tests.{le-leb, lt-leb}
 use mathlib.Core.Path.{_≡_, sym, ap, _∙_}
+use mathlib.Core.Bool.{cond}
 use Prim.Native.Nat.{suc, _+_, _-_, _*_, _≤_, _<_}
 use native.Mathlib.Omega.{arith}
 use lib.Dec.{leb}
-use Rattle.decode.specs.Numbers.{pick, sign-case, add-gap, in-range}
+use Rattle.decode.specs.Numbers.{sign-case, add-gap, in-range}
 use mir.Syntax.{w64}
 use mir.Facts.{toZ-ofZ}
 use Rattle.decode.specs.declared.Maybe.the-variants.{Nothing}
@@ -20,7 +21,7 @@ module _ (c : tie.After-n) where
 
 module _ (c : tie.After-n2) where
   down : let a = c .before .before .before .args in let n = c .n2 .given .0 .0 in
-      add-gap (a .highest) (a .base) (a .gap) ≡ pick (leb (4 * suc n) (a .base)) (in-range (a .highest) (a .base - 4 * suc n)) Nothing
+      add-gap (a .highest) (a .base) (a .gap) ≡ cond (leb (4 * suc n) (a .base)) (in-range (a .highest) (a .base - 4 * suc n)) Nothing
   down = add-gap-negsuc _ _ _ _ (ap sign-case (sym (toZ-ofZ {w = w64} (c .before .before .before .fits .gap))) ∙ sym (c .before .before .sign-case-of .ensures) ∙ c .n2 .given .1)
 
 sign-case-of-requires : tie.Need-sign-case-of-requires

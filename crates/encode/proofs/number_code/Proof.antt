@@ -1,9 +1,9 @@
 -- `number_code` meets its contract: a number's code is how many codes have widths that do not hold it.
 use borrow.Author.Needs.{needs}
 use mathlib.Core.Path.{_≡_, refl, _∙_}
+use mathlib.Core.Bool.{cond}
 use native.Mathlib.Omega.{arith}
 use lib.IntN.{pos}
-use Rattle.decode.specs.Numbers.{pick}
 use Rattle.encode.specs.Encode.{fits}
 use Rattle.encode.specs.Widths.{code-lt, code-count}
 use Rattle.encode.proofs.EncodeLaws.{half-le-fits}
@@ -11,13 +11,13 @@ use Rattle.encode.proofs.number_code.Statement.{statement}
 use Rattle.encode.proofs.number_code.Tie as tie
 
 -- each choice is 1 where the width of its code does not hold the number
-byte : (c : tie.After-choice) → c .choice .result ≡ pick (fits 1 (pos (c .before .args .m))) 0 1
+byte : (c : tie.After-choice) → c .choice .result ≡ cond (fits 1 (pos (c .before .args .m))) 0 1
 byte c = c .choice .ensures ∙ half-le-fits 1 _ _ refl
 
-short : (c : tie.After-choice2) → c .choice2 .result ≡ pick (fits 2 (pos (c .before .before .args .m))) 0 1
+short : (c : tie.After-choice2) → c .choice2 .result ≡ cond (fits 2 (pos (c .before .before .args .m))) 0 1
 short c = c .choice2 .ensures ∙ half-le-fits 2 _ _ refl
 
-int : (c : tie.After-choice3) → c .choice3 .result ≡ pick (fits 4 (pos (c .before .before .before .args .m))) 0 1
+int : (c : tie.After-choice3) → c .choice3 .result ≡ cond (fits 4 (pos (c .before .before .before .args .m))) 0 1
 int c = c .choice3 .ensures ∙ half-le-fits 4 _ _ refl
 
 choice-requires : tie.Need-choice-requires

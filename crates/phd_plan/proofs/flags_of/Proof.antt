@@ -1,11 +1,10 @@
 -- `flags_of` meets its contract: each arm is a line of the definition.
 use borrow.Author.Needs.{needs}
 use borrow.Author.Tests.{eq-eqb, ne-eqb}
-use mathlib.Core.Bool.{Bool, true, false}
+use mathlib.Core.Bool.{Bool, true, false, cond}
 use Prim.Native.Nat.{ℕ, _≤_}
 use native.Mathlib.Omega.{arith}
 use lib.Dec.{eqb}
-use Rattle.decode.specs.Numbers.{pick}
 use Rattle.phd_plan.specs.FormChoice.{hash-flags, class-flags, flags-of}
 use Rattle.phd_plan.proofs.flags_of.Statement.{statement}
 use Rattle.phd_plan.proofs.flags_of.Tie as tie
@@ -15,7 +14,7 @@ hash-most : (k : ℕ) → hash-flags k ≤ 3
 unfolding hash-flags
 hash-most k = by (eqb k 2) (eqb k 1)
   where
-    by : (a b : Bool) → pick a 3 (pick b 1 0) ≤ 3
+    by : (a b : Bool) → cond a 3 (cond b 1 0) ≤ 3
     by true b = omega arith
     by false true = omega arith
     by false false = omega arith
@@ -24,7 +23,7 @@ class-most : (k : ℕ) → class-flags k ≤ 8
 unfolding class-flags
 class-most k = by (eqb k 2)
   where
-    by : (a : Bool) → pick a 8 0 ≤ 8
+    by : (a : Bool) → cond a 8 0 ≤ 8
     by true = omega arith
     by false = omega arith
 

@@ -2,14 +2,14 @@
 use borrow.Author.Needs.{needs}
 use borrow.Author.Tests.{eq-eqb, ne-eqb}
 use mathlib.Core.Path.{_≡_, sym, _∙_}
+use mathlib.Core.Bool.{cond}
 use Rattle.phd_plan.specs.FormChoice.{needs-flag-byte, form-of}
 use Rattle.phd.specs.declared.Form.the-variants.{Primitive, LongPrimitive}
-use Rattle.decode.specs.Numbers.{pick}
 use Rattle.phd_plan.proofs.form_of.Statement.{statement}
 use Rattle.phd_plan.proofs.form_of.Tie as tie
 
 -- what is left behind the tests of the kind
-primitive : (c : tie.Else3) → let m = c .before .before .before .before .before .before .args .m in form-of m ≡ pick (needs-flag-byte (m .hashkind)) LongPrimitive Primitive
+primitive : (c : tie.Else3) → let m = c .before .before .before .before .before .before .args .m in form-of m ≡ cond (needs-flag-byte (m .hashkind)) LongPrimitive Primitive
 unfolding form-of
 primitive c =
     let d = c .before .before in

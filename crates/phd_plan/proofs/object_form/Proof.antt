@@ -2,9 +2,8 @@
 use borrow.Author.Needs.{needs}
 use borrow.Author.Tests.{le-leb, lt-leb}
 use lib.Dec.{leb, ltb}
-use mathlib.Core.Bool.{false}
+use mathlib.Core.Bool.{false, _&&_}
 use mathlib.Core.Logic.{⊎-elim}
-use Rattle.decode.specs.Numbers.{both}
 use mathlib.Core.Path.{_≡_, sym, _∙_}
 use Rattle.phd_plan.specs.FormChoice.{needs-flag-byte, object-form}
 use Rattle.phd_plan.proofs.object_form.Statement.{statement}
@@ -15,14 +14,14 @@ plain : (c : tie.Else1) → needs-flag-byte (c .before .before .args .m .hashkin
 plain c = sym (c .before .needs-flag-byte .ensures) ∙ c .if1 .left
 
 not-short : (c : tie.Joined2) → let m = c .before .before .before .before .args .m in
-    both (leb (m .count) 3) (both (ltb (m .slot) 4) (ltb (m .gap) 2)) ≡ false
+    leb (m .count) 3 && (ltb (m .slot) 4 && ltb (m .gap) 2) ≡ false
 not-short c =
     ⊎-elim
     (λ w. rw (le-leb _ _ (w .0 .taken), w .2 .taken, w .4 .left))
     (⊎-elim (λ w. rw (le-leb _ _ (w .0 .taken), w .2 .left)) (λ w. rw (lt-leb _ _ (w .left))))
     (c .if2 .came)
 
-not-medium : (c : tie.Joined5) → let m = c .before .before .before .before .before .before .args .m in both (leb (m .count) 7) (ltb (m .gap) 2) ≡ false
+not-medium : (c : tie.Joined5) → let m = c .before .before .before .before .before .before .args .m in leb (m .count) 7 && ltb (m .gap) 2 ≡ false
 not-medium c = ⊎-elim (λ w. rw (le-leb _ _ (w .0 .taken), w .2 .left)) (λ w. rw (lt-leb _ _ (w .left))) (c .if5 .came)
 
 needs-flag-byte-requires : tie.Need-needs-flag-byte-requires

@@ -1,12 +1,11 @@
 -- `flags` meets its contract: no flag byte, or the byte and then the test of its bits.
 use borrow.Author.Needs.{needs}
 use mathlib.Core.Path.{_≡_, refl, sym, ap, _∙_}
-use mathlib.Core.Bool.{Bool, true, false, not}
+use mathlib.Core.Bool.{Bool, true, false, not, cond, _&&_, _||_}
 use Prim.Native.Nat.{ℕ, _≤_}
 use native.Mathlib.Omega.{arith}
 use lib.ListN.{length}
 use borrow.Author.Tests.{le-ltb, lt-ltb, ne-eqb}
-use Rattle.decode.specs.Numbers.{pick, both, either}
 use Rattle.decode.specs.Layout.{whole, stops, run, field, run-then, run-check, run-yield, run-field-empty}
 use Rattle.decode.specs.Fields.{outcome}
 use Rattle.decode.specs.declared.Stop.the-variants.{Refused}
@@ -15,7 +14,7 @@ use Rattle.phd.proofs.forms.read_flag_byte.Statement.{statement}
 use Rattle.phd.proofs.forms.read_flag_byte.Tie as tie
 
 -- no flag byte sets no bit
-none-set : (h : Bool) (t : ℕ) → 0x20 ≤ t → not (both h (either (moved-bit t 0) (hashed-bit t 0))) ≡ true
+none-set : (h : Bool) (t : ℕ) → 0x20 ≤ t → not (h && (moved-bit t 0 || hashed-bit t 0)) ≡ true
 unfolding moved-bit hashed-bit bit
 none-set true t l = rw (ne-eqb t 6 (λ e. omega arith))
 none-set false t l = refl
@@ -27,8 +26,8 @@ module _ (c : tie.After-f) where
   got = sym (c .before .before .field .ensures .0) ∙ ap outcome (c .f .given .1)
 
   tested : (b : Bool) → let a = c .before .before .before .before .before .args in let f = c .f .given .0 .0 in
-      not (both (a .header .hashed) (either (moved-bit (a .tag) f) (hashed-bit (a .tag) f))) ≡ b
-      → run (flag-byte (a .header) (a .tag)) (a .s .now) (a .at) ≡ pick b (whole f (c .f .given .0 .1 .0)) (stops (Refused 11))
+      not (a .header .hashed && (moved-bit (a .tag) f || hashed-bit (a .tag) f)) ≡ b
+      → run (flag-byte (a .header) (a .tag)) (a .s .now) (a .at) ≡ cond b (whole f (c .f .given .0 .1 .0)) (stops (Refused 11))
   unfolding flag-byte
   tested true e = rw (lt-ltb _ _ (c .before .before .before .if1 .left), run-then, got, run-then, run-check, e, run-yield)
   tested false e = rw (lt-ltb _ _ (c .before .before .before .if1 .left), run-then, got, run-then, run-check, e)

@@ -2,11 +2,11 @@
 use borrow.Author.Needs.{needs}
 use mathlib.Core.Path.{_≡_, refl}
 use mathlib.Core.List.{List, [], _∷_, append-nil}
+use mathlib.Core.Bool.{cond}
 use Prim.Native.Nat.{ℕ}
 use native.Mathlib.Omega.{arith}
 use lib.Dec.{ltb}
 use borrow.Author.Tests.{lt-ltb, le-ltb}
-use Rattle.decode.specs.Numbers.{pick}
 use Rattle.encode.specs.Encode.{join, be}
 use Rattle.encode.specs.Writes.{writes-none}
 use Rattle.encode.specs.WriteProgress.{WriteProgress, progress-start, next-part-fits, progress-next, progress-next-eq, progress-done}
@@ -16,7 +16,7 @@ use Rattle.phd_encode.proofs.parts.encode_tag.Statement.{statement}
 use Rattle.phd_encode.proofs.parts.encode_tag.Tie as tie
 
 abbrev parts : Plan → List (List ℕ)
-parts p = be 1 (p .tag) ∷ be (pick (ltb (p .tag) 0x20) 1 0) (p .flags) ∷ []
+parts p = be 1 (p .tag) ∷ be (cond (ltb (p .tag) 0x20) 1 0) (p .flags) ∷ []
 
 in-parts : (p : Plan) → encode-tag p ≡ join (parts p)
 unfolding encode-tag
