@@ -1,4 +1,4 @@
--- Laws of the tests of a row, as the functions compute them.
+-- The tests of a row that the functions compute are `is-class-at` and `is-class-named`.
 -- Assumes nothing.
 use mathlib.Core.Path.{_≡_, refl, sym, ap, _∙_}
 use mathlib.Core.Bool.{Bool, true, false, _&&_}
@@ -19,18 +19,18 @@ use Rattle.table.specs.declared.Row.{Row}
 use Rattle.phd_check.proofs.CheckLaws.{all-of-all-true, both-joined}
 use Rattle.classic.specs.ClassicText.{letters, primitive-array-type, is-class-at, is-class-named}
 
--- a class row by its address
+-- The test of kind and address is `is-class-at`.
 pub is-class-at-test : (a : ℕ) (r : Row) → eqb (r .kind) 1 && eqb (r .address) a ≡ is-class-at a r
 unfolding is-class-at
 is-class-at-test a r = both-joined (eqb (r .kind) 1) (eqb (r .address) a)
 
--- ---- a class row by its name
+-- ---- class rows by name
 
 both-false : (b : Bool) → b && false ≡ false
 both-false true = refl
 both-false false = refl
 
--- lists of different lengths are not the same
+-- Lists of different lengths are not equal.
 different-lengths-differ : (xs ys : List ℕ) → (length xs ≡ length ys → ⊥) → bytes-equal xs ys ≡ false
 unfolding bytes-equal
 different-lengths-differ [] [] n = absurd (n refl)
@@ -42,7 +42,7 @@ length-primitive-array-type : (prim : ℕ) → length (primitive-array-type prim
 unfolding primitive-array-type
 length-primitive-array-type prim = refl
 
--- a class row with a name of two bytes
+-- The test of kind and name length holds only for a class row with a name of two bytes.
 pub class-name-two-bytes : (r : Row) → eqb (r .kind) 1 && eqb (r .namelen) 2 ≡ true → (eqb (r .kind) 1 ≡ true) × (r .namelen ≡ 2)
 class-name-two-bytes r e =
     let k : Bool = eqb (r .kind) 1 in
@@ -50,8 +50,9 @@ class-name-two-bytes r e =
     let b = sym (both-joined k n) ∙ e in
     (and-left k n b, eqb-true _ _ (and-right k n b))
 
--- the tests of the kind and of the name's length, and of its two bytes
+-- Let r be a row whose name lies in the name bytes.
 module _ (names : List ℕ) (r : Row) (prim : ℕ) (in-bounds : r .place + r .namelen ≤ length names) where
+  -- If the test of kind and name length fails, r is no class row with this name.
   pub not-class-named : eqb (r .kind) 1 && eqb (r .namelen) 2 ≡ false → false ≡ is-class-named names (primitive-array-type prim) r
   unfolding is-class-named
   not-class-named e = by (eqb (r .kind) 1) (eqb (r .namelen) 2) refl e
@@ -62,6 +63,7 @@ module _ (names : List ℕ) (r : Row) (prim : ℕ) (in-bounds : r .place + r .na
       by true false f g =
           sym (different-lengths-differ (name-of names r) (primitive-array-type prim) (λ l. eqb-false _ _ f (sym (length-name-of names r in-bounds) ∙ (l ∙ length-primitive-array-type prim))))
 
+  -- If it holds, the test of the two bytes of the name is `is-class-named`.
   pub class-named-bytes : (letter : ℕ) → eqb (r .kind) 1 && eqb (r .namelen) 2 ≡ true → letter ≡ getD letters prim 0
       → eqb (getD names (r .place) 0) 0x5B && eqb (getD names (r .place + 1) 0) letter ≡ is-class-named names (primitive-array-type prim) r
   unfolding is-class-named primitive-array-type name-of bytes-equal all-true

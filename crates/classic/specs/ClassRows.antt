@@ -1,4 +1,4 @@
--- Class rows by their address, and rows without their class row, stated of the rows themselves; the tests of Classic decide them.
+-- Class rows by address, and rows whose class row is missing, as properties of rows. The tests of ClassicText decide them.
 -- A reader must believe the records `ClassRow` and `ClassMissing`.
 use mathlib.Core.Path.{_≡_, refl}
 use mathlib.Core.Logic.{_↔_, _⊎_, inl, inr}
@@ -16,16 +16,17 @@ use Rattle.table.specs.declared.Search.{Search}
 use Rattle.table.specs.declared.Search.the-variants.{At, NotFound}
 use Rattle.classic.specs.ClassicText.{is-class-at, class-at, is-not-found, class-missing}
 
--- a class row with the address a
+-- A class row with the address a.
 pub record ClassRow (a : ℕ) (r : Row) : Type 0 where
   pub kind : r .kind ≡ 1
   pub address : r .address ≡ a
 
--- an object or an object array for whose class word there is no class row
+-- An object or object array for whose class word `rows` has no class row.
 pub record ClassMissing (rows : List Row) (r : Row) : Type 0 where
   pub kind : (r .kind ≡ 2) ⊎ (r .kind ≡ 3)
   pub none : NoneSatisfies (ClassRow (r .class)) rows
 
+-- `is-class-at` tests exactly for a class row with the address a.
 pub is-class-at-iff : (a : ℕ) (r : Row) → (is-class-at a r ≡ true) ↔ ClassRow a r
 unfolding is-class-at
 is-class-at-iff a r = (
@@ -46,6 +47,7 @@ is-not-found-eq : (f : Search) → is-not-found f ≡ true → f ≡ NotFound
 is-not-found-eq (At i) e = let z : _≡_ {A = ℕ} 0 1 = cc in absurd (omega arith)
 is-not-found-eq NotFound e = refl
 
+-- `class-missing` tests exactly for a row whose class row is missing.
 pub class-missing-iff : (rows : List Row) (r : Row) → (class-missing rows r ≡ true) ↔ ClassMissing rows r
 unfolding class-missing
 class-missing-iff rows r = (

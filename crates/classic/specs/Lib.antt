@@ -1,5 +1,6 @@
--- Classic (the text as a list of lines, and what an operation that writes it gives), Cases (01's dump, as text) and ClassRows (class
--- rows, and rows without their class). Fine is for proofs: what the text asks of good rows, as facts.
+-- ClassicText (the text as a list of lines, and the results of writing it and of a size query), TextExample (the dump of
+-- docs/FORMAT.md 9 as text) and ClassRows (class rows, and rows whose class row is missing). RowBounds (bounds on the numbers of
+-- good rows) is for proofs.
 pub mod ClassicText
 pub mod TextExample
 pub mod ClassRows

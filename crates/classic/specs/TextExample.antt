@@ -1,5 +1,6 @@
--- 01's dump, as classic text: its reading's tables give 01's eleven lines. Then an object array with nulls. Both hold by
--- computing. A reader must believe that the dump (Phd's Cases) and the lines are 01's, and the array's change request 3's.
+-- The dump of docs/FORMAT.md 9 as classic text: the tables of its reading give the eleven lines. Then an object array with nulls.
+-- Both hold by computation. A reader must believe that the dump (`dump`, ReadCases of phd) and the lines are 01's, and that the
+-- array's lines are those of change request 3.
 use mathlib.Core.Path.{_≡_, refl}
 use Prim.Native.Nat.{ℕ, _*_}
 use mathlib.Core.List.{List, [], _∷_, _++_, map}
@@ -21,12 +22,12 @@ use Rattle.digits.specs.Digits.{ascii, digit-count-in, digit-count, decimal, up
 use Rattle.classic.specs.ClassicText.{address, is-class-at, is-class-named, class-missing, letters, primitive-array-type, object-array-type, naming-class, type-of, bytes-of, class-of, first-line, refs-text, second-line, row-lines, version-line, breakdown-line, totals-line, unlines, text-lines, text-of, text-rows, text-rows-size, text-result, text-size-result}
 use Prim.Native.String.{String}
 
--- for a proof by computing: whoever unfolds this unfolds all that a text is made of
+-- For proofs by computation: unfolding this unfolds all definitions that a text is computed from.
 unfoldable pub unfold-text : Unit {0}
 unfolding all-within limit bit max-address bytes-equal hash-bytes row-at rows-from rows-of refs-of name-of row-count all-true good-vm good-header good-hash good-class no-name good-object good-array good-primitive good-kind good-addresses good-span good-numbers good-ref good-refs good-row first-bad-from refused done checked-write nulls-of sum nulls digit-count-in digit-count decimal uppercase upper-digits address first-from is-class-at is-class-named class-missing found-row letters primitive-array-type object-array-type naming-class type-of bytes-of class-of first-line refs-text second-line row-lines version-line breakdown-line totals-line unlines text-lines text-of text-rows text-rows-size
 unfold-text = tt
 
--- 01's lines
+-- The expected lines.
 unfoldable pub expected-lines : List String
 expected-lines =
     "// Version: Test"
@@ -42,33 +43,33 @@ expected-lines =
     ∷ "// EOF:  Total 'Objects',Refs(null) : 4,1(0)"
     ∷ []
 
--- the dump, read with room for four rows and a reference
+-- The reading of the dump, with capacity for four rows and one reference.
 abbrev example-read : Result
 example-read = read-result dump (4 * row-width) 1
 
--- the text of what was read, with the dump as the name bytes and room for its 280 bytes
+-- The text of what was read, with the dump as the name bytes and an output of 280 bytes, is these lines.
 pub text-example : text-result (example-read .header) dump (example-read .refs) (example-read .rows) 280 ≡ done (unlines (map ascii expected-lines))
 unfolding unfold-text reads-computing dump expected-lines
 text-example = refl
 
--- and with a byte less it is refused
+-- With an output of one byte less it is refused with 17.
 pub text-too-small : text-result (example-read .header) dump (example-read .refs) (example-read .rows) 279 ≡ refused 17 0
 unfolding unfold-text reads-computing dump
 text-too-small = refl
 
--- asking for its size counts its bytes
+-- A size query for it returns its 280 bytes.
 pub text-size-example : text-size-result (example-read .header) dump (example-read .refs) (example-read .rows) ≡ record { reply = 0; place = 280 }
 unfolding unfold-text reads-computing dump
 text-size-example = refl
 
 -- ---- an object array with nulls
 
--- the class A at 0x1000, and at 0x1010 an array of them: its true length is 5, and it has two references
+-- The rows: the class A at 0x1000, and at 0x1010 an array of A with true length 5 and two references.
 abbrev array-rows : List ℕ
 array-rows =
     row-of (1 ∷ 0x1000 ∷ 0 ∷ 0 ∷ 0 ∷ 0 ∷ 0 ∷ 16 ∷ 0 ∷ 0 ∷ 1 ∷ []) ++ row-of (3 ∷ 0x1010 ∷ 0x1000 ∷ 0 ∷ 0 ∷ 0 ∷ 2 ∷ 7 ∷ 5 ∷ [])
 
--- it lists two, and adds 3 nulls and 5 in all
+-- The expected lines: two references are listed, and the last line counts 5 with 3 nulls.
 abbrev expected-array-lines : List String
 expected-array-lines =
     "// Version: "
@@ -80,6 +81,7 @@ expected-array-lines =
     ∷ "// EOF:  Total 'Objects',Refs(null) : 2,5(3)"
     ∷ []
 
+-- The text of these rows is these lines.
 pub array-text-example : let h : Header = record { bits = 32; hashed = false; openj9 = false; vm = no-string } in
     text-result h (0x41 ∷ []) (0x1000 ∷ 0x1010 ∷ []) array-rows 300 ≡ done (unlines (map ascii expected-array-lines))
 unfolding unfold-text

@@ -1,5 +1,5 @@
-// Classic text: the definition of the text (specs/Classic.antt), and the search for class rows. Each function's contract is an
-// equation with the definition.
+// Classic text: the definition of the text (specs/ClassicText.antt), and the functions that find class rows. Each function's
+// contract is an equation with the definition.
 ghost use mathlib.Core.Path.{_≡_};
 ghost use Prim.Native.Nat.{_+_, _≤_, _<_};
 ghost use lib.ListN.{length, getD};
@@ -9,10 +9,10 @@ ghost use Rattle.classic.specs.RowBounds.{AllNumbersInBounds};
 use table::Row;
 use table::Search;
 
-// The signature letters of the primitive types, by type.
+// The signature letters of the primitive types 0 to 7: Z C F D B S I J (docs/FORMAT.md 3.1).
 const LETTERS: [u8; 8] = [0x5A, 0x43, 0x46, 0x44, 0x42, 0x53, 0x49, 0x4A];
 
-// The letter of a primitive type.
+// Returns the signature letter of a primitive type.
 pub fn prim_letter(prim: u64) -> u8
     requires { ⌜ prim < 8 ⌝ }
     ensures { λ r. ⌜ r ≡ getD letters prim 0 ⌝ }
@@ -21,7 +21,7 @@ pub fn prim_letter(prim: u64) -> u8
     LETTERS[i]
 }
 
-// The first class row with that address.
+// Finds the first class row with this address.
 pub fn class_at(rows: &[u64], address: u64) -> Search
     ensures { λ r. ⌜ r ≡ class-at (rows-of (now (rows .entry))) address ⌝ }
 {
@@ -37,7 +37,7 @@ pub fn class_at(rows: &[u64], address: u64) -> Search
     Search::NotFound
 }
 
-// Whether a row is a class row, named as an array of a primitive type is.
+// Checks whether a row is a class row whose name is the type of a primitive array, such as `[C`.
 fn is_class_named(names: &[u8], row: Row, prim: u64) -> bool
     requires { ⌜ prim < 8 ⌝ }
     requires { ⌜ row .place + row .namelen ≤ length (now names) ⌝ }
@@ -50,7 +50,7 @@ fn is_class_named(names: &[u8], row: Row, prim: u64) -> bool
     false
 }
 
-// The first class row so named.
+// Finds the first class row whose name is the type of a primitive array, such as `[C`.
 pub fn class_named(names: &[u8], rows: &[u64], prim: u64) -> Search
     requires { ⌜ prim < 8 ⌝ }
     requires { ⌜ AllNumbersInBounds (now names) (rows-of (now rows)) ⌝ }

@@ -1,4 +1,4 @@
--- How many bytes addresses and lists of references have.
+-- How many bytes addresses and lists of references have in the classic text.
 -- Assumes nothing.
 use mathlib.Core.Path.{_≡_}
 use mathlib.Core.List.{List, [], _∷_}
@@ -8,10 +8,12 @@ use lib.ListN.{length, length-append}
 use Rattle.digits.specs.DigitLengths.{length-upper-digits}
 use Rattle.classic.specs.ClassicText.{address, refs-text}
 
+-- An address has `0x` and W / 4 digits; `bits` is W.
 pub length-address : (bits a : ℕ) → length (address bits a) ≡ 2 + bits / 4
 unfolding address
 length-address bits a = rw length-upper-digits (omega arith)
 
+-- Each reference takes a space and an address.
 pub length-refs-text : (bits : ℕ) (rs : List ℕ) → length (refs-text bits rs) ≡ length rs * (3 + bits / 4)
 unfolding refs-text
 length-refs-text bits [] = omega arith

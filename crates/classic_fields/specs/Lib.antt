@@ -1,2 +1,2 @@
--- Lengths: how many bytes addresses and lists of references have.
+-- FieldLengths: how many bytes addresses and lists of references have in the classic text.
 pub mod FieldLengths

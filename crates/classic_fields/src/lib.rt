@@ -1,12 +1,12 @@
-// Writing addresses and references into a text. Each function writes its bytes at an offset of the output, changes nothing else, and
-// returns the offset after them; the bytes are a definition of Classic.antt.
+// Writes addresses and references of the classic text. Each function writes its bytes at an offset of the output, changes nothing
+// else, and returns the offset after them; the bytes are a definition of classic's specs/ClassicText.antt.
 ghost use Prim.Native.Nat.{_+_, _≤_};
 ghost use lib.ListN.{length, take, drop};
 ghost use Rattle.encode.specs.Writes.{Writes, HasCapacity};
 ghost use Rattle.phd.specs.Shapes.{ValidBits};
 ghost use Rattle.classic.specs.ClassicText.{address, refs-text};
 
-// Writes an address, for W.
+// Writes an address: `0x` and W / 4 upper-case hexadecimal digits; `bits` is W.
 pub fn write_address(out: &mut [u8], at: usize, bits: u64, a: u64) -> usize
     requires { ⌜ ValidBits bits ⌝ }
     requires { ⌜ HasCapacity (now out) at (address bits a) ⌝ }
@@ -17,7 +17,7 @@ pub fn write_address(out: &mut [u8], at: usize, bits: u64, a: u64) -> usize
     digits::write_digits(out, digits, 16, k, a)
 }
 
-// Writes count references from a place of the table on, each after a space.
+// Writes `count` references from index `first` of the table on, each after a space.
 pub fn write_refs(
     out: &mut [u8],
     at: usize,

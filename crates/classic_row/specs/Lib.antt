@@ -1,2 +1,3 @@
--- Row: a row's two lines as they are put, reply 18 for a row without its class row, and that the lines are those of the definition.
+-- RowText: a row's two lines as the functions write them, reply 18 for a row whose class row is missing, and the proof that the
+-- lines are those of the definition.
 pub mod RowText

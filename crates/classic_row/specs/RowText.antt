@@ -1,5 +1,5 @@
--- A row's two lines as they are put: out of an entry, which has what the definition of the text (Classic) searches the class
--- rows for. That the two say the same is proved.
+-- A row's two lines as the functions write them: from a label, which holds what the definition of the text (ClassicText) looks up
+-- among the class rows. They are proved equal to the lines of the definition.
 use mathlib.Core.Path.{_≡_, refl}
 use mathlib.Core.Logic.{⊎-elim}
 use Prim.Native.Nat.{ℕ, _+_, _*_, _/_, _^_, _≤_, _<_}
@@ -28,73 +28,81 @@ use Rattle.classic_row.specs.declared.LabelResult.the-variants.{Found, R
 use Rattle.classic_row.specs.declared.RowSize.{RowSize}
 use Rattle.classic_row.specs.declared.RowSize.the-variants.{Bytes, Reply as ReplySize}
 
--- what the first line says of a row beside its address
+-- The label of a row: its bytes, and the place and length of the name in its type.
 unfoldable pub type-label : List Row → Row → TypeLabel
 type-label rows r = record { bytes = bytes-of rows r; place = naming-class rows r .place; len = naming-class rows r .namelen }
 
--- that, or reply 18 for an object or an object array without its class row
+-- The label of a row, or reply 18 for an object or object array whose class row is missing.
 unfoldable pub type-label-or-18 : List Row → Row → LabelResult
 type-label-or-18 rows r = cond (class-missing rows r) (Reply 18) (Found (type-label rows r))
 
--- the name, the type, `CLS` or `OBJ` behind the bytes, and the first line, by an entry
+-- The name that a label selects from the name bytes.
 abbrev pub label-name : List ℕ → TypeLabel → List ℕ
 label-name names e = take (e .len) (drop (e .place) names)
 
+-- The type of a row of this kind and primitive type, from its label.
 unfoldable pub label-type : List ℕ → ℕ → ℕ → TypeLabel → List ℕ
 label-type names kind prim e = cond (eqb kind 4) (primitive-array-type prim) (cond (eqb kind 3) (object-array-type (label-name names e)) (label-name names e))
 
+-- `CLS` or `OBJ`, with the bracket after the bytes and the spaces: 6 bytes.
 unfoldable pub kind-mark : ℕ → List ℕ
 kind-mark kind = cond (eqb kind 1) (ascii "] CLS ") (ascii "] OBJ ")
 
+-- The first line of a row, from its label.
 unfoldable pub label-line : ℕ → List ℕ → Row → TypeLabel → List ℕ
 label-line bits names r e = join (
     address bits (r .address) ∷ text-decimal " [" (e .bytes) ∷ kind-mark (r .kind) ∷ label-type names (r .kind) (r .prim) e ∷ [])
 
--- a row's two lines, as bytes
+-- A row's two lines as bytes.
 unfoldable pub row-text : ℕ → (names refs : List ℕ) → List Row → Row → List ℕ
 row-text bits names refs rows r = unlines (first-line bits names rows r ∷ second-line bits names refs rows r ∷ [])
 
--- how many they are
+-- The size of a row's two lines, as the functions compute it. 8 is 2 bytes of ` [` and 6 of `kind-mark`.
 unfoldable pub row-size : ℕ → (names : List ℕ) → List Row → Row → ℕ
 row-size bits names rows r =
     let e : TypeLabel = type-label rows r in
     let one : ℕ = 2 + bits / 4 in
     one + 8 + digit-count (e .bytes) + length (label-type names (r .kind) 0 e) + 1 + one + r .count * (1 + one) + 1
 
--- that, or reply 18 likewise
+-- The size of a row's two lines, or reply 18 for an object or object array whose class row is missing.
 unfoldable pub row-size-or-18 : ℕ → (names : List ℕ) → List Row → Row → RowSize
 row-size-or-18 bits names rows r = cond (class-missing rows r) (ReplySize 18) (Bytes (row-size bits names rows r))
 
--- ---- what an answer says of the row
+-- ---- meaning of the results
 
 module _ (rows : List Row) (r : Row) where
+  -- A label means that the row has it and its class row is not missing; a reply is 18 and means that the class row is missing.
   abbrev pub LabelMeans : LabelResult → Type 0
   LabelMeans (Found e) = (class-missing rows r ≡ false) × (e ≡ type-label rows r)
   LabelMeans (Reply n) = (class-missing rows r ≡ true) × (n ≡ 18)
 
+  -- The result of `type-label-or-18` has this meaning.
   pub label-means : (f : LabelResult) → f ≡ type-label-or-18 rows r → LabelMeans f
   unfolding type-label-or-18
   label-means f q = rw q (by-cases (λ t. LabelMeans (cond t (Reply 18) (Found (type-label rows r)))) (class-missing rows r) (λ p. (p, refl)) (λ p. (p, refl)))
 
 module _ (bits : ℕ) (names : List ℕ) (rows : List Row) (r : Row) where
+  -- A size means that it is the row's and its class row is not missing; a reply is 18 and means that the class row is missing.
   abbrev pub SizeMeans : RowSize → Type 0
   SizeMeans (Bytes n) = (class-missing rows r ≡ false) × (n ≡ row-size bits names rows r)
   SizeMeans (ReplySize n) = (class-missing rows r ≡ true) × (n ≡ 18)
 
+  -- The result of `row-size-or-18` has this meaning.
   pub size-means : (f : RowSize) → f ≡ row-size-or-18 bits names rows r → SizeMeans f
   unfolding row-size-or-18
   size-means f q =
       rw q (by-cases (λ t. SizeMeans (cond t (ReplySize 18) (Bytes (row-size bits names rows r)))) (class-missing rows r) (λ p. (p, refl)) (λ p. (p, refl)))
 
--- ---- the two say the same
+-- ---- equality with the definition
 
+-- The first line from a row's label is the first line of the definition.
 pub label-line-is-first-line : (bits : ℕ) (names : List ℕ) (rows : List Row) (r : Row) → label-line bits names r (type-label rows r) ≡ first-line bits names rows r
 unfolding label-line first-line type-label label-type type-of kind-mark name-of
 label-line-is-first-line bits names rows r = refl
 
--- ---- how large the numbers are
+-- ---- bounds
 
--- the class row that names a type lies in the name bytes, and its numbers are small, where so it is of all rows
+-- If the numbers of all rows are in bounds, so are those of the class row whose name is part of a row's type.
 pub naming-class-in-bounds : (names : List ℕ) (rows : List Row) (r : Row) → AllNumbersInBounds names rows → RowNumbersInBounds names r → RowNumbersInBounds names (naming-class rows r)
 unfolding naming-class found-row
 naming-class-in-bounds names rows r a s = by-kind (is-kind 1 r) (is-kind 4 r)
@@ -111,6 +119,7 @@ naming-class-in-bounds names rows r a s = by-kind (is-kind 1 r) (is-kind 4 r)
     by-kind false true = none
     by-kind false false = found _ refl
 
+-- The bytes of a row are below 2^34.
 pub bytes-of-lt : (names : List ℕ) (rows : List Row) (r : Row) → AllNumbersInBounds names rows → RowNumbersInBounds names r → bytes-of rows r < 2 ^ 34
 unfolding bytes-of
 bytes-of-lt names rows r a s = by-kind (is-kind 1 r) (is-kind 2 r)
@@ -120,9 +129,9 @@ bytes-of-lt names rows r a s = by-kind (is-kind 1 r) (is-kind 2 r)
     by-kind false true = let n = naming-class-in-bounds names rows r a s in omega arith
     by-kind false false = omega arith
 
--- ---- how many bytes there are
+-- ---- sizes
 
--- a type has as many, whichever primitive type it is of
+-- The length of a type does not depend on the primitive type.
 length-type : (names : List ℕ) (kind prim : ℕ) (e : TypeLabel) → length (label-type names kind prim e) ≡ length (label-type names kind 0 e)
 unfolding label-type primitive-array-type
 length-type names kind prim e = by-kind (eqb kind 4) _
@@ -131,7 +140,7 @@ length-type names kind prim e = by-kind (eqb kind 4) _
     by-kind true other = refl
     by-kind false other = refl
 
--- and at most three more than a name has
+-- A type is at most three bytes longer than the name of its label.
 type-le : (names : List ℕ) (kind : ℕ) (e : TypeLabel) → length (label-type names kind 0 e) ≤ 3 + length (label-name names e)
 unfolding label-type primitive-array-type object-array-type
 type-le names kind e = by-kind (eqb kind 4) (eqb kind 3) (eqb (getD (label-name names e) 0 0) 0x5B) (label-name names e)
@@ -150,13 +159,14 @@ length-mark kind = by-kind (eqb kind 1)
     by-kind true = refl
     by-kind false = refl
 
+-- The length of a row's two lines is `row-size`, if the row's references are in bounds.
 pub length-row-text : (bits : ℕ) (names refs : List ℕ) (rows : List Row) (r : Row) → r .first + r .count ≤ length refs
     → length (row-text bits names refs rows r) ≡ row-size bits names rows r
 unfolding row-text unlines row-size second-line label-line
 length-row-text bits names refs rows r l =
     rw (← label-line-is-first-line) (simp (length-append, length-address, length-decimal, length-refs-text, length-mark, length-type, length-refs-of) (omega arith))
 
--- how many they are at most
+-- A row's two lines have at most 65,700 bytes and 19 for each reference.
 pub row-size-le : (bits : ℕ) (names : List ℕ) (rows : List Row) (r : Row) → ValidBits bits → AllNumbersInBounds names rows → RowNumbersInBounds names r
     → row-size bits names rows r ≤ 65700 + r .count * 19
 unfolding row-size type-label name-of
@@ -168,11 +178,13 @@ row-size-le bits names rows r w a s =
     let m = length-name-of names (naming-class rows r) (n .name-in-bounds) in
     ⊎-elim (λ e. rw e (omega arith)) (λ e. rw e (omega arith)) w
 
+-- A row's two lines are the first line, its line end, the second line and its line end.
 pub row-text-parts : (bits : ℕ) (names refs : List ℕ) (rows : List Row) (r : Row)
     → row-text bits names refs rows r ≡ first-line bits names rows r ++ ((0x0A ∷ []) ++ (second-line bits names refs rows r ++ (0x0A ∷ [])))
 unfolding row-text unlines
 row-text-parts bits names refs rows r = refl
 
+-- The same, with the first line from the row's label.
 pub row-text-label-parts : (bits : ℕ) (names refs : List ℕ) (rows : List Row) (r : Row)
     → row-text bits names refs rows r ≡ label-line bits names r (type-label rows r) ++ ((0x0A ∷ []) ++ (second-line bits names refs rows r ++ (0x0A ∷ [])))
 row-text-label-parts bits names refs rows r = rw label-line-is-first-line (row-text-parts bits names refs rows r)

@@ -1,4 +1,4 @@
-// A row's two lines: how many bytes they have, and putting them.
+// A row's two lines: their size in bytes, and writing them.
 ghost use mathlib.Core.Path.{_≡_};
 ghost use mathlib.Core.Bool.{false};
 ghost use Prim.Native.Nat.{_+_, _≤_, _<_, _^_};
@@ -14,26 +14,26 @@ use table::Search;
 
 mod parts;
 
-// What the first line says of a row beside its address: its bytes, and where the name of its type stands in the name bytes.
+// The label of a row, for its first line: the bytes to show, and the place and length in the name bytes of the name in its type.
 pub struct TypeLabel {
     pub bytes: u64,
     pub place: usize,
     pub len: usize,
 }
 
-// The entry of a row, or 01's reply where its class row is missing.
+// The label of a row, or reply 18 if its class row is missing.
 pub enum LabelResult {
     Found(TypeLabel),
     Reply(u64),
 }
 
-// How many bytes a row's two lines have, or the same reply.
+// The size of a row's two lines in bytes, or reply 18 if its class row is missing.
 pub enum RowSize {
     Bytes(usize),
     Reply(u64),
 }
 
-// Returns the entry of a row, or reply 18 for an object or an object array without its class row.
+// Returns the label of a row, or reply 18 for an object or object array whose class row is missing.
 fn find_label(rows: &[u64], row: Row) -> LabelResult
     requires { ⌜ row .size < 2 ^ 32 ⌝ }
     requires { ⌜ KnownKind row ⌝ }
@@ -73,7 +73,7 @@ fn find_label(rows: &[u64], row: Row) -> LabelResult
     })
 }
 
-// The class word that the second line shows.
+// Returns the class word that the second line shows.
 fn class_of(names: &[u8], rows: &[u64], row: Row) -> u64
     requires { ⌜ row .prim < 8 ⌝ }
     requires { ⌜ AllNumbersInBounds (now names) (rows-of (now rows)) ⌝ }
@@ -90,7 +90,7 @@ fn class_of(names: &[u8], rows: &[u64], row: Row) -> u64
     row.class
 }
 
-// Returns how many bytes a row's two lines have, for W, or reply 18 where `find_label` does.
+// Returns the size of a row's two lines in bytes, or reply 18 if `find_label` does. `bits` is W.
 pub fn row_text_size(bits: u64, names: &[u8], rows: &[u64], row: Row) -> RowSize
     requires { ⌜ ValidBits bits ⌝ }
     requires { ⌜ AllNumbersInBounds (now names) (rows-of (now rows)) ⌝ }
@@ -112,7 +112,7 @@ pub fn row_text_size(bits: u64, names: &[u8], rows: &[u64], row: Row) -> RowSize
     }
 }
 
-// Puts a row's two lines at a place, and gives the place after them. The row is no object or object array without its class row.
+// Writes a row's two lines at offset `at`, and returns the offset after them. The row's class row must not be missing.
 pub fn write_row_text(
     out: &mut [u8],
     at: usize,
@@ -133,7 +133,7 @@ pub fn write_row_text(
 {
     let found = find_label(rows, row);
     let LabelResult::Found(e) = found else {
-        // Not reached: a reply is given only for a row without its class row.
+        // Not reached: `find_label` returns a reply only for a row whose class row is missing.
         return at;
     };
     let class = class_of(names, rows, row);

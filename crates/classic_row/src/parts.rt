@@ -12,7 +12,7 @@ ghost use Rattle.classic_row.specs.RowText.{label-name, label-type, kind
 use super::TypeLabel;
 use table::Row;
 
-// Whether a name begins with `[`.
+// Checks whether the name of a label begins with `[`.
 fn is_array_name(names: &[u8], e: TypeLabel) -> bool
     requires { ⌜ e .place + e .len ≤ length (now names) ⌝ }
     ensures { λ r. ⌜ r ≡ eqb (getD (label-name (now (names .entry)) e) 0 0) 0x5B ⌝ }
@@ -24,7 +24,7 @@ fn is_array_name(names: &[u8], e: TypeLabel) -> bool
     names[at] == 0x5B
 }
 
-// How many bytes the type has.
+// Returns the size of the type in bytes.
 pub fn type_size(names: &[u8], kind: u64, e: TypeLabel) -> usize
     requires { ⌜ (e .place + e .len ≤ length (now names)) × (e .len < 65536) ⌝ }
     ensures { λ r. ⌜ r ≡ length (label-type (now (names .entry)) kind 0 e) ⌝ }
@@ -41,7 +41,7 @@ pub fn type_size(names: &[u8], kind: u64, e: TypeLabel) -> usize
     e.len
 }
 
-// Puts the type of an array of objects.
+// Writes the type of an object array.
 fn write_array_type(out: &mut [u8], at: usize, names: &[u8], e: TypeLabel) -> usize
     requires { ⌜ e .place + e .len ≤ length (now names) ⌝ }
     requires { ⌜ HasCapacity (now out) at (object-array-type (label-name (now names) e)) ⌝ }
@@ -56,7 +56,7 @@ fn write_array_type(out: &mut [u8], at: usize, names: &[u8], e: TypeLabel) -> us
     encode::encode_bytes(out, end, b";")
 }
 
-// Puts the type.
+// Writes the type of a row.
 fn write_type(out: &mut [u8], at: usize, names: &[u8], kind: u64, prim: u64, e: TypeLabel) -> usize
     requires { ⌜ prim < 8 ⌝ }
     requires { ⌜ e .place + e .len ≤ length (now names) ⌝ }
@@ -73,7 +73,7 @@ fn write_type(out: &mut [u8], at: usize, names: &[u8], kind: u64, prim: u64, e: 
     encode::encode_slice(out, at, names, e.place, e.len)
 }
 
-// Puts the end of the bytes, and `CLS` or `OBJ`.
+// Writes the bracket after the bytes, and `CLS` or `OBJ`.
 fn write_kind_mark(out: &mut [u8], at: usize, kind: u64) -> usize
     requires { ⌜ HasCapacity (now out) at (kind-mark kind) ⌝ }
     ensures { λ r. ⌜ Writes (now (out .entry)) at (kind-mark kind) (now (out .exit)) r ⌝ }
@@ -84,7 +84,7 @@ fn write_kind_mark(out: &mut [u8], at: usize, kind: u64) -> usize
     encode::encode_bytes(out, at, b"] OBJ ")
 }
 
-// Puts the first line.
+// Writes the first line, without its line end.
 pub fn write_first_line(
     out: &mut [u8],
     at: usize,
@@ -105,7 +105,7 @@ pub fn write_first_line(
     write_type(out, c, names, row.kind, row.prim, e)
 }
 
-// Puts the second line: the class word and the references.
+// Writes the second line, the class word and the references, without its line end.
 pub fn write_second_line(
     out: &mut [u8],
     at: usize,

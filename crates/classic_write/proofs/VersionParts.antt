@@ -1,4 +1,4 @@
--- The version line in parts.
+-- The version line is its three parts, joined: `// Version: `, the VM string if there is one, and the line end.
 use mathlib.Core.Path.{_≡_, refl}
 use mathlib.Core.List.{List, [], _∷_}
 use mathlib.Core.Bool.{cond}

@@ -1,4 +1,5 @@
--- The three parts of the text, sized and put one behind the other, for `fit`.
+-- The three parts of the text, sized and written one after the other, give the whole text: for `check_and_size` and
+-- `write_if_fits`.
 use mathlib.Core.Path.{_≡_}
 use Prim.Native.Nat.{ℕ, _+_, _^_, _≤_, _<_}
 use native.Mathlib.Omega.{arith}
@@ -22,21 +23,23 @@ module _ (h : Header) (names refs : List ℕ) (rows : List Row) (t : Tally) (e :
   parts : text-of h names refs rows ≡ version-text names (h .vm) ++ (rows-text (h .bits) names refs rows ++ tally-trailers t)
   parts = rw e (text-parts h names refs rows)
 
-  -- its references and nulls, summed
+  -- The references and nulls of the tally of good tables are together below 2^62.
   pub tally-bound-of : TablesGood h names refs rows → TallyBound t
   tally-bound-of a = rw e (tally-bound rows (exact-counts h names refs rows a .few))
 
-  -- what the functions find: v the size of the version line, w that with the rows, x that of the trailers
+  -- The sizes that the functions compute: v of the version line, w of it with the lines of the rows, x of the trailers.
   module _ (a : TablesGood h names refs rows) (v w x : ℕ) (p : v ≡ length (version-text names (h .vm))) (q : w ≡ v + rows-size (h .bits) names rows) (r : x ≡ length (tally-trailers t)) where
     trailers-is : x ≡ length (tally-trailers (tally-of rows))
     trailers-is = rw e at r
 
+    -- The whole size is the length of the text.
     pub size-is : w + x ≡ length (text-of h names refs rows)
     size-is =
         let s = text-length h names refs rows a in
         let z = trailers-is in
         omega arith
 
+    -- The whole size is below 2^63, so its sum does not overflow.
     pub size-lt : w + x < 2 ^ 63
     size-lt =
         let s = rows-size-lt h names refs rows a in
@@ -44,7 +47,7 @@ module _ (h : Header) (names refs : List ℕ) (rows : List Row) (t : Tally) (e :
         let z = trailers-is in
         omega arith
 
-  -- the parts have room where the text has, and put one behind the other they are the text
+  -- An output with capacity for the text has capacity for each part, and the parts, written one after the other, are the text.
   module _ (out : List ℕ) (l : length (text-of h names refs rows) ≤ length out) where
     text-capacity : HasCapacity out 0 (version-text names (h .vm) ++ (rows-text (h .bits) names refs rows ++ tally-trailers t))
     text-capacity = omega (arith, rw parts at l)

@@ -1,8 +1,8 @@
--- In reading order: Promises (what holds of a text), LineEnds (which of its lines end in a space) and Parts (the text in its three
--- parts, as the functions size and put them).
--- The rest are the proofs on the way: Sizes (how many bytes the parts have), Loops (row after row, for the functions that size
--- and put the rows), Ways (the five ways of a text, what asking for its size says of it, and what good tables give the
--- functions) and Measures (what is found of a text before it is put).
+-- In reading order: TextTheorems (the theorems about the text), LineEnds (which of its lines end in a space) and TextParts (the
+-- text in its three parts, as the functions size and write them).
+-- The others are for the proofs: TextSizes (sizes of the parts), TextInvariants (loop invariants of the functions that size and
+-- write the rows), TextOutcomes (the replies by the checks, the size query, and bounds that good tables satisfy) and SizedText
+-- (the result of checking and sizing a text, before it is written).
 pub mod TextTheorems
 pub mod LineEnds
 pub mod TextParts

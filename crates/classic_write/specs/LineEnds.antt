@@ -1,5 +1,5 @@
--- Of a text that is written, no line but the version line ends in a space; the version line does exactly if the VM string is
--- missing, is empty or ends in a space itself: 01's "no trailing space but where shown".
+-- No line of a written text but the version line ends in a space; the version line does exactly if the VM string is absent, is
+-- empty or ends in a space itself (docs/FORMAT.md 7.1; 01 demands "no trailing space but where shown").
 -- A reader must believe `last-or`, `last-byte`, `EndsInSpace` and `Each`. Assumes nothing.
 use mathlib.Core.Path.{_≡_, refl}
 use mathlib.Core.Logic.{_↔_, _⊎_, inl, inr}
@@ -29,20 +29,20 @@ use Rattle.classic.specs.ClassicText.{address, class-at, class-missing, letters
 use Rattle.classic.specs.ClassRows.{ClassMissing}
 use Rattle.classic_write.specs.TextTheorems.{no-class-missing, class-at-first, class-at-none}
 
--- the last of some bytes, or b if there are none
+-- The last of some bytes, or b if there are none.
 unfoldable pub last-or : ℕ → List ℕ → ℕ
 last-or b [] = b
 last-or b (c ∷ rest) = last-or c rest
 
--- the last byte of a line; 0 of an empty line
+-- The last byte of a line, or 0 if the line is empty.
 unfoldable pub last-byte : List ℕ → ℕ
 last-byte line = last-or 0 line
 
--- its last byte is a space
+-- A line's last byte is a space.
 abbrev pub EndsInSpace : List ℕ → Type 0
 EndsInSpace line = last-byte line ≡ 0x20
 
--- every line of a list satisfies P
+-- Every line of a list satisfies P.
 abbrev pub Each : (List ℕ → Type 0) → List (List ℕ) → Type 0
 Each P [] = Unit {0}
 Each P (line ∷ rest) = P line × Each P rest
@@ -74,7 +74,7 @@ version-ends-in-space names t = version-by (t .present) (vm-text names t)
 
 -- ---- bytes that do not end in a space
 
--- There is a last byte, and it is not a space. (b is any byte before them: were there no bytes, it could be a space.)
+-- There is a last byte, and it is not a space. (b is any byte before them; if there were no bytes, b could be a space.)
 record NoFinalSpace (bytes : List ℕ) : Type 0 where
   last : (b : ℕ) → last-or b bytes ≡ 0x20 → ⊥
 
@@ -87,7 +87,7 @@ unfolding last-or
 final-append [] n = n
 final-append (x ∷ xs) n = record { last = λ _. final-append xs n .last x }
 
--- the last of the lists that are joined
+-- The last of the lists that are joined.
 abbrev last-part : List (List ℕ) → List ℕ
 last-part [] = []
 last-part (x ∷ []) = x
@@ -98,13 +98,14 @@ final-join [] n = n
 final-join (x ∷ []) n = rw append-nil n
 final-join (x ∷ y ∷ rest) n = final-append x (final-join (y ∷ rest) n)
 
--- Bytes of which each is at least 0x21: the one at an index is, and the last of at least one is not a space.
+-- If all bytes are 0x21 to 0x7E, each is above 0x20.
 within-at : (bytes : List ℕ) (i : ℕ) → all-within 0x21 0x7E bytes ≡ true → i < length bytes → 0x20 < getD bytes i 0
 unfolding all-within
 within-at [] i w l = absurd (omega arith)
 within-at (b ∷ rest) zero w l = leb-true 0x21 b (and-left (leb 0x21 b) (leb b 0x7E) (and-left (leb 0x21 b && leb b 0x7E) (all-within 0x21 0x7E rest) w))
 within-at (b ∷ rest) (suc i) w l = within-at rest i (and-right (leb 0x21 b && leb b 0x7E) (all-within 0x21 0x7E rest) w) (omega arith)
 
+-- If all bytes are 0x21 to 0x7E and there is at least one, the last is not a space.
 final-within : (bytes : List ℕ) → all-within 0x21 0x7E bytes ≡ true → 1 ≤ length bytes → NoFinalSpace bytes
 unfolding all-within last-or
 final-within [] w l = absurd (omega arith)
@@ -115,7 +116,7 @@ final-within (b ∷ c ∷ rest) w l =
 
 -- ---- numbers
 
--- A digit is at least 48, which is `0`, and in capitals it is still above 0x20.
+-- The byte of a digit is at least 48, that of `0`.
 digit-least : (d : ℕ) → 48 ≤ cond (ltb d 10) (48 + d) (87 + d)
 digit-least d = by (ltb d 10)
   where
@@ -123,6 +124,7 @@ digit-least d = by (ltb d 10)
     by true = omega arith
     by false = omega arith
 
+-- In upper case it is still above 0x20.
 uppercase-above-space : (c : ℕ) → 48 ≤ c → 0x20 < uppercase c
 unfolding uppercase
 uppercase-above-space c l = by (ltb c 0x61) refl
@@ -173,7 +175,7 @@ final-second bits names refs rows r w = final-refs-text bits w _ (refs-of refs r
 
 -- ---- the first line of a row
 
--- what a good row's kind says of its name, which is as long as the row says
+-- The row and its name satisfy the checks of its kind, and the name has the length that the row gives.
 record GoodName (names : List ℕ) (r : Row) : Type 0 where
   kind-good : GoodKind (without-place r) (name-of names r)
   long : length (name-of names r) ≡ r .namelen
@@ -201,7 +203,7 @@ module _ (names : List ℕ) (rows : List Row) (all : All (GoodName names) rows) 
       by (an-array kind _ _ _ _ _) = absurd (omega arith)
       by (a-primitive kind _ _ _ _ _ _) = absurd (omega arith)
 
-  -- the name of the class of an object or object array that has its class row
+  -- The name of the class of an object or object array whose class row is not missing does not end in a space.
   class-row-name-no-space : (r : Row) → (r .kind ≡ 2) ⊎ (r .kind ≡ 3) → (ClassMissing rows r → ⊥) → NoFinalSpace (name-of names (found-row rows (class-at rows (r .class))))
   unfolding found-row
   class-row-name-no-space r k missing = by (class-at rows (r .class)) refl
@@ -227,15 +229,15 @@ module _ (names : List ℕ) (rows : List Row) (all : All (GoodName names) rows) 
           rw (other 4 (λ e. omega arith), eq-eqb (r .kind) 3 kind, other 1 (λ e. omega arith)) (final-array _ (class-row-name-no-space r (inr kind) missing))
       by (a-primitive kind _ _ _ _ type _) = rw (eq-eqb (r .kind) 4 kind) (final-primitive-array-type (r .prim) type)
 
--- the type ends the line
+-- The first line ends in the type, so it does not end in a space if the type does not.
 final-first : (bits : ℕ) (names : List ℕ) (rows : List Row) (r : Row) → NoFinalSpace (type-of names rows r) → NoFinalSpace (first-line bits names rows r)
 unfolding first-line
 final-first bits names rows r t =
     final-join (address bits (r .address) ∷ text-decimal " [" _ ∷ cond (is-kind 1 r) (ascii "] CLS ") (ascii "] OBJ ") ∷ type-of names rows r ∷ []) t
 
--- ---- the lines
+-- ---- all lines
 
--- Both conditions on the tables hold exactly if a size query returns 0 (Promises, `Asks .done`), and so for every text written.
+-- Both conditions on the tables hold exactly if a size query returns 0 (`TextSizeReplies .done`), and so for every text written.
 module _ (h : Header) (names refs : List ℕ) (rows : List Row) (a : TablesGood h names refs rows) (f : first-row (class-missing rows) rows ≡ NotFound) where
   all-named : All (GoodName names) rows
   unfolding rec-of without-place
@@ -257,7 +259,7 @@ module _ (h : Header) (names refs : List ℕ) (rows : List Row) (a : TablesGood 
   pub no-space-after-version : Each (λ line. EndsInSpace line → ⊥) (row-lines (h .bits) names refs rows rows ++ (breakdown-line rows ∷ totals-line rows ∷ []))
   no-space-after-version = row-ends rows (λ i l. final-type names rows all-named (nth rows i) (all-nth (GoodName names) rows i all-named l) (no-class-missing rows .0 f i l))
 
-  -- The same of all lines, numbered from 0: if a line ends in a space, it is the first, the version line.
+  -- If a line of the text ends in a space, it is line 0, the version line.
   pub space-in-first : (i : ℕ) → EndsInSpace (getD (text-lines h names refs rows) i []) → i ≡ 0
   unfolding text-lines
   space-in-first zero e = refl

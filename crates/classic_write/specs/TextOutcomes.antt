@@ -1,4 +1,4 @@
--- A text by its tests, and what good tables give the functions.
+-- The replies of the text and its size query by their checks, and bounds that good tables satisfy.
 -- Assumes nothing.
 use mathlib.Core.Path.{_≡_, refl, sym, ap}
 use Prim.Native.Nat.{ℕ, _+_, _^_, _<_}
@@ -24,7 +24,7 @@ use Rattle.classic_write.specs.TextParts.{version-text, rows-size, size-
 use Rattle.classic_write.specs.TextSizes.{version-le, rows-size-le}
 use Rattle.classic_write.specs.declared.rows.LinesSize.the-variants.{Bytes, Refused}
 
--- ---- the ways
+-- ---- replies by the checks
 
 module _ (h : Header) (names refs : List ℕ) (rows : List Row) (out-capacity : ℕ) where
   abbrev text : List ℕ
@@ -36,19 +36,19 @@ module _ (h : Header) (names refs : List ℕ) (rows : List Row) (out-capacity : 
   abbrev outcome : WriteResult
   outcome = text-rows h names refs rows out-capacity
 
-  -- by the tests, each reply exactly in its case
+  -- The checks decide the reply, each exactly in its case.
   pub text-by-checks : CheckReplies (good-header h names rows refs) (first-bad h names refs rows) missing (leb (length text) out-capacity) text outcome
   unfolding text-rows
   text-by-checks = check-replies _ _ _ _ _
 
--- ---- asking for the size
+-- ---- the size query
 
--- by the pass that sizes the rows: with a size every row has its class, and it is that size
+-- If the pass that sizes the rows returns a size, no class row is missing, and it is the size n.
 pub size-has-classes : (f : Search) (n m : ℕ) → Bytes m ≡ size-or-18 f n → (f ≡ NotFound) × (m ≡ n)
 size-has-classes (At i) n m e = let z : _≡_ {A = ℕ} 0 1 = cc in absurd (omega arith)
 size-has-classes NotFound n m e = (refl, cc)
 
--- with a refusal it is that of the third test
+-- If it returns a refusal, that is the refusal of the third check, 18.
 refusal-is-18 : (f : Search) (n : ℕ) (w : Answer) (bytes : List ℕ) → Refused w ≡ size-or-18 f n → (w ≡ checked-write true NotFound f true bytes .answer) × (w .reply ≡ 0 → ⊥)
 unfolding checked-write refused
 refusal-is-18 (At i) n w bytes e = let q : w ≡ record { reply = 18; place = i } = cc in (q, λ z. omega (arith, rw q at z))
@@ -59,30 +59,31 @@ both-true-right true = refl
 both-true-right false = refl
 
 module _ (h : Header) (names refs : List ℕ) (rows : List Row) where
-  -- by the first two tests, and by the third
+  -- A refusal by the first two checks (15, 16) is the answer of the size query.
   pub check-refusal : (w : Answer) → w ≡ checked-input (good-header h names rows refs) (first-bad h names refs rows) → (w .reply ≡ 0 → ⊥) → w ≡ text-rows-size h names refs rows
   unfolding text-rows-size
   check-refusal w e z = query-refused _ _ _ _ _ w e z
 
+  -- For good tables a refusal by the pass that sizes the rows is the answer of the size query.
   pub class-refusal : TablesGood h names refs rows → (w : Answer) (n : ℕ) → Refused w ≡ size-or-18 (first-row (class-missing rows) rows) n
       → (w ≡ text-rows-size h names refs rows) × (w .reply ≡ 0 → ⊥)
   unfolding text-rows-size
   class-refusal a w n e = rw (a .0, a .1, text-rows-size) (refusal-is-18 _ n w _ e)
 
-  -- where they all hold
+  -- If all three checks pass, the size query returns 0 with the length of the text.
   pub size-query-size : TablesGood h names refs rows → first-row (class-missing rows) rows ≡ NotFound
       → record { reply = 0; place = length (text-of h names refs rows) } ≡ text-rows-size h names refs rows
   unfolding text-rows-size
   size-query-size a f = query-size _ _ _ _ _ (a .0) (a .1) f refl
 
-  -- asking is a text with just as much room as it takes
+  -- A size query is answered like writing the text to an output of exactly its length.
   pub size-query-as-text : text-rows-size h names refs rows ≡ text-rows h names refs rows (length (text-of h names refs rows)) .answer
   unfolding text-rows text-rows-size
   size-query-as-text =
       ap (λ b. checked-write (good-header h names rows refs) (first-bad h names refs rows) (first-row (class-missing rows) rows) b (text-of h names refs rows) .answer)
       (sym (le-leb (length (text-of h names refs rows)) (length (text-of h names refs rows)) (omega arith)))
 
-  -- a text asks for room beside all that asking asks
+  -- Writing the text makes the checks of the size query, and checks the output's capacity.
   pub text-as-size-query : (out-capacity : ℕ) → text-rows h names refs rows out-capacity
       ≡ checked-write (good-header h names rows refs) (first-bad h names refs rows) (first-row (class-missing rows) rows) (leb (length (text-of h names refs rows)) out-capacity && true) (text-of h names refs rows)
   unfolding text-rows
@@ -90,7 +91,7 @@ module _ (h : Header) (names refs : List ℕ) (rows : List Row) where
       ap (λ b. checked-write (good-header h names rows refs) (first-bad h names refs rows) (first-row (class-missing rows) rows) b (text-of h names refs rows))
       (both-true-right (leb (length (text-of h names refs rows)) out-capacity))
 
-  -- what it says of a text
+  -- The answer w of the size query agrees with writing the text to an output of any length.
   pub size-query-agrees : (w : Answer) (out-capacity : ℕ) → w ≡ text-rows-size h names refs rows → QueryAgrees w out-capacity (text-rows h names refs rows out-capacity)
   unfolding text-rows-size
   size-query-agrees w out-capacity e = rw (text-as-size-query out-capacity) (by-query _ _ _ _ _ w out-capacity e)
@@ -98,10 +99,11 @@ module _ (h : Header) (names refs : List ℕ) (rows : List Row) where
 -- ---- good tables
 
 module _ (h : Header) (names refs : List ℕ) (rows : List Row) (a : TablesGood h names refs rows) where
+  -- The VM string of a good header lies in the name bytes.
   pub good-vm-in-bounds : VmInBounds names (h .vm)
   good-vm-in-bounds = vm-in-bounds _ _ (header-vm-good h names rows refs (a .0))
 
-  -- the version line and the rows are far below what 64 bits hold
+  -- The version line and the lines of the rows have fewer than 2^62 bytes, so their size fits 64 bits.
   pub rows-size-lt : length (version-text names (h .vm)) + rows-size (h .bits) names rows < 2 ^ 62
   rows-size-lt =
       let v = version-le names (h .vm) good-vm-in-bounds in

@@ -1,4 +1,4 @@
--- How many bytes the version line, the lines of the rows and the trailers have, and how many they are at most.
+-- The sizes of the version line, the lines of the rows and the trailers in bytes, and upper bounds of them.
 -- Assumes nothing.
 use mathlib.Core.Path.{_≡_, refl}
 use Prim.Native.Nat.{ℕ, _+_, _*_, _^_, _≤_, _<_}
@@ -25,6 +25,7 @@ use Rattle.classic_write.specs.TextParts.{TallyBound, unlines-append, ve
 
 -- ---- the version line
 
+-- The version line has 13 bytes and those of the VM string, if there is one.
 pub length-version : (names : List ℕ) (t : StringSpan) → VmInBounds names t → length (version-text names t) ≡ 13 + cond (t .present) (t .len) 0
 unfolding version-text version-line unlines
 length-version names t v = by (t .present) refl
@@ -33,6 +34,7 @@ length-version names t v = by (t .present) refl
     by true e = let l = length-vm-text names t v e in simp length-append (omega arith)
     by false e = refl
 
+-- It has at most 65,548 bytes.
 pub version-le : (names : List ℕ) (t : StringSpan) → VmInBounds names t → length (version-text names t) ≤ 65548
 version-le names t v = rw (length-version names t v) (by (t .present) refl)
   where
@@ -42,7 +44,8 @@ version-le names t v = rw (length-version names t v) (by (t .present) refl)
 
 -- ---- the rows
 
--- the lines of a row, and of those after it; `rows` are all, among which classes are found
+-- The lines of r and the rows after it are r's lines, then those of the others. `rows` are all rows, among which classes are
+-- looked up.
 pub unlines-row-cons : (bits : ℕ) (names refs : List ℕ) (rows : List Row) (r : Row) (some : List Row)
     → unlines (row-lines bits names refs rows (r ∷ some)) ≡ row-text bits names refs rows r ++ unlines (row-lines bits names refs rows some)
 unfolding row-lines row-text
@@ -57,6 +60,7 @@ module _ (bits : ℕ) (names refs : List ℕ) (rows : List Row) where
       let t = length-rows-from some (a .1) in
       rw (unlines-row-cons, length-append, l, t)
 
+  -- The length of the lines of all rows is `rows-size`.
   pub length-rows-text : AllRefsInBounds refs rows → length (rows-text bits names refs rows) ≡ rows-size bits names rows
   unfolding rows-text rows-size
   length-rows-text l = length-rows-from rows (l .span)
@@ -70,6 +74,7 @@ module _ (bits : ℕ) (names refs : List ℕ) (rows : List Row) (w : ValidBits b
       let t = rows-size-from-most some (b .1) in
       omega arith
 
+  -- At most 65,700 bytes for each of at most 2^30 rows, and 19 for each of at most 2^30 references.
   pub rows-size-le : AllRefsInBounds refs rows → length rows ≤ 2 ^ 30 → length refs ≤ 2 ^ 30 → rows-size bits names rows ≤ 2 ^ 30 * 65700 + 2 ^ 30 * 19
   unfolding rows-size
   rows-size-le l f g =
@@ -79,6 +84,7 @@ module _ (bits : ℕ) (names refs : List ℕ) (rows : List Row) (w : ValidBits b
 
 -- ---- the trailers
 
+-- The references and nulls of rows with bounded counts are together below 2^62.
 pub tally-bound : (rows : List Row) → CountBounds rows → TallyBound (tally-of rows)
 unfolding tally-of
 tally-bound rows f =
@@ -86,11 +92,13 @@ tally-bound rows f =
     let n = f .nulls-bound in
     record { small = omega arith }
 
+-- The trailers have 113 bytes that do not depend on the counts, and the digits of seven numbers.
 pub length-trailers : (t : Tally)
     → length (tally-trailers t) ≡ 113 + (digit-count (t .classes) + digit-count (t .objects) + digit-count (t .arrays) + digit-count (t .primitives)) + (digit-count (t .rows) + digit-count (t .refs + t .nulls) + digit-count (t .nulls))
 unfolding tally-trailers tally-breakdown tally-totals unlines
 length-trailers t = simp (length-append, length-decimal) (omega arith)
 
+-- They have at most 253 bytes: 113, and 20 digits for each of seven numbers.
 pub trailers-le : (rows : List Row) → CountBounds rows → length (tally-trailers (tally-of rows)) ≤ 253
 unfolding tally-of
 trailers-le rows f =

@@ -1,5 +1,6 @@
--- The promises about the text, of `text-rows` and of asking for its size, in reading order.
--- A reader must believe the statements and their records, and those of Search (table) and ClassRows (classic). Assumes nothing.
+-- The theorems about the text and its size query, `text-rows` and `text-rows-size`, in reading order.
+-- A reader must believe the statements and their records, those of Search, SizeQuery and OffsetsIgnored (table), and those of
+-- ClassRows (classic). Assumes nothing.
 use mathlib.Core.Path.{_≡_, refl, ap, _∙_}
 use mathlib.Core.Logic.{_↔_, _⊎_}
 use Prim.Native.Nat.{ℕ, _+_, _*_, _≤_, _<_}
@@ -33,33 +34,33 @@ use Rattle.classic_write.specs.TextOutcomes.{text-by-checks, size-query-
 
 -- ---- each reply exactly in its case
 
--- What holds of what a text of these tables gives, with `room` bytes of output.
+-- What the result w of writing these tables as text satisfies, with an output of `out-capacity` bytes.
 pub record TextReplies (h : Header) (names refs : List ℕ) (rows : List Row) (out-capacity : ℕ) (w : WriteResult) : Type 0 where
-  -- 15: the header is bad
+  -- 15: the header is bad.
   pub header : (w .answer .reply ≡ 15) ↔ (good-header h names rows refs ≡ false)
-  -- 16 with the place i: the header is good, and the first bad row is the row i
+  -- 16 with the place i: the header is good, and the first bad row is row i.
   pub row : (i : ℕ) → ((w .answer .reply ≡ 16) × (w .answer .place ≡ i))
       ↔ ((good-header h names rows refs ≡ true) × (first-bad h names refs rows ≡ At i))
-  -- 18 with the place i: the header is good and no row is bad, and the first row without its class is the row i
+  -- 18 with the place i: the header is good, no row is bad, and the first row whose class row is missing is row i.
   pub no-class : (i : ℕ) → ((w .answer .reply ≡ 18) × (w .answer .place ≡ i)) ↔ ((TablesGood h names refs rows) × (first-row (class-missing rows) rows ≡ At i))
-  -- 17: the header is good, no row is bad and none lacks its class, and the text is longer than the room
+  -- 17: the header is good, no row is bad, no class row is missing, and the text is longer than the output.
   pub too-small : (w .answer .reply ≡ 17)
       ↔ ((TablesGood h names refs rows) × (first-row (class-missing rows) rows ≡ NotFound) × (out-capacity < length (text-of h names refs rows)))
-  -- 0: all that is good, and the text fits the room
+  -- 0: the same, but the text fits the output.
   pub done : (w .answer .reply ≡ 0)
       ↔ ((TablesGood h names refs rows) × (first-row (class-missing rows) rows ≡ NotFound) × (length (text-of h names refs rows) ≤ out-capacity))
-  -- there is no other reply
+  -- There is no other reply.
   pub reply-cases : (w .answer .reply ≡ 0) ⊎ ((w .answer .reply ≡ 15) ⊎ ((w .answer .reply ≡ 16) ⊎ ((w .answer .reply ≡ 17) ⊎ (w .answer .reply ≡ 18))))
-  -- 15 and 17 have the place 0
+  -- 15 and 17 have the place 0.
   pub place-15 : w .answer .reply ≡ 15 → w .answer .place ≡ 0
   pub place-17 : w .answer .reply ≡ 17 → w .answer .place ≡ 0
-  -- a refusal writes nothing
+  -- A refusal writes nothing.
   pub no-bytes : (w .answer .reply ≡ 0 → ⊥) → w .bytes ≡ []
-  -- with 0 the bytes are the text, and the place is how many they are
+  -- With 0 the bytes are the text, and the place is their number.
   pub bytes : w .answer .reply ≡ 0 → w .bytes ≡ text-of h names refs rows
   pub place-0 : w .answer .reply ≡ 0 → w .answer .place ≡ length (w .bytes)
 
--- So it is of any header, any tables and any room.
+-- The result of writing satisfies this for any header, any tables and any output.
 pub text-replies : (h : Header) (names refs : List ℕ) (rows : List Row) (out-capacity : ℕ) → TextReplies h names refs rows out-capacity (text-rows h names refs rows out-capacity)
 unfolding done
 text-replies h names refs rows out-capacity = record {
@@ -82,18 +83,19 @@ text-replies h names refs rows out-capacity = record {
     t : CheckReplies (good-header h names rows refs) (first-bad h names refs rows) (first-row (class-missing rows) rows) (leb (length text) out-capacity) text (text-rows h names refs rows out-capacity)
     t = text-by-checks h names refs rows out-capacity
 
--- ---- asking for the size first
+-- ---- the size query
 
--- What holds of what asking answers of these tables.
+-- What the answer of a size query for the text of these tables satisfies.
 pub record TextSizeReplies (h : Header) (names refs : List ℕ) (rows : List Row) (query : Answer) : Type 0 where
-  -- it is what a text answers whose output is just as long as it: so each reply comes exactly in its case, as above
+  -- It is the answer of writing the text to an output of exactly its length, so each reply is returned exactly in its case above.
   pub as-write : query ≡ text-rows h names refs rows (length (text-of h names refs rows)) .answer
-  -- 0: the header is good, no row is bad and none lacks its class; the place is how many bytes the text has
+  -- 0: the header is good, no row is bad and no class row is missing; the place is the number of bytes of the text.
   pub done : (query .reply ≡ 0) ↔ ((TablesGood h names refs rows) × (first-row (class-missing rows) rows ≡ NotFound))
   pub count : query .reply ≡ 0 → query .place ≡ length (text-of h names refs rows)
-  -- 17 never: a text has no limit but the output
+  -- Never 17: the text has no limit but the output.
   pub never-17 : query .reply ≡ 17 → ⊥
 
+-- The size query satisfies this for any header and any tables.
 pub text-size-replies : (h : Header) (names refs : List ℕ) (rows : List Row) → TextSizeReplies h names refs rows (text-rows-size h names refs rows)
 text-size-replies h names refs rows = record {
   as-write = e;
@@ -108,36 +110,37 @@ text-size-replies h names refs rows = record {
     e : text-rows-size h names refs rows ≡ text-rows h names refs rows (length (text-of h names refs rows)) .answer
     e = size-query-as-text h names refs rows
 
--- Of any room: the text answers 0 exactly where asking answers 0 and the output holds its count, with the same place; any other
--- refusal is the same from both (SizeQuery.Split, of table).
+-- For any output: writing returns 0 exactly if the size query returns 0 and its count fits the output, with the same place; a
+-- refusal other than 17 is the same from both (`QueryAgrees`, SizeQuery of table).
 pub text-after-size-query : (h : Header) (names refs : List ℕ) (rows : List Row) (out-capacity : ℕ) → QueryAgrees (text-rows-size h names refs rows) out-capacity (text-rows h names refs rows out-capacity)
 text-after-size-query h names refs rows out-capacity = size-query-agrees h names refs rows _ out-capacity refl
 
--- An output that is just as long as the count is enough: the text fills it.
+-- An output of exactly the size query's count is enough: the text fills it.
 pub exact-capacity : (h : Header) (names refs : List ℕ) (rows : List Row) (out : List ℕ) → text-rows-size h names refs rows .reply ≡ 0 → length out ≡ text-rows-size h names refs rows .place
     → overwrite out (text-rows h names refs rows (length out) .bytes) ≡ text-of h names refs rows
 exact-capacity h names refs rows out z l =
     let d = text-after-size-query h names refs rows (length out) .done .1 (z, omega arith) in
     rw (text-replies h names refs rows (length out) .bytes d) (overwrite-all out (text-of h names refs rows) (l ∙ text-size-replies h names refs rows .count z))
 
--- ---- the offsets of the rows
+-- ---- offsets of the rows
 
--- They may be any numbers: tables that differ in them alone, or after their last whole row, give the same text and size.
+-- Offsets are ignored: tables that differ only in them, or after their last whole row, give the same text and size.
 pub text-ignores-offsets : (h : Header) (names refs : List ℕ) {table table′ : List ℕ} (out-capacity : ℕ) → EqualExceptOffsets table table′
     → (text-result h names refs table out-capacity ≡ text-result h names refs table′ out-capacity) × (text-size-result h names refs table ≡ text-size-result h names refs table′)
 text-ignores-offsets h names refs out-capacity a = (ap (λ rows. text-rows h names refs rows out-capacity) (rows-of-equal a), ap (text-rows-size h names refs) (rows-of-equal a))
 
--- ---- the first row without its class, and the class row of an address
+-- ---- missing class rows, and the class row of an address
 
--- The row that is found is the first object or object array for whose class word there is no class row; where no row is found,
--- none is such.
+-- The search for missing class rows finds row i exactly if it is the first object or object array for whose class word there is
+-- no class row.
 pub first-class-missing : (rows : List Row) (i : ℕ) → (first-row (class-missing rows) rows ≡ At i) ↔ IsFirst (ClassMissing rows) rows i
 first-class-missing rows = first-row-at (ClassMissing rows) (class-missing rows) (class-missing-iff rows) rows
 
+-- It finds no row exactly if there is no such object or object array.
 pub no-class-missing : (rows : List Row) → (first-row (class-missing rows) rows ≡ NotFound) ↔ NoneSatisfies (ClassMissing rows) rows
 no-class-missing rows = first-row-none (ClassMissing rows) (class-missing rows) (class-missing-iff rows) rows
 
--- So it is of 18's row.
+-- The reply is 18 with the place i exactly if the tables are good and row i is the first whose class row is missing.
 pub reply-18-row : (h : Header) (names refs : List ℕ) (rows : List Row) (out-capacity i : ℕ)
     → ((text-rows h names refs rows out-capacity .answer .reply ≡ 18) × (text-rows h names refs rows out-capacity .answer .place ≡ i))
     ↔ ((TablesGood h names refs rows) × IsFirst (ClassMissing rows) rows i)
@@ -145,32 +148,33 @@ reply-18-row h names refs rows out-capacity i =
     let x = text-replies h names refs rows out-capacity .no-class i in
     (λ z. (x .0 z .0, first-class-missing rows i .0 (x .0 z .1)), λ e. x .1 (e .0, first-class-missing rows i .1 (e .1)))
 
--- The class row of an address is the first that has it; where none is found, there is none.
+-- The class row of an address is the first class row with this address.
 pub class-at-first : (rows : List Row) (a i : ℕ) → (class-at rows a ≡ At i) ↔ IsFirst (ClassRow a) rows i
 class-at-first rows a = first-row-at (ClassRow a) (is-class-at a) (is-class-at-iff a) rows
 
+-- No class row is found exactly if none has this address.
 pub class-at-none : (rows : List Row) (a : ℕ) → (class-at rows a ≡ NotFound) ↔ NoneSatisfies (ClassRow a) rows
 class-at-none rows a = first-row-none (ClassRow a) (is-class-at a) (is-class-at-iff a) rows
 
--- ---- the figures of the last line
+-- ---- totals of the last line
 
--- Of good tables the reference total is what the rows have, nulls included: the true lengths of object arrays, and the references
--- of all other rows. What an object array's nulls are is said by phd_counts (Exact).
+-- The reference total of good tables includes the nulls: it is the sum of the true lengths of object arrays and the reference
+-- counts of all other rows. The nulls of an object array are defined in Counts of phd_counts (`nulls-of`).
 pub totals-of-good-tables : (h : Header) (names refs : List ℕ) (rows : List Row) → TablesGood h names refs rows
     → totals-line rows ≡ join (text-decimal "// EOF:  Total 'Objects',Refs(null) : " (length rows) ∷ text-decimal "," (sum with-nulls rows) ∷ text-decimal "(" (nulls rows) ∷ ascii ")" ∷ [])
 unfolding totals-line
 totals-of-good-tables h names refs rows a = rw (all-exact h names refs rows a .total)
 
--- ---- how long the text is
+-- ---- length of the text
 
--- The text of good tables is as long as its parts, summed before a byte is put, say.
+-- The text of good tables is as long as the sum of its parts' sizes, which the functions compute before they write a byte.
 pub text-length : (h : Header) (names refs : List ℕ) (rows : List Row) → TablesGood h names refs rows
     → length (text-of h names refs rows) ≡ length (version-text names (h .vm)) + rows-size (h .bits) names rows + length (tally-trailers (tally-of rows))
 text-length h names refs rows a =
     let l = length-rows-text (h .bits) names refs rows (all-refs-in-bounds h names refs rows a) in
     rw (text-parts h names refs rows, length-append, length-append, l) (omega arith)
 
--- Two lines a row, and three: the version and the trailers.
+-- The text has two lines for each row, and three more: the version line and the trailers.
 pub line-count : (h : Header) (names refs : List ℕ) (rows : List Row) → length (text-lines h names refs rows) ≡ 2 * length rows + 3
 unfolding text-lines row-lines
 line-count h names refs rows = let e = of rows in simp length-append (omega arith)

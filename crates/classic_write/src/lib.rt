@@ -1,5 +1,5 @@
-// Writing tables as classic text: the public operations `text_size`, which asks how many bytes it takes, and `text`.
-// The contract of the first is one equation with the definition; that of the second one for the answer, and one for the output.
+// Writing tables as classic text: the public operations `text_size`, the size query, and `text`.
+// The contract of `text_size` is one equation with the definition; that of `text` is two, for the answer and for the output.
 ghost use mathlib.Core.Path.{_≡_};
 ghost use lib.ListN.{length};
 ghost use Rattle.table.specs.Buffer.{overwrite};
@@ -15,13 +15,14 @@ mod rows;
 mod trailers;
 mod version;
 
-// What is found of a text before a byte of it is put: its refusal, or its size and the counts that its trailers say.
+// The result of checking and sizing a text before any byte of it is written: a refusal, or the size and the counts of the rows.
 enum SizedText {
     Refused(Answer),
     Sized(usize, Tally),
 }
 
-// Checks the header and the rows, then the class of each row in the pass that sizes their lines, and sizes the whole text.
+// Checks the header and the rows, then computes the size of the text. The pass that sizes the lines of the rows also checks that
+// no row's class row is missing.
 fn check_and_size(header: Header, rows: &[u64], refs: &[u64], names: &[u8]) -> SizedText
     ensures { λ r. ⌜ SizedTextMeans header (now (names .entry)) (now (refs .entry)) (rows-of (now (rows .entry))) r ⌝ }
 {
@@ -39,8 +40,8 @@ fn check_and_size(header: Header, rows: &[u64], refs: &[u64], names: &[u8]) -> S
     }
 }
 
-// Asks how many bytes the whole rows of a table and their references take as classic text: everything is checked as for `text`,
-// and nothing is written.
+// Returns how many bytes the whole rows of a table and their references take as classic text. This size query makes the checks of
+// `text` except that of the output, and writes nothing.
 pub fn text_size(header: Header, rows: &[u64], refs: &[u64], names: &[u8]) -> Answer
     ensures { λ r. ⌜ r ≡ text-size-result header (now (names .entry)) (now (refs .entry)) (now (rows .entry)) ⌝ }
 {
@@ -53,7 +54,8 @@ pub fn text_size(header: Header, rows: &[u64], refs: &[u64], names: &[u8]) -> An
     }
 }
 
-// Puts the text of good tables in which every row has its class, if there is room for it. Its size and its counts are known.
+// Writes the text of checked tables if the output has capacity for it, else returns reply 17. `size` is the size of the text, and
+// `tally` has the counts of the rows.
 fn write_if_fits(
     size: usize,
     tally: Tally,
@@ -82,8 +84,8 @@ fn write_if_fits(
     }
 }
 
-// Writes the whole rows of a table and their references as classic text, to the start of the output. What the output holds
-// behind it stays as it was, and all of it where the text is refused.
+// Writes the whole rows of a table and their references as classic text to the start of the output. Bytes after the text do not
+// change; if the text is refused, no byte of the output changes.
 pub fn text(header: Header, rows: &[u64], refs: &[u64], names: &[u8], out: &mut [u8]) -> Answer
     ensures is { λ r. ⌜ r ≡ text-result header (now (names .entry)) (now (refs .entry)) (now (rows .entry)) (length (now (out .entry))) .answer ⌝ }
     ensures out { λ _. ⌜ now (out .exit) ≡ overwrite (now (out .entry)) (text-result header (now (names .entry)) (now (refs .entry)) (now (rows .entry)) (length (now (out .entry))) .bytes) ⌝ }

@@ -1,4 +1,4 @@
-// The lines of the rows: how many bytes they have, and putting them, row after row.
+// The lines of the rows: their size in bytes, and writing them, row by row.
 ghost use mathlib.Core.Path.{_≡_};
 ghost use Prim.Native.Nat.{_+_, _^_, _<_};
 ghost use Rattle.encode.specs.Writes.{Writes, HasCapacity};
@@ -12,14 +12,14 @@ ghost use Rattle.classic_write.specs.TextParts.{rows-size, size-or-18, r
 use classic_row::RowSize;
 use table::Answer;
 
-// How many bytes they have, or the answer that refuses a row without its class row.
+// The size in bytes of the version line and the lines of the rows, or the refusal of a row whose class row is missing.
 pub enum LinesSize {
     Bytes(usize),
     Refused(Answer),
 }
 
-// Returns how many bytes they have, after a version line of so many, or reply 18 with the index of the first object or object array
-// without its class row.
+// Returns the size of the lines of all rows plus `first`, the size of the version line, or reply 18 with the index of the first
+// object or object array whose class row is missing.
 pub fn rows_text_size(bits: u64, names: &[u8], rows: &[u64], first: usize) -> LinesSize
     requires { ⌜ ValidBits bits ⌝ }
     requires { ⌜ AllNumbersInBounds (now names) (rows-of (now rows)) ⌝ }
@@ -47,7 +47,7 @@ pub fn rows_text_size(bits: u64, names: &[u8], rows: &[u64], first: usize) -> Li
     LinesSize::Bytes(total)
 }
 
-// Puts them at a place, and gives the place after them. No row is an object or an object array without its class row.
+// Writes the lines of all rows at offset `at`, and returns the offset after them. No row's class row may be missing.
 pub fn write_rows_text(
     out: &mut [u8],
     at: usize,

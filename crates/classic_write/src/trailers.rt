@@ -1,11 +1,11 @@
-// The two trailers by the counts of the rows: how many bytes they have with their ends, and putting them.
+// The two trailers, from the counts of the rows: their size in bytes, line ends included, and writing them.
 ghost use mathlib.Core.Path.{_≡_};
 ghost use lib.ListN.{length};
 ghost use Rattle.encode.specs.Writes.{Writes, HasCapacity};
 ghost use Rattle.classic_write.specs.TextParts.{TallyBound, tally-breakdown, tally-totals, tally-trailers};
 use phd_counts::Tally;
 
-// How many bytes the trailers have.
+// Returns the size of both trailers: 113 bytes that do not depend on the counts, and the digits of the counts.
 pub fn trailers_size(t: Tally) -> usize
     requires { ⌜ TallyBound t ⌝ }
     ensures { λ r. ⌜ r ≡ length (tally-trailers t) ⌝ }
@@ -21,7 +21,7 @@ pub fn trailers_size(t: Tally) -> usize
     113 + kinds + all
 }
 
-// Puts the first trailer without its end.
+// Writes the first trailer, the rows by kind, without its line end.
 fn write_breakdown(out: &mut [u8], at: usize, t: Tally) -> usize
     requires { ⌜ HasCapacity (now out) at (tally-breakdown t) ⌝ }
     ensures { λ r. ⌜ Writes (now (out .entry)) at (tally-breakdown t) (now (out .exit)) r ⌝ }
@@ -32,7 +32,7 @@ fn write_breakdown(out: &mut [u8], at: usize, t: Tally) -> usize
     digits::write_text_decimal(out, c, b", PrimitiveArrays: ", t.primitives)
 }
 
-// Puts the second trailer without its end.
+// Writes the second trailer, the totals, without its line end.
 fn write_totals(out: &mut [u8], at: usize, t: Tally) -> usize
     requires { ⌜ TallyBound t ⌝ }
     requires { ⌜ HasCapacity (now out) at (tally-totals t) ⌝ }
@@ -45,7 +45,7 @@ fn write_totals(out: &mut [u8], at: usize, t: Tally) -> usize
     encode::encode_bytes(out, c, b")")
 }
 
-// Puts both, and gives the place after them.
+// Writes both trailers with their line ends, and returns the offset after them.
 pub fn write_trailers(out: &mut [u8], at: usize, t: Tally) -> usize
     requires { ⌜ TallyBound t ⌝ }
     requires { ⌜ HasCapacity (now out) at (tally-trailers t) ⌝ }

@@ -1,4 +1,4 @@
-// The version line: how many bytes it has with its end, and putting it.
+// The version line: its size in bytes, line end included, and writing it.
 ghost use mathlib.Core.Path.{_≡_};
 ghost use Prim.Native.Nat.{_+_};
 ghost use lib.ListN.{length};
@@ -7,7 +7,7 @@ ghost use Rattle.phd_check.specs.WellFormed.{VmInBounds};
 ghost use Rattle.classic_write.specs.TextParts.{version-text};
 use decode::StringSpan;
 
-// How many bytes it has.
+// Returns the size of the version line: 12 bytes of `// Version: `, those of the VM string, and one of the line end.
 pub fn version_size(names: &[u8], vm: StringSpan) -> usize
     requires { ⌜ VmInBounds (now names) vm ⌝ }
     ensures { λ r. ⌜ r ≡ length (version-text (now (names .entry)) vm) ⌝ }
@@ -18,7 +18,7 @@ pub fn version_size(names: &[u8], vm: StringSpan) -> usize
     13
 }
 
-// Puts it at the start of the output, and gives the place after it.
+// Writes the version line at the start of the output, and returns the offset after it.
 pub fn write_version(out: &mut [u8], names: &[u8], vm: StringSpan) -> usize
     requires { ⌜ VmInBounds (now names) vm ⌝ }
     requires { ⌜ HasCapacity (now out) 0 (version-text (now names) vm) ⌝ }

@@ -1,2 +1,2 @@
--- Laws that the proofs of this crate's functions, and of those above it, cite.
+-- Laws that the proofs of this crate's functions, and of the crates that use it, cite.
 pub mod DecodeLaws

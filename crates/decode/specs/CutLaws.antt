@@ -1,7 +1,7 @@
--- What holds of every layout when the dump is cut or goes on: what was settled stays (`run-append`); a cut says how many bytes
--- one field lacks (`cut-deficit`, `cut-append`, `end-after-deficit`); a value whose end lies within a cut is read from the cut (`run-prefix`); and one whose
--- end lies beyond it is a cut there (`prefix-cut`). Each is proved once, by the four clauses of the language.
--- Assumes nothing.
+-- Laws of every layout for longer and shorter dumps. Appending bytes does not change a value or a refusal (`run-append`).
+-- A cut reports how many bytes one field lacks (`cut-deficit`, `cut-append`, `end-after-deficit`). A value that ends within a
+-- prefix of the dump is read from the prefix (`run-prefix`); one that ends after it gives a cut there (`prefix-cut`).
+-- Each law is proved once, by cases on the four constructors of `Layout`. Assumes nothing.
 use mathlib.Core.Path.{_≡_, refl, sym}
 use Prim.Native.Nat.{ℕ, _+_, _-_, _≤_, _<_}
 use mathlib.Core.List.{List, _++_}
@@ -12,22 +12,22 @@ use native.Mathlib.Decide.{decLe}
 use Rattle.decode.specs.Layout.{Layout, yield, refuse, here, bytes, Outcome, whole, stops, run, run-enough, run-short, whole-has-bytes, start-le-end}
 use Rattle.decode.specs.declared.Stop.the-variants.{Cut, Refused}
 
--- ---- more bytes
+-- ---- appended bytes
 
--- a value or a refusal: more bytes will not change it
+-- The outcome is a value or a refusal, not a cut.
 abbrev pub NotCut : {A : Type 0} → Outcome A → Type 0
 NotCut (whole a n) = Unit {0}
 NotCut (stops (Refused r)) = Unit {0}
 NotCut (stops (Cut n)) = ⊥
 
--- a part of what is at hand is the same part of what goes on
+-- Appending elements does not change a slice that lies within the list.
 pub slice-append : (n at : ℕ) (s t : List ℕ) → at + n ≤ length s → take n (drop at (s ++ t)) ≡ take n (drop at s)
 slice-append n at s t h =
     let a : at ≤ length s = omega arith in
     let b : n ≤ length (drop at s) = simp length-drop (omega arith) in
     rw (drop-append-le at s t a, take-append-le n (drop at s) t b)
 
--- a field that is there is read the same from what goes on
+-- Appending bytes does not change a field whose bytes are all present.
 run-bytes-append : {A : Type 0} (n : ℕ) (k : List ℕ → Layout A) (s t : List ℕ) (at : ℕ) → at + n ≤ length s
     → run (bytes n k) (s ++ t) at ≡ run (k (take n (drop at s))) (s ++ t) (at + n)
 run-bytes-append n k s t at e =
@@ -45,7 +45,7 @@ run-append-bytes {A} n k s t at ih w = elim (decLe (at + n) (length s)) [ yes e 
     enough : at + n ≤ length s → run (bytes n k) (s ++ t) at ≡ run (bytes n k) s at
     enough e = rw (run-bytes-append n k s t at e, run-enough n k s at e) (ih (take n (drop at s)) (rw (run-enough n k s at e) at w))
 
--- More bytes after those at hand change nothing that was settled without them.
+-- Appending bytes does not change a result that is not a cut.
 pub run-append : {A : Type 0} (l : Layout A) (s t : List ℕ) (at : ℕ) → NotCut (run l s at) → run l (s ++ t) at ≡ run l s at
 unfolding run
 run-append (yield a) s t at w = refl
@@ -53,13 +53,14 @@ run-append (refuse r) s t at w = refl
 run-append (here k) s t at w = run-append (k at) s t at w
 run-append (bytes n k) s t at w = run-append-bytes n k s t at (λ b w′. run-append (k b) s t (at + n) w′) w
 
--- So a value is read the same from any longer run of bytes.
+-- Appending bytes does not change a value that was read.
 pub run-append-whole : {A : Type 0} (l : Layout A) (s t : List ℕ) (at : ℕ) (a : A) (e : ℕ) → run l s at ≡ whole a e → run l (s ++ t) at ≡ whole a e
 run-append-whole l s t at a e h = rw (run-append l s t at (rw h tt)) h
 
--- ---- what a cut says
+-- ---- cuts and missing bytes
 
--- A field stands at a place within the dump, and k of its bytes, one at least and not more than it has, are beyond the end.
+-- A field of `width` bytes begins at the offset `place`, at or after `at` and within the dump. Its last k bytes, at least one,
+-- lie after the end of the dump.
 pub record FieldDeficit (s : List ℕ) (at k : ℕ) : Type 0 where
   pub place : ℕ
   pub width : ℕ
@@ -69,6 +70,7 @@ pub record FieldDeficit (s : List ℕ) (at k : ℕ) : Type 0 where
   pub most : k ≤ width
   pub end : place + width ≡ length s + k
 
+-- The number k of every cut that l gives is the number of bytes that one field lacks.
 abbrev CutDeficit : {A : Type 0} → Layout A → List ℕ → ℕ → Type 0
 CutDeficit l s at = (k : ℕ) → at ≤ length s → run l s at ≡ stops (Cut k) → FieldDeficit s at k
 
@@ -86,7 +88,7 @@ cut-deficit-bytes n k s at ih j p h = elim (decLe (at + n) (length s)) [ yes e �
         let w = ih (take n (drop at s)) j e (rw (run-enough n k s at e) at h) in
         record { place = w .place; width = w .width; after = omega arith; within = w .within; some = w .some; most = w .most; end = w .end }
 
--- What a cut says is lacking is what one field lacks, which begins within the dump.
+-- A cut reports the bytes that one field lacks; that field begins within the dump.
 pub cut-deficit : {A : Type 0} (l : Layout A) (s : List ℕ) (at : ℕ) → CutDeficit l s at
 unfolding run
 cut-deficit (yield a) s at k p h = let z : _≡_ {A = ℕ} 0 1 = cc in absurd (omega arith)
@@ -94,6 +96,7 @@ cut-deficit (refuse r) s at k p h = let z : _≡_ {A = ℕ} 0 1 = cc in absurd (
 cut-deficit (here f) s at k p h = cut-deficit (f at) s at k p h
 cut-deficit (bytes n f) s at k p h = cut-deficit-bytes n f s at (λ b. cut-deficit (f b) s (at + n)) k p h
 
+-- If l is a cut that lacks k bytes, it is a cut that lacks k - length t after fewer than k bytes t are appended.
 abbrev CutAppend : {A : Type 0} → Layout A → (s t : List ℕ) → ℕ → Type 0
 CutAppend l s t at = (k : ℕ) → run l s at ≡ stops (Cut k) → length t < k → run l (s ++ t) at ≡ stops (Cut (k - length t))
 
@@ -111,7 +114,7 @@ cut-append-bytes n k s t at ih j h g = elim (decLe (at + n) (length s)) [ yes e 
     later : at + n ≤ length s → run (bytes n k) (s ++ t) at ≡ stops (Cut (j - length t))
     later e = rw (run-bytes-append n k s t at e) (ih (take n (drop at s)) j (rw (run-enough n k s at e) at h) g)
 
--- With fewer bytes more than it lacks, the field is still cut, and lacks as many less.
+-- If fewer bytes are appended than the field lacks, it is still cut, and lacks that many fewer.
 pub cut-append : {A : Type 0} (l : Layout A) (s t : List ℕ) (at : ℕ) → CutAppend l s t at
 unfolding run
 cut-append (yield a) s t at k h g = let z : _≡_ {A = ℕ} 0 1 = cc in absurd (omega arith)
@@ -119,6 +122,7 @@ cut-append (refuse r) s t at k h g = let z : _≡_ {A = ℕ} 0 1 = cc in absurd 
 cut-append (here f) s t at k h g = cut-append (f at) s t at k h g
 cut-append (bytes n f) s t at k h g = cut-append-bytes n f s t at (λ b. cut-append (f b) s t (at + n)) k h g
 
+-- If l is a cut that lacks k bytes, every value that it gives after bytes are appended ends at length s + k or later.
 abbrev EndAfterDeficit : {A : Type 0} → Layout A → (s t : List ℕ) → ℕ → Type 0
 EndAfterDeficit {A} l s t at = (k : ℕ) (a : A) (e : ℕ) → run l s at ≡ stops (Cut k) → run l (s ++ t) at ≡ whole a e → length s + k ≤ e
 
@@ -136,7 +140,7 @@ end-after-deficit-bytes n k s t at ih j a e h g = elim (decLe (at + n) (length s
     later : at + n ≤ length s → length s + j ≤ e
     later l = ih (take n (drop at s)) j a e (rw (run-enough n k s at l) at h) (rw (run-bytes-append n k s t at l) at g)
 
--- Whatever more bytes make a value of what was cut, it ends no sooner than the field that lacked some.
+-- If appended bytes turn a cut into a value, the value ends no sooner than the field that was cut.
 pub end-after-deficit : {A : Type 0} (l : Layout A) (s t : List ℕ) (at : ℕ) → EndAfterDeficit l s t at
 unfolding run
 end-after-deficit (yield b) s t at k a e h g = let z : _≡_ {A = ℕ} 0 1 = cc in absurd (omega arith)
@@ -144,21 +148,22 @@ end-after-deficit (refuse r) s t at k a e h g = let z : _≡_ {A = ℕ} 0 1 = cc
 end-after-deficit (here f) s t at k a e h g = end-after-deficit (f at) s t at k a e h g
 end-after-deficit (bytes n f) s t at k a e h g = end-after-deficit-bytes n f s t at (λ b. end-after-deficit (f b) s t (at + n)) k a e h g
 
--- ---- a cut behind the end of a value, and one before it
+-- ---- prefixes of the dump
 
--- what a cut leaves is the same part
+-- A slice that lies within a prefix is the same in the prefix and in the list.
 slice-take : (n at m : ℕ) (s : List ℕ) → at + n ≤ m → at + n ≤ length s → take n (drop at (take m s)) ≡ take n (drop at s)
 slice-take n at m s h l =
     let q : at + n ≤ length (take m s) = simp length-take (omega arith) in
     sym (rw take-append-drop at (slice-append n at (take m s) (drop m s) q))
 
--- a field within the cut is read from the cut
+-- A field that lies within a prefix is read the same from the prefix.
 run-bytes-take : {A : Type 0} (n : ℕ) (k : List ℕ → Layout A) (s : List ℕ) (at m : ℕ) → at + n ≤ m → at + n ≤ length s
     → run (bytes n k) (take m s) at ≡ run (k (take n (drop at s))) (take m s) (at + n)
 run-bytes-take n k s at m h l =
     let q : at + n ≤ length (take m s) = simp length-take (omega arith) in
     rw (run-enough n k (take m s) at q, slice-take n at m s h l)
 
+-- Every value of l that ends within a prefix of s is read the same from the prefix.
 abbrev RunPrefix : {A : Type 0} → Layout A → List ℕ → ℕ → Type 0
 RunPrefix {A} l s at = (m : ℕ) (a : A) (e : ℕ) → run l s at ≡ whole a e → e ≤ m → run l (take m s) at ≡ whole a e
 
@@ -171,7 +176,7 @@ run-prefix-bytes n k s at ih m a e h g =
     let y : at + n ≤ m = omega arith in
     rw (run-bytes-take n k s at m y l) (ih b m a e r g)
 
--- What was read whole, and ends within the cut, is read from the cut.
+-- A value that ends within a prefix of the dump is read the same from the prefix.
 pub run-prefix : {A : Type 0} (l : Layout A) (s : List ℕ) (at : ℕ) → RunPrefix l s at
 unfolding run
 run-prefix (yield b) s at m a e h g = h
@@ -179,11 +184,12 @@ run-prefix (refuse r) s at m a e h g = h
 run-prefix (here k) s at m a e h g = run-prefix (k at) s at m a e h g
 run-prefix (bytes n k) s at m a e h g = run-prefix-bytes n k s at (λ b. run-prefix (k b) s (at + n)) m a e h g
 
--- a cut, whatever it lacks
+-- The outcome is a cut, with any number of missing bytes.
 pub record IsCut {A : Type 0} (o : Outcome A) : Type 0 where
   pub deficit : ℕ
   pub is : o ≡ stops (Cut deficit)
 
+-- For every value of l that ends after a prefix of s, reading the prefix is a cut.
 abbrev PrefixCut : {A : Type 0} → Layout A → List ℕ → ℕ → Type 0
 PrefixCut {A} l s at = (m : ℕ) (a : A) (e : ℕ) → run l s at ≡ whole a e → at ≤ m → m < e → IsCut (run l (take m s) at)
 
@@ -206,7 +212,7 @@ prefix-cut-bytes {A} n k s at ih m a e h p g = elim (decLe (at + n) m) [ yes y �
     later : at + n ≤ m → IsCut (run (bytes n k) (take m s) at)
     later y = rw (run-bytes-take n k s at m y l) (ih (take n (drop at s)) m a e rest y g)
 
--- What was read whole, and ends beyond the cut, is a cut there.
+-- If a value ends after a prefix of the dump, reading the prefix is a cut.
 pub prefix-cut : {A : Type 0} (l : Layout A) (s : List ℕ) (at : ℕ) → PrefixCut l s at
 unfolding run
 prefix-cut (yield b) s at m a e h p g = let z : at ≡ e = cc in absurd (omega arith)

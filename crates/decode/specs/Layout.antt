@@ -1,6 +1,6 @@
--- A layout says which bytes come next and what they mean, and `run` reads one at a place of a dump.
--- Every record of every format is written in this language. A reader must believe `run`; what holds of every layout
--- is proved here, in Cuts and in Values, once.
+-- A layout describes which bytes come next and what they mean; `run` reads a layout at an offset of a dump.
+-- The records of every format are described in this language. A reader must believe `run`; the laws of every layout are
+-- proved once, here, in CutLaws, in Values and in Takes.
 use mathlib.Core.Path.{_≡_, refl, sym, ap, _∙_, fun-ext}
 use Prim.Native.Nat.{ℕ, _+_, _-_, _≤_, _<_}
 use mathlib.Core.Bool.{Bool, true, false}
@@ -18,24 +18,25 @@ use Rattle.decode.specs.declared.Maybe.the-variants.{Just, Nothing}
 
 infixl 20 _>>=_
 infixl 20 _>>_
--- ---- the language
+-- ---- layouts
 
+-- A description of bytes that gives a value of type A when it is read.
 pub data Layout (A : Type 0) : Type 0 where
-  -- nothing more: this is the value
+  -- Reads nothing more and gives this value.
   yield : A → Layout A
-  -- what was read is refused, with a numbered reply
+  -- Refuses what was read, with this reply.
   refuse : ℕ → Layout A
-  -- go on by the place reached
+  -- Continues with the layout for the current offset.
   here : (ℕ → Layout A) → Layout A
-  -- a field of so many bytes; go on by the bytes
+  -- Reads a field of this many bytes and continues with the layout for its bytes.
   bytes : ℕ → (List ℕ → Layout A) → Layout A
 
--- What reading finds: a value and the place after it, or why it stops: a reply, or a field that lacked so many bytes.
+-- The result of reading: a value and the offset after it, or why reading stops (refused with a reply, or cut inside a field).
 pub data Outcome (A : Type 0) : Type 0 where
   whole : A → ℕ → Outcome A
   stops : Stop → Outcome A
 
--- `run l s at` reads the layout l at the place `at` of the dump s. A field is looked at only when all its bytes are there.
+-- `run l s at` reads the layout l at offset `at` of the dump s. A field is checked only when all its bytes are present.
 unfoldable pub run : {A : Type 0} → Layout A → List ℕ → ℕ → Outcome A
 run (yield a) s at = whole a at
 run (refuse r) s at = stops (Refused r)
@@ -43,58 +44,64 @@ run (here k) s at = run (k at) s at
 run (bytes n k) s at =
     elim (leb (at + n) (length s)) [ true ↦ run (k (take n (drop at s))) s (at + n) | false ↦ stops (Cut (at + n - length s)) ]
 
--- one layout and then another, which may depend on the value of the first
+-- One layout, then another, which may depend on the first one's value.
 unfoldable pub _>>=_ : {A B : Type 0} → Layout A → (A → Layout B) → Layout B
 yield a >>= f = f a
 refuse r >>= f = refuse r
 here k >>= f = here (λ p. k p >>= f)
 bytes n k >>= f = bytes n (λ b. k b >>= f)
 
+-- One layout, then another, which does not depend on the first one's value.
 abbrev pub _>>_ : {A B : Type 0} → Layout A → Layout B → Layout B
 l >> m = l >>= (λ _. m)
 
--- the place reached
+-- The current offset.
 unfoldable pub position : Layout ℕ
 position = here (λ p. yield p)
 
--- so many bytes as they stand, and a field of so many bytes as an unsigned number
+-- The next n bytes, as a list.
 unfoldable pub raw : ℕ → Layout (List ℕ)
 raw n = bytes n (λ b. yield b)
 
+-- The next n bytes, as an unsigned number.
 unfoldable pub field : ℕ → Layout ℕ
 field n = bytes n (λ b. yield (value b))
 
--- go on if the test holds, else the reply; go on with the value if there is one, else the reply
+-- Reads nothing, and refuses with r unless the test holds.
 unfoldable pub check : ℕ → Bool → Layout (Unit {0})
 check r true = yield tt
 check r false = refuse r
 
+-- Reads nothing, and gives the value if there is one, else refuses with r.
 unfoldable pub need : ℕ → Maybe → Layout ℕ
 need r (Just a) = yield a
 need r Nothing = refuse r
 
--- 01's number for each way to stop, and the bytes that the field lacked
+-- The reply, the scope paper's term: 1 for a cut, else the number that a field is refused with (docs/FORMAT.md 8).
 unfoldable pub reply-of : Stop → ℕ
 reply-of (Cut n) = 1
 reply-of (Refused r) = r
 
+-- The missing bytes, the scope paper's term: those that the cut field lacks; 0 if a field is refused (docs/FORMAT.md 5.2).
 unfoldable pub missing-of : Stop → ℕ
 missing-of (Cut n) = n
 missing-of (Refused r) = 0
 
--- ---- the two cases of a field
+-- ---- fields: all bytes present, or a cut
 
+-- If all bytes of a field are present, reading continues with them, after the field.
 pub run-enough : {A : Type 0} (n : ℕ) (k : List ℕ → Layout A) (s : List ℕ) (at : ℕ) → at + n ≤ length s
     → run (bytes n k) s at ≡ run (k (take n (drop at s))) s (at + n)
 unfolding run
 run-enough n k s at h = rw (le-leb (at + n) (length s) h, run)
 
+-- If a field ends after the end of the dump, reading is a cut that lacks the bytes after the end.
 pub run-short : {A : Type 0} (n : ℕ) (k : List ℕ → Layout A) (s : List ℕ) (at : ℕ) → length s < at + n
     → run (bytes n k) s at ≡ stops (Cut (at + n - length s))
 unfolding run
 run-short n k s at h = rw (lt-leb (at + n) (length s) h, run)
 
--- a field that was read whole had its bytes
+-- If reading a field gives a value, all bytes of the field are present.
 pub whole-has-bytes : {A : Type 0} (n : ℕ) (k : List ℕ → Layout A) (s : List ℕ) (at : ℕ) (a : A) (e : ℕ) → run (bytes n k) s at ≡ whole a e
     → at + n ≤ length s
 whole-has-bytes n k s at a e h = elim (decLe (at + n) (length s)) [ yes l ↦ l | no l ↦ absurd (short (omega arith)) ]
@@ -105,8 +112,9 @@ whole-has-bytes n k s at a e h = elim (decLe (at + n) (length s)) [ yes l ↦ l 
         let z : _≡_ {A = ℕ} 0 1 = cc in
         omega arith
 
--- ---- one layout after another
+-- ---- sequences of layouts
 
+-- The outcome of continuing with f after a value; a stop stays as it is.
 abbrev pub and-then : {A B : Type 0} → Outcome A → (A → ℕ → Outcome B) → Outcome B
 and-then (whole a n) f = f a n
 and-then (stops w) f = stops w
@@ -122,6 +130,7 @@ then-bytes n k f s at ih = elim (decLe (at + n) (length s)) [
       rw (run-short n k s at h, run-short n (λ b. k b >>= f) s at h)
 ]
 
+-- Running a sequence is running the first layout, then the second one at the offset after it.
 pub run-then : {A B : Type 0} (l : Layout A) (f : A → Layout B) (s : List ℕ) (at : ℕ)
     → run (l >>= f) s at ≡ and-then (run l s at) (λ a p. run (f a) s p)
 unfolding run _>>=_
@@ -130,7 +139,7 @@ run-then (refuse r) f s at = refl
 run-then (here k) f s at = run-then (k at) f s at
 run-then (bytes n k) f s at = then-bytes n k f s at (λ b. run-then (k b) f s (at + n))
 
--- what two layouts in a row gave: the first gave something, and the second went on from there
+-- If a sequence gives a value, the first layout gives one, and the second gives the sequence's value at the offset after it.
 pub then-inv : {A B : Type 0} (l : Layout A) (f : A → Layout B) (s : List ℕ) (at : ℕ) (b : B) (e : ℕ) → run (l >>= f) s at ≡ whole b e
     → (a : A) × (n : ℕ) × (run l s at ≡ whole a n) × (run (f a) s n ≡ whole b e)
 then-inv {A} {B} l f s at b e r = by (run l s at) refl (sym (run-then l f s at) ∙ r)
@@ -140,7 +149,7 @@ then-inv {A} {B} l f s at b e r = by (run l s at) refl (sym (run-then l f s at) 
     by (whole a n) k g = (a, n, k, rw k at g)
     by (stops x) k g = let h : stops x ≡ whole b e = rw k at g in let z : _≡_ {A = ℕ} 0 1 = cc in absurd (omega arith)
 
--- three layouts in a row, bracketed either way
+-- Sequencing is associative.
 pub then-assoc : {A B C : Type 0} (l : Layout A) (f : A → Layout B) (g : B → Layout C) → l >>= f >>= g ≡ l >>= (λ a. f a >>= g)
 unfolding _>>=_
 then-assoc (yield a) f g = refl
@@ -148,7 +157,7 @@ then-assoc (refuse r) f g = refl
 then-assoc (here k) f g = ap here (fun-ext (λ p. then-assoc (k p) f g))
 then-assoc (bytes n k) f g = ap (bytes n) (fun-ext (λ b. then-assoc (k b) f g))
 
--- ---- the small layouts, run
+-- ---- runs of the basic layouts
 
 pub run-yield : {A : Type 0} (a : A) (s : List ℕ) (at : ℕ) → run (yield a) s at ≡ whole a at
 unfolding run
@@ -170,7 +179,7 @@ pub run-field-short : (n : ℕ) (s : List ℕ) (at : ℕ) → length s < at + n 
 unfolding field
 run-field-short n s at h = run-short n (λ b. yield (value b)) s at h
 
--- a field of no bytes is 0, wherever it stands
+-- A field of no bytes is 0, at every offset of the dump.
 pub run-field-empty : (s : List ℕ) (at : ℕ) → at ≤ length s → run (field 0) s at ≡ whole 0 at
 unfolding value-after
 run-field-empty s at h = let e : at + 0 ≡ at = omega arith in let l : at + 0 ≤ length s = omega arith in rw (run-field 0 s at l, e)
@@ -188,6 +197,7 @@ unfolding run check
 run-check r true s at = refl
 run-check r false s at = refl
 
+-- The outcome of `need r m` at an offset.
 abbrev pub need-outcome : ℕ → Maybe → ℕ → Outcome ℕ
 need-outcome r (Just a) at = whole a at
 need-outcome r Nothing at = stops (Refused r)
@@ -197,8 +207,9 @@ unfolding run need
 run-need r (Just a) s at = refl
 run-need r Nothing s at = refl
 
--- ---- a reading goes forth, and stays within the dump
+-- ---- bounds of the end offset
 
+-- A value ends at or after the offset where reading starts.
 pub start-le-end : {A : Type 0} (l : Layout A) (s : List ℕ) (at : ℕ) (a : A) (e : ℕ) → run l s at ≡ whole a e → at ≤ e
 unfolding run
 start-le-end (yield b) s at a e h = let z : at ≡ e = cc in omega arith
@@ -209,6 +220,7 @@ start-le-end (bytes n k) s at a e h =
     let z : at + n ≤ e = start-le-end (k (take n (drop at s))) s (at + n) a e (rw (run-enough n k s at l) at h) in
     omega arith
 
+-- If reading starts within the dump, a value ends within it.
 pub end-in-bounds : {A : Type 0} (l : Layout A) (s : List ℕ) (at : ℕ) (a : A) (e : ℕ) → at ≤ length s → run l s at ≡ whole a e → e ≤ length s
 unfolding run
 end-in-bounds (yield b) s at a e p h = let z : at ≡ e = cc in omega arith

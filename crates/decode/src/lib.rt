@@ -1,5 +1,5 @@
-// Reading the fields of a dump: big-endian numbers, signed gaps, addresses, counts and strings.
-// Each function's contract is an equation with a layout of specs/Fields.antt or a definition of specs/Numbers.antt.
+// Decodes the fields of a dump: big-endian numbers, signed gaps, addresses, references, counts and strings.
+// Each contract is an equation with a layout of specs/Fields.antt or a definition of specs/Numbers.antt.
 ghost use mathlib.Core.Path.{_≡_};
 ghost use mathlib.Core.Bool.{cond};
 ghost use Prim.Native.Nat.{_+_, _-_, _^_, _≤_, _<_};
@@ -8,7 +8,7 @@ ghost use Rattle.decode.specs.Numbers.{value, signed as signedOf, sign-c
 ghost use Rattle.decode.specs.Layout.{run, field as fieldOf, reply-of, missing-of};
 ghost use Rattle.decode.specs.Fields.{outcome, string-outcome, FitsWidth, exactly as exactlyOf, below as belowOf, address as addressOf, ref-field, count as countOf, string as stringOf};
 
-// The one number where a test holds, else the other.
+// Returns x if the test holds, else y.
 pub fn choice(test: bool, x: u64, y: u64) -> u64
     ensures { λ r. ⌜ r ≡ cond test x y ⌝ }
 {
@@ -18,13 +18,14 @@ pub fn choice(test: bool, x: u64, y: u64) -> u64
     y
 }
 
-// Why reading goes no further: a field lacked so many bytes, or what was read is refused with a numbered reply.
+// Why decoding stops: the dump is cut and a field lacks this many bytes, or a field is refused with this reply.
+// "Cut", "missing bytes" and "reply" are the scope paper's terms.
 pub enum Stop {
     Cut(usize),
     Refused(u64),
 }
 
-// The number of a reply, by why reading stops.
+// Returns the reply: 1 for a cut, else the number that the field is refused with.
 pub fn reply_of(w: Stop) -> u64
     ensures { λ r. ⌜ r ≡ reply-of w ⌝ }
 {
@@ -34,7 +35,7 @@ pub fn reply_of(w: Stop) -> u64
     }
 }
 
-// How many bytes a field lacked where reading stops; 0 where what was read is refused.
+// Returns the missing bytes: those that the cut field lacks, or 0 if a field is refused.
 pub fn missing_of(w: Stop) -> usize
     ensures { λ r. ⌜ r ≡ missing-of w ⌝ }
 {
@@ -44,32 +45,32 @@ pub fn missing_of(w: Stop) -> usize
     }
 }
 
-// A number that was read, with the place after it.
+// A decoded number and the offset after it, or why decoding stops.
 pub enum NumberRead {
     Is(u64, usize),
     Stops(Stop),
 }
 
-// A number, if there is one.
+// A number, or none.
 pub enum Maybe {
     Just(u64),
     Nothing,
 }
 
-// A signed number by its sign: up by n, or down by n + 1.
+// A signed number, split by its sign: `NonNeg(n)` is n, `NegSuc(n)` is -1 - n.
 pub enum SignCase {
     NonNeg(u64),
     NegSuc(u64),
 }
 
-// Where a string stands in the dump, if one does.
+// A string of the dump, if `present`: the offset of its first byte, and its length.
 pub struct StringSpan {
     pub present: bool,
     pub place: usize,
     pub len: usize,
 }
 
-// A string that was read, with the place after it.
+// A decoded string and the offset after it, or why decoding stops.
 pub enum StringRead {
     Is(StringSpan, usize),
     Stops(Stop),
@@ -81,7 +82,7 @@ fn wide(x: u8) -> u64
     x as u64
 }
 
-// The n bytes at a place, big-endian.
+// Decodes the n bytes at offset `at` as a big-endian number.
 fn be(s: &[u8], at: usize, n: usize) -> u64
     requires { ⌜ (n ≤ 8) × (at + n ≤ length (now s)) ⌝ }
     ensures is { λ r. ⌜ r ≡ value (take n (drop at (now (s .entry)))) ⌝ }
@@ -96,7 +97,7 @@ fn be(s: &[u8], at: usize, n: usize) -> u64
     sum
 }
 
-// A field of n bytes.
+// Decodes a field of n bytes as an unsigned number.
 pub fn field(s: &[u8], at: usize, n: usize) -> NumberRead
     requires { ⌜ (n ≤ 8) × (at ≤ length (now s)) ⌝ }
     ensures is { λ r. ⌜ outcome r ≡ run (fieldOf n) (now (s .entry)) at ⌝ }
@@ -111,7 +112,7 @@ pub fn field(s: &[u8], at: usize, n: usize) -> NumberRead
     }
 }
 
-// A field of n bytes that must be v.
+// Decodes a field of n bytes that must be v; otherwise refuses it with `reply`.
 pub fn exactly(s: &[u8], at: usize, n: usize, v: u64, reply: u64) -> NumberRead
     requires { ⌜ (n ≤ 8) × (at ≤ length (now s)) ⌝ }
     ensures { λ r. ⌜ outcome r ≡ run (exactlyOf n v reply) (now (s .entry)) at ⌝ }
@@ -127,7 +128,7 @@ pub fn exactly(s: &[u8], at: usize, n: usize, v: u64, reply: u64) -> NumberRead
     }
 }
 
-// A field of n bytes that must be below a number.
+// Decodes a field of n bytes that must be below `bound`; otherwise refuses it with `reply`.
 pub fn below(s: &[u8], at: usize, n: usize, bound: u64, reply: u64) -> NumberRead
     requires { ⌜ (n ≤ 8) × (at ≤ length (now s)) ⌝ }
     ensures { λ r. ⌜ outcome r ≡ run (belowOf n bound reply) (now (s .entry)) at ⌝ }
@@ -143,7 +144,7 @@ pub fn below(s: &[u8], at: usize, n: usize, bound: u64, reply: u64) -> NumberRea
     }
 }
 
-// Half of the numbers that n bytes hold.
+// Returns half of 256^n, the least n-byte value that is negative in two's complement.
 fn half_of(n: usize) -> u64
     requires { ⌜ (1 ≤ n) × (n ≤ 8) ⌝ }
     ensures { λ r. ⌜ r + r ≡ 256 ^ n ⌝ }
@@ -151,7 +152,7 @@ fn half_of(n: usize) -> u64
     1 << (8 * n - 1)
 }
 
-// A byte, short, int or long as it stands in n bytes, widened to 64 bits: two's complement.
+// Returns the n-byte value `raw` as a signed number, by two's complement.
 pub fn signed(raw: u64, n: usize) -> i64
     requires { ⌜ (n ≤ 8) × (raw < 256 ^ n) ⌝ }
     ensures { λ r. ⌜ r ≡ signedOf n raw ⌝ }
@@ -168,7 +169,7 @@ pub fn signed(raw: u64, n: usize) -> i64
     }
 }
 
-// A signed number by its sign.
+// Splits a signed number by its sign.
 fn sign_case_of(gap: i64) -> SignCase
     ensures { λ r. ⌜ r ≡ sign-case gap ⌝ }
 {
@@ -179,7 +180,7 @@ fn sign_case_of(gap: i64) -> SignCase
     }
 }
 
-// base + 4 * gap, where that lies in 0 to highest. No sum wraps: a negative gap is subtracted.
+// Returns base + 4 * gap if the sum lies in 0 to `highest`. No operation wraps: a negative gap is subtracted.
 pub fn add_gap(base: u64, gap: i64, highest: u64) -> Maybe
     ensures { λ r. ⌜ r ≡ add-gap highest base gap ⌝ }
 {
@@ -204,7 +205,7 @@ pub fn add_gap(base: u64, gap: i64, highest: u64) -> Maybe
     }
 }
 
-// An address, by a gap of n bytes from another.
+// Decodes an address: a signed gap of n bytes, relative to `base`. Refuses an address outside 0 to `highest` with 8.
 pub fn address(s: &[u8], at: usize, n: usize, base: u64, highest: u64) -> NumberRead
     requires { ⌜ (n ≤ 8) × (at ≤ length (now s)) ⌝ }
     ensures { λ r. ⌜ outcome r ≡ run (addressOf n base highest) (now (s .entry)) at ⌝ }
@@ -221,7 +222,8 @@ pub fn address(s: &[u8], at: usize, n: usize, base: u64, highest: u64) -> Number
     }
 }
 
-// A reference, by a value of n bytes from the address of its record.
+// Decodes a reference: a signed value of n bytes, relative to the address of its record. Refuses what `address` refuses,
+// and a reference to address 0 with 9.
 pub fn ref_field(s: &[u8], at: usize, n: usize, base: u64, highest: u64) -> NumberRead
     requires { ⌜ (n ≤ 8) × (at ≤ length (now s)) ⌝ }
     ensures { λ r. ⌜ outcome r ≡ run (ref-field n base highest) (now (s .entry)) at ⌝ }
@@ -237,7 +239,7 @@ pub fn ref_field(s: &[u8], at: usize, n: usize, base: u64, highest: u64) -> Numb
     }
 }
 
-// The number of a signed count, where it is one.
+// Returns a signed number as a count if it is a valid one, 0 to 2^31 - 1.
 pub fn to_count(c: i64) -> Maybe
     ensures { λ r. ⌜ r ≡ to-count c ⌝ }
 {
@@ -252,7 +254,7 @@ pub fn to_count(c: i64) -> Maybe
     }
 }
 
-// A count, a length or a class's instance size of n bytes.
+// Decodes a count, a length or the instance size of a class, of n bytes. Refuses a number outside 0 to 2^31 - 1 with 12.
 pub fn count(s: &[u8], at: usize, n: usize) -> NumberRead
     requires { ⌜ (n ≤ 8) × (at ≤ length (now s)) ⌝ }
     ensures { λ r. ⌜ outcome r ≡ run (countOf n) (now (s .entry)) at ⌝ }
@@ -266,7 +268,7 @@ pub fn count(s: &[u8], at: usize, n: usize) -> NumberRead
     }
 }
 
-// Whether the n bytes at a place lie from low to high.
+// Checks whether each of the n bytes at offset `at` is from `low` to `high`.
 pub fn all_within(s: &[u8], at: usize, n: usize, low: u8, high: u8) -> bool
     requires { ⌜ at + n ≤ length (now s) ⌝ }
     ensures { λ r. ⌜ r ≡ all-within low high (take n (drop at (now (s .entry)))) ⌝ }
@@ -285,7 +287,7 @@ pub fn all_within(s: &[u8], at: usize, n: usize, low: u8, high: u8) -> bool
     true
 }
 
-// A string: its length, at least `least`, and its bytes, each from low to 0x7E.
+// Decodes a string: a two-byte length, at least `least`, and its bytes, each from `low` to 0x7E. Refuses any other with 7.
 pub fn string(s: &[u8], at: usize, low: u8, least: u64) -> StringRead
     requires { ⌜ at ≤ length (now s) ⌝ }
     ensures { λ r. ⌜ string-outcome r ≡ run (stringOf low least) (now (s .entry)) at ⌝ }

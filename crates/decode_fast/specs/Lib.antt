@@ -1,2 +1,2 @@
--- Quick says when the references of a record need no judging, and what they are then.
+-- RefsInRange: when the references of a record need no range check, and what they are then.
 pub mod RefsInRange

@@ -1,5 +1,5 @@
--- When the references of a record need no judging: its address lies so far from 0 and from the highest that every value of w
--- bytes leads to a good address. What is proved here is that the layout says the same. Assumes nothing.
+-- When the references of a record need no range check: its address is so far from 0 and from the highest address that every value
+-- of w bytes gives a valid reference. `target` is proved to be what the layout `ref-field` reads. Assumes nothing.
 use mathlib.Core.Path.{_≡_, refl}
 use mathlib.Core.Bool.{Bool, true, cond, _&&_}
 use mathlib.Core.List.{List}
@@ -16,19 +16,19 @@ use Rattle.decode.specs.Fields.{address, ref-field}
 use Rattle.decode.specs.Values.{and-left, and-right}
 use Rattle.decode.specs.declared.Maybe.the-variants.{Just}
 
--- how far a value of w bytes reaches: four times half of the numbers that they hold
+-- The reach of w bytes: how far a gap of w bytes moves an address at most, 4 times half of 256 ^ w.
 unfoldable pub gap-reach : ℕ → ℕ
 gap-reach w = 2 * 256 ^ w
 
--- an address farther than that from both ends, for w at most 4
+-- The address a is farther than the reach of w bytes from 0 and from top, and w is at most 4.
 unfoldable pub refs-in-range : ℕ → ℕ → ℕ → Bool
 refs-in-range w a top = leb w 4 && (ltb (gap-reach w) a && ltb (a + gap-reach w) top)
 
--- the address a moved by what w bytes of the unsigned value v say
+-- The address that the w-byte unsigned value v refers to: a + 4 × v, with v as a signed number.
 unfoldable pub target : ℕ → ℕ → ℕ → ℕ
 target w a v = cond (ltb (v + v) (256 ^ w)) (a + 4 * v) (a - 4 * suc (256 ^ w - suc v))
 
--- ---- what a clear address is
+-- ---- parts of the test
 
 refs-in-range-parts : (w a top : ℕ) → refs-in-range w a top ≡ true → (leb w 4 ≡ true) × (ltb (gap-reach w) a ≡ true) × (ltb (a + gap-reach w) top ≡ true)
 unfolding refs-in-range
@@ -47,9 +47,9 @@ refs-in-range-low w a top c = ltb-true (gap-reach w) a (refs-in-range-parts w a 
 pub refs-in-range-high : (w a top : ℕ) → refs-in-range w a top ≡ true → a + gap-reach w < top
 refs-in-range-high w a top c = ltb-true (a + gap-reach w) top (refs-in-range-parts w a top c .2)
 
--- ---- what is read of a reference
+-- ---- reading of a reference
 
--- the address that a value leads to is a good one; no bytes have no negative value
+-- The target of every value is in range and not 0. (`some`: a negative value has at least one byte.)
 module _ (w a top v : ℕ) (low : gap-reach w < a) (high : a + gap-reach w < top) (some : 256 ^ w ≤ v + v → 2 ≤ 256 ^ w) where
   add-gap-target : (add-gap top a (signed w v) ≡ Just (target w a v)) × (1 ≤ target w a v)
   unfolding add-gap signed target gap-reach
@@ -62,12 +62,13 @@ module _ (w a top v : ℕ) (low : gap-reach w < a) (high : a + gap-reach w < top
         (refl, omega arith)
   ]
 
+-- A negative value has at least one byte.
 negative-has-bytes : (w : ℕ) (s : List ℕ) → 256 ^ w ≤ value (take w s) + value (take w s) → 2 ≤ 256 ^ w
 unfolding value-after
 negative-has-bytes zero s h = omega arith
 negative-has-bytes (suc w) s h = omega (arith, pow-le-pow-right {n = 256} (omega arith) {i = 1} {j = suc w} (omega arith))
 
--- what is read of such a reference
+-- If the test holds and the bytes are present, reading the reference gives its target.
 pub run-ref-in-range : (w a top : ℕ) (s : List ℕ) (at : ℕ) → refs-in-range w a top ≡ true → at + w ≤ length s
     → run (ref-field w a top) s at ≡ whole (target w a (value (take w (drop at s)))) (at + w)
 unfolding ref-field address

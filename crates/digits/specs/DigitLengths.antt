@@ -1,4 +1,4 @@
--- How many bytes numbers have, and that a decimal number has the fewest digits that hold it.
+-- How many bytes numbers have as digits. A decimal number has the fewest digits that hold it.
 -- Assumes nothing.
 use mathlib.Core.Path.{_≡_, refl, sym, ap, _∙_}
 use mathlib.Core.List.{map-append}
@@ -19,11 +19,12 @@ pub length-upper-digits : (b k n : ℕ) → length (upper-digits b k n) ≡ k
 unfolding upper-digits
 length-upper-digits b k n = rw (length-map, length-digits)
 
--- base ten has no letters
+-- Digits below ten are not letters, so upper case does not change them.
 pub uppercase-ten : (d : ℕ) → d < 10 → uppercase (glyph d) ≡ glyph d
 unfolding uppercase
 uppercase-ten d l = let m : 48 + d < 0x61 = omega arith in rw (lt-ltb d 10 l, lt-ltb (48 + d) 0x61 m)
 
+-- In base ten, upper case does not change the digits.
 pub upper-digits-ten : (k n : ℕ) → upper-digits 10 k n ≡ digits 10 k n
 unfolding upper-digits
 upper-digits-ten zero n = refl
@@ -33,20 +34,20 @@ pub length-decimal : (n : ℕ) → length (decimal n) ≡ digit-count n
 unfolding decimal
 length-decimal n = length-digits 10 (digit-count n) n
 
--- ---- how many digits
+-- ---- digit counts
 
--- below ten, with any number of steps
+-- A number below ten has one digit, with any number of steps.
 digit-count-in-small : (k n : ℕ) → n < 10 → digit-count-in k n ≡ 1
 unfolding digit-count-in
 digit-count-in-small zero n l = refl
 digit-count-in-small (suc k) n l = rw (lt-ltb n 10 l, digit-count-in)
 
--- from ten on
+-- A number from ten on has one digit more than its tenth.
 digit-count-in-step : (k n : ℕ) → 10 ≤ n → digit-count-in (suc k) n ≡ suc (digit-count-in k (n / 10))
 unfolding digit-count-in
 digit-count-in-step k n l = rw (le-ltb n 10 l, digit-count-in)
 
--- any two numbers of steps that are enough give the same
+-- Any two numbers of steps that are enough give the same count.
 digit-count-in-fuel : (j k n : ℕ) → n ≤ j → n ≤ k → digit-count-in j n ≡ digit-count-in k n
 unfolding digit-count-in
 digit-count-in-fuel zero k n p q = sym (digit-count-in-small k n (omega arith))
@@ -56,17 +57,19 @@ digit-count-in-fuel (suc j) (suc k) n p q = elim (decLe 10 n) [
   | no l ↦ digit-count-in-small (suc j) n (omega arith) ∙ sym (digit-count-in-small (suc k) n (omega arith))
 ]
 
+-- A number below ten has one digit.
 pub digit-count-small : (n : ℕ) → n < 10 → digit-count n ≡ 1
 unfolding digit-count
 digit-count-small n l = digit-count-in-small n n l
 
+-- A number from ten on has one digit more than its tenth.
 pub digit-count-step : (n : ℕ) → 10 ≤ n → digit-count n ≡ suc (digit-count (n / 10))
 unfolding digit-count
 digit-count-step n l =
     let e : n ≡ suc (n - 1) = omega arith in
     ap (λ (k : ℕ). digit-count-in k n) e ∙ digit-count-in-step (n - 1) n l ∙ ap suc (digit-count-in-fuel (n - 1) (n / 10) (n / 10) (omega arith) (omega arith))
 
--- the tenth's digits and one more
+-- If p digits are the fewest that hold n / 10, then p + 1 are the fewest that hold n.
 fewest-step : (n p : ℕ) → 10 ≤ n → Fewest 10 1 (n / 10) p → Fewest 10 1 n (suc p)
 fewest-step n p l f =
     let a = f .0 in
@@ -87,7 +90,7 @@ fewest-step n p l f =
           rw i l
     ]
 
--- `io`'s own word for it: the fewest digits that hold n, at least one
+-- `digit-count n` is the fewest digits that hold n, at least one, in the sense of `Fewest` of `io`.
 pub digit-count-fewest : (n : ℕ) → Fewest 10 1 n (digit-count n)
 digit-count-fewest n = below n n (omega arith)
   where
@@ -101,6 +104,7 @@ digit-count-fewest n = below n n (omega arith)
       | no l ↦ small m (omega arith)
     ]
 
+-- A 64-bit number has at most 20 digits.
 pub digit-count-le-20 : (n : ℕ) → n < 2 ^ 64 → digit-count n ≤ 20
 digit-count-le-20 n l = elim (decLe (digit-count n) 20) [
   | yes m ↦ m

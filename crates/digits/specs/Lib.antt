@@ -1,3 +1,3 @@
--- Digits (texts and numbers as bytes) and Lengths (how many bytes numbers have).
+-- Digits: texts and numbers as bytes. DigitLengths: how many bytes numbers have as digits.
 pub mod Digits
 pub mod DigitLengths

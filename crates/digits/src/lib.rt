@@ -1,5 +1,5 @@
-// Numbers as digits. Each function that writes does so at an offset of the output, changes nothing else, and returns the offset
-// after what it wrote; the bytes are a definition of specs/Digits.antt.
+// Writes numbers as digits. Each function that writes does so at an offset of the output, changes nothing else, and returns the
+// offset after what it wrote; the bytes are a definition of specs/Digits.antt.
 ghost use mathlib.Core.Path.{_≡_};
 ghost use Prim.Native.Nat.{_≤_, _<_};
 ghost use mathlib.Core.List.{_++_};
@@ -7,7 +7,7 @@ ghost use Rattle.io.specs.Digits.{glyph as glyphOf};
 ghost use Rattle.encode.specs.Writes.{Writes, HasCapacity};
 ghost use Rattle.digits.specs.Digits.{uppercase, upper-digits, digit-count, decimal};
 
-// Returns a digit below 16 as a character, in upper case.
+// Returns the character of a digit below 16, in upper case.
 fn upper_digit(d: u64) -> u8
     requires { ⌜ d < 16 ⌝ }
     ensures { λ r. ⌜ r ≡ uppercase (glyphOf d) ⌝ }
@@ -18,7 +18,7 @@ fn upper_digit(d: u64) -> u8
     55 + d as u8
 }
 
-// Writes the last k digits of a number.
+// Writes the last k digits of a number in a base, in upper case.
 pub fn write_digits(out: &mut [u8], at: usize, base: u64, k: usize, n: u64) -> usize
     requires { ⌜ (1 < base) × (base ≤ 16) ⌝ }
     requires { ⌜ HasCapacity (now out) at (upper-digits base k n) ⌝ }
@@ -56,7 +56,7 @@ pub fn write_decimal(out: &mut [u8], at: usize, n: u64) -> usize
     write_digits(out, at, 10, k, n)
 }
 
-// Writes a number in base ten after a text.
+// Writes a text, then a number in base ten.
 pub fn write_text_decimal(out: &mut [u8], at: usize, text: &[u8], n: u64) -> usize
     requires { ⌜ HasCapacity (now out) at (now text ++ decimal n) ⌝ }
     ensures { λ r. ⌜ Writes (now (out .entry)) at (now (text .entry) ++ decimal n) (now (out .exit)) r ⌝ }

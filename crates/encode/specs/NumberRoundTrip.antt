@@ -1,4 +1,4 @@
--- Numbers that were put as bytes, and read back: unsigned (`value-be`), and signed in two's complement (`signed-be`).
+-- Numbers are read back from their bytes: unsigned (`value-be`), and signed in two's complement (`signed-be`).
 -- Assumes nothing.
 use mathlib.Core.Path.{_≡_, refl, sym, ap, _∙_}
 use Prim.Native.Nat.{ℕ, zero, suc, _+_, _-_, _*_, _/_, _%_, _^_, _≤_, _<_}
@@ -13,12 +13,13 @@ use borrow.Author.Tests.{lt-ltb, le-ltb, ltb-true}
 use Rattle.decode.specs.Numbers.{value, value-after, signed}
 use Rattle.encode.specs.Encode.{join, be, twos-complement, fits}
 
+-- The lowest n bytes of a number are n bytes.
 pub length-be : (n v : ℕ) → length (be n v) ≡ n
 unfolding be
 length-be zero v = refl
 length-be (suc n) v = simp (length-append, length-be n (v / 256)) (omega arith)
 
--- the highest bytes of a number, then the lowest n
+-- The lowest m + n bytes of a number are m bytes and then the lowest n.
 be-split : (m n v : ℕ) → be (m + n) v ≡ be m (v / 256 ^ n) ++ be n v
 unfolding be
 be-split m zero v = rw (add-zero m, div-one v, append-nil)
@@ -26,16 +27,17 @@ be-split m (suc n) v =
     let d : v / 256 / 256 ^ n ≡ v / 256 ^ suc n = rw (div-div-eq-div-mul v 256 (256 ^ n), mul-comm 256 (256 ^ n), ← pow-suc 256 n) in
     rw (add-suc m n, be-split m n (v / 256), d, append-assoc)
 
+-- The same, as two parts of a write.
 pub be-parts : (m n v : ℕ) → be (m + n) v ≡ join (be m (v / 256 ^ n) ∷ be n v ∷ [])
 be-parts m n v = rw (be-split m n v, append-nil)
 
--- a byte more
+-- Appending a byte to a big-endian number multiplies it by 256 and adds the byte.
 value-snoc : (bs : List ℕ) (a x : ℕ) → value-after a (bs ++ (x ∷ [])) ≡ value-after a bs * 256 + x
 unfolding value-after
 value-snoc [] a x = refl
 value-snoc (b ∷ bs) a x = value-snoc bs (a * 256 + b) x
 
--- the lowest n bytes of a number hold what is left of it beyond a multiple of 256 ^ n
+-- The value of the lowest n bytes of a number is the number modulo 256 ^ n.
 value-be-mod : (n q r : ℕ) → r < 256 ^ n → value (be n (q * 256 ^ n + r)) ≡ r
 unfolding be value-after
 value-be-mod zero q r h = omega arith
@@ -49,11 +51,11 @@ value-be-mod (suc n) q r h =
     let l : v % 256 ≡ r % 256 = omega arith in
     value-snoc (be n (v / 256)) 0 (v % 256) ∙ rw (d, l, value-be-mod n q (r / 256) g, div-add-mod' r 256)
 
--- what was put as n bytes is read back, if n bytes hold it
+-- An unsigned number that fits n bytes is read back.
 pub value-be : (n v : ℕ) → v < 256 ^ n → value (be n v) ≡ v
 value-be n v h = let e : 0 * 256 ^ n + v ≡ v = omega arith in rw e at (value-be-mod n 0 v h)
 
--- a number of 64 bits below 0, as 256 ^ n less it and some whole 256 ^ n
+-- The two's complement of -1 - m in 64 bits is its two's complement in n bytes plus a multiple of 256 ^ n.
 complement-split : (n m : ℕ) → n ≤ 8 → suc m ≤ 256 ^ n → 2 ^ 64 - suc m ≡ (256 ^ (8 - n) - 1) * 256 ^ n + (256 ^ n - suc m)
 complement-split n m h k =
     let w : ℕ = 256 ^ n in

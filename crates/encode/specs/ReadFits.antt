@@ -1,4 +1,4 @@
--- What was read from a field of n bytes fits n bytes: an address's gap, a reference's, a count.
+-- A number read from a field of n bytes fits n bytes: the gap of an address or of a reference, and a count.
 -- Assumes nothing.
 use mathlib.Core.Path.{_≡_, refl}
 use Prim.Native.Nat.{ℕ, suc, _+_, _-_, _*_, _/_, _^_, _≤_}
@@ -14,7 +14,7 @@ use Rattle.decode.specs.Takes.{AddressIn, CountIn}
 use Rattle.decode.specs.declared.Maybe.the-variants.{Just, Nothing}
 use Rattle.encode.specs.Encode.{gap, fits}
 
--- what n bytes say as a signed number, n bytes hold
+-- The signed value of n bytes fits n bytes.
 pub signed-fits : (n v : ℕ) → fits n (signed n v) ≡ true
 unfolding signed fits
 signed-fits n v = by (ltb (v + v) (256 ^ n)) refl
@@ -27,7 +27,7 @@ signed-fits n v = by (ltb (v + v) (256 ^ n)) refl
         let m : ℕ = 256 ^ n - suc v in
         lt-ltb (m + m) (256 ^ n) (omega arith)
 
--- the gap to where a gap leads is that gap
+-- If adding a gap to a base gives an address, it is the gap from the base to that address.
 pub gap-add-gap : (highest base : ℕ) (g : ℤ) (a : ℕ) → add-gap highest base g ≡ Just a → gap base a ≡ g
 unfolding add-gap gap
 gap-add-gap highest base (pos n) a h =
@@ -45,8 +45,10 @@ gap-add-gap highest base (negsuc n) a h = by (leb (4 * suc n) base) refl h
         rw (lt-leb base a (omega arith), d)
     by false k g = let z : _≡_ {A = ℕ} 0 1 = cc in absurd (omega arith)
 
+-- The gap of an address that was read from w bytes fits w bytes.
 pub address-gap-fits : (w base highest a : ℕ) → AddressIn w base highest a → fits w (gap base a) ≡ true
 address-gap-fits w base highest a x = rw (gap-add-gap highest base (signed w (x .number)) a (x .address-is)) (signed-fits w (x .number))
 
+-- A count that was read from w bytes fits w bytes.
 pub count-fits : (w a : ℕ) → CountIn w a → fits w (pos a) ≡ true
 count-fits w a x = rw (← to-count-inv (signed w (x .number)) a (x .counts) .0) (signed-fits w (x .number))

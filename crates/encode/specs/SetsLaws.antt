@@ -1,4 +1,4 @@
--- How many bytes references are, and storing one list after another.
+-- The number of bytes of encoded references, and storing one list after another.
 -- Assumes nothing.
 use mathlib.Core.Path.{_≡_}
 use mathlib.Core.List.{List, [], _∷_, _++_}
@@ -10,12 +10,13 @@ use lib.Seq.{sets}
 use Rattle.encode.specs.Encode.{gap, twos-complement, encode-ref-list}
 use Rattle.encode.specs.NumberRoundTrip.{length-be}
 
+-- Encoded references take w bytes each.
 pub length-encode-ref-list : (w a : ℕ) (rs : List ℕ) → length (encode-ref-list w a rs) ≡ length rs * w
 unfolding encode-ref-list
 length-encode-ref-list w a [] = omega arith
 length-encode-ref-list w a (r ∷ rs) = simp (length-append, length-be w (twos-complement (gap a r)), length-encode-ref-list w a rs) (omega arith)
 
--- two lists stored as one: the second after the first
+-- Storing a concatenation is storing the first list and then the second after it.
 pub sets-append : (l : List ℕ) (at : ℕ) (xs ys : List ℕ) → sets l at (xs ++ ys) ≡ sets (sets l at xs) (at + length xs) ys
 sets-append l at [] ys = rw add-zero
 sets-append l at (x ∷ xs) ys =

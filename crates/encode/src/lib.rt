@@ -1,6 +1,6 @@
-// Writing bytes: strings of them, big-endian numbers, gaps and references; and the least width that holds a gap. Each function
-// that writes does so at an offset of the output, changes nothing else, and returns the offset after what it wrote. What the
-// bytes are is a definition of specs/Put.antt.
+// Encodes byte strings, big-endian numbers, gaps and references, and computes the least width that holds a gap. Each function
+// that writes does so at an offset of the output, changes nothing else, and returns the offset after the bytes written. The bytes
+// are defined in specs/Encode.antt.
 ghost use mathlib.Core.Path.{_≡_};
 ghost use Prim.Native.Nat.{_+_, _≤_};
 ghost use mathlib.Core.List.{[], _∷_};
@@ -12,7 +12,7 @@ ghost use Rattle.encode.specs.Writes.{Writes, HasCapacity};
 ghost use Rattle.encode.specs.Encode.{be, gap, twos-complement, width-code, max, refs-code, encode-ref-list};
 use decode::choice;
 
-// Writes a byte.
+// Writes one byte.
 pub fn encode_byte(out: &mut [u8], at: usize, b: u8) -> usize
     requires { ⌜ HasCapacity (now out) at (b ∷ []) ⌝ }
     ensures { λ r. ⌜ Writes (now (out .entry)) at (b ∷ []) (now (out .exit)) r ⌝ }
@@ -21,7 +21,7 @@ pub fn encode_byte(out: &mut [u8], at: usize, b: u8) -> usize
     at + 1
 }
 
-// Writes n bytes that are at an offset of others.
+// Writes n of the given bytes, from offset `place` on.
 pub fn encode_slice(out: &mut [u8], at: usize, bytes: &[u8], place: usize, n: usize) -> usize
     requires { ⌜ place + n ≤ length (now bytes) ⌝ }
     requires { ⌜ HasCapacity (now out) at (take n (drop place (now bytes))) ⌝ }
@@ -35,7 +35,7 @@ pub fn encode_slice(out: &mut [u8], at: usize, bytes: &[u8], place: usize, n: us
     at + n
 }
 
-// Writes bytes.
+// Writes all given bytes.
 pub fn encode_bytes(out: &mut [u8], at: usize, bytes: &[u8]) -> usize
     requires { ⌜ HasCapacity (now out) at (now bytes) ⌝ }
     ensures { λ r. ⌜ Writes (now (out .entry)) at (now (bytes .entry)) (now (out .exit)) r ⌝ }
@@ -43,7 +43,7 @@ pub fn encode_bytes(out: &mut [u8], at: usize, bytes: &[u8]) -> usize
     encode_slice(out, at, bytes, 0, bytes.len())
 }
 
-// Writes the lowest n bytes of a number, whatever n is, one after another.
+// Writes the lowest n bytes of a number for any n, byte by byte from the last to the first.
 fn encode_any_width(out: &mut [u8], at: usize, n: usize, value: u64) -> usize
     requires { ⌜ HasCapacity (now out) at (be n value) ⌝ }
     ensures { λ r. ⌜ Writes (now (out .entry)) at (be n value) (now (out .exit)) r ⌝ }
@@ -58,7 +58,7 @@ fn encode_any_width(out: &mut [u8], at: usize, n: usize, value: u64) -> usize
     at + n
 }
 
-// Write the lowest byte, the lowest two and the lowest four.
+// Writes the lowest byte of a number.
 fn encode_be1(out: &mut [u8], at: usize, value: u64) -> usize
     requires { ⌜ HasCapacity (now out) at (be 1 value) ⌝ }
     ensures { λ r. ⌜ Writes (now (out .entry)) at (be 1 value) (now (out .exit)) r ⌝ }
@@ -67,6 +67,7 @@ fn encode_be1(out: &mut [u8], at: usize, value: u64) -> usize
     at + 1
 }
 
+// Writes the lowest two bytes of a number, the highest first.
 fn encode_be2(out: &mut [u8], at: usize, value: u64) -> usize
     requires { ⌜ HasCapacity (now out) at (be 2 value) ⌝ }
     ensures { λ r. ⌜ Writes (now (out .entry)) at (be 2 value) (now (out .exit)) r ⌝ }
@@ -75,6 +76,7 @@ fn encode_be2(out: &mut [u8], at: usize, value: u64) -> usize
     encode_be1(out, low, value)
 }
 
+// Writes the lowest four bytes of a number, the highest first.
 fn encode_be4(out: &mut [u8], at: usize, value: u64) -> usize
     requires { ⌜ HasCapacity (now out) at (be 4 value) ⌝ }
     ensures { λ r. ⌜ Writes (now (out .entry)) at (be 4 value) (now (out .exit)) r ⌝ }
@@ -83,7 +85,7 @@ fn encode_be4(out: &mut [u8], at: usize, value: u64) -> usize
     encode_be2(out, low, value)
 }
 
-// Writes the lowest n bytes of a number, by the width: fields of 1, 2, 4 and 8 bytes at once.
+// Writes the lowest n bytes of a number, with fast paths for 1, 2, 4 and 8 bytes.
 fn encode_by_width(out: &mut [u8], at: usize, n: usize, value: u64) -> usize
     requires { ⌜ HasCapacity (now out) at (be n value) ⌝ }
     ensures { λ r. ⌜ Writes (now (out .entry)) at (be n value) (now (out .exit)) r ⌝ }
@@ -107,7 +109,7 @@ fn encode_by_width(out: &mut [u8], at: usize, n: usize, value: u64) -> usize
     encode_any_width(out, at, n, value)
 }
 
-// Writes the lowest n bytes of a number, the highest first. The next offset is worked out apart from the branches on the width.
+// Writes the lowest n bytes of a number, the highest first. The next offset is computed outside the branches on the width.
 pub fn encode_be(out: &mut [u8], at: usize, n: usize, value: u64) -> usize
     requires { ⌜ HasCapacity (now out) at (be n value) ⌝ }
     ensures { λ r. ⌜ Writes (now (out .entry)) at (be n value) (now (out .exit)) r ⌝ }
@@ -116,7 +118,7 @@ pub fn encode_be(out: &mut [u8], at: usize, n: usize, value: u64) -> usize
     at + n
 }
 
-// How far it is from one address to another, in fours: n for a gap of n, and for one of -1 - n.
+// Returns the distance from one address to another, in units of 4 bytes: n for a gap of n, and for a gap of -1 - n.
 fn distance(from: u64, to: u64) -> u64
     ensures { λ r. ⌜ gap from to ≡ cond (leb from to) (pos r) (negsuc r) ⌝ }
 {
@@ -126,7 +128,7 @@ fn distance(from: u64, to: u64) -> u64
     (from - to - 1) / 4
 }
 
-// A distance up, or down, in two's complement.
+// Returns a gap in two's complement: the gap is `distance` if `up` is true, else -1 - `distance`.
 fn complement_of(up: bool, distance: u64) -> u64
     ensures { λ r. ⌜ r ≡ twos-complement (cond up (pos distance) (negsuc distance)) ⌝ }
 {
@@ -136,28 +138,28 @@ fn complement_of(up: bool, distance: u64) -> u64
     0xFFFF_FFFF_FFFF_FFFF - distance
 }
 
-// The gap from one address to another, as the bytes of a field hold it.
+// Returns the gap from one address to another in two's complement, as a field contains it.
 pub fn raw_gap(from: u64, to: u64) -> u64
     ensures { λ r. ⌜ r ≡ twos-complement (gap from to) ⌝ }
 {
     complement_of(from <= to, distance(from, to))
 }
 
-// The least width code that holds a number, or as far a negative one, from -1 down.
+// Returns the least width code that holds m as a signed number. It is also that of -1 - m.
 pub fn number_code(m: u64) -> u64
     ensures { λ r. ⌜ r ≡ width-code (pos m) ⌝ }
 {
     choice(0x80 <= m, 1, 0) + choice(0x8000 <= m, 1, 0) + choice(0x8000_0000 <= m, 1, 0)
 }
 
-// The least width code that holds the gap from one address to another.
+// Returns the least width code that holds the gap from one address to another.
 pub fn gap_code(from: u64, to: u64) -> u64
     ensures { λ r. ⌜ r ≡ width-code (gap from to) ⌝ }
 {
     number_code(distance(from, to))
 }
 
-// The greater of two.
+// Returns the greater of two numbers.
 pub fn max(a: u64, b: u64) -> u64
     ensures { λ r. ⌜ r ≡ max a b ⌝ }
 {
@@ -167,7 +169,7 @@ pub fn max(a: u64, b: u64) -> u64
     a
 }
 
-// The least width code that holds count references from a place of the table on, of a record at the address a.
+// Returns the least width code that holds each of `count` references from index `first` on, for a record at address a.
 pub fn refs_code(refs: &[u64], first: usize, count: usize, a: u64) -> u64
     requires { ⌜ first + count ≤ length (now refs) ⌝ }
     ensures { λ r. ⌜ r ≡ refs-code 0 a (take count (drop first (now (refs .entry)))) ⌝ }
@@ -182,7 +184,7 @@ pub fn refs_code(refs: &[u64], first: usize, count: usize, a: u64) -> u64
     number_code(m)
 }
 
-// Writes count references from a place of the table on, w bytes each, of a record at the address a.
+// Writes `count` references from index `first` on, w bytes each, for a record at address a.
 pub fn encode_ref_list(
     out: &mut [u8],
     at: usize,

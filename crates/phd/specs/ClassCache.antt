@@ -1,4 +1,4 @@
--- The class cache is filled in turn: after any class words its slots hold what 01 says, however its count goes round.
+-- After any pushes each slot of the class cache holds the class word of docs/FORMAT.md 3.5, although `pushes` stays at most 7.
 -- A reader must believe `push-all`, and `Phd.slot-after`.
 use mathlib.Core.Path.{_≡_, refl, sym, _∙_}
 use Prim.Native.Nat.{ℕ, _+_, _%_, _≤_, _<_}
@@ -13,12 +13,12 @@ use Rattle.decode.specs.declared.Maybe.the-variants.{Just}
 use Rattle.phd.specs.Phd.{slot-after, empty-cache, push, slot}
 use Rattle.phd.specs.declared.cache.Cache.{Cache}
 
--- the cache after the class words ws were put, the last of them first
+-- The cache after pushing the class words ws, the last one first.
 abbrev pub push-all : List ℕ → Cache
 push-all [] = empty-cache
 push-all (w ∷ ws) = push (push-all ws) w
 
--- A cache after the words ws: its count is that of the words up to 3, then 4 to 7, and alike modulo 4.
+-- The invariant of a cache after pushing ws: `pushes` is their number up to 3, then 4 to 7 and equal to their number modulo 4.
 record CacheInvariant (ws : List ℕ) (c : Cache) : Type 0 where
   pub few : length ws < 4 → c .pushes ≡ length ws
   pub many : 4 ≤ length ws → 4 ≤ c .pushes
@@ -27,7 +27,7 @@ record CacheInvariant (ws : List ℕ) (c : Cache) : Type 0 where
   pub four-slots : length (c .classes) ≡ 4
   pub slots : (i : ℕ) → i < 4 → slot c i ≡ slot-after ws i
 
--- the count goes round, after 7 to 4
+-- `pushes` wraps from 7 to 4.
 pushes-wrap : (c : Cache) (w : ℕ) → c .pushes ≤ 7
     → (push c w .pushes % 4 ≡ (c .pushes + 1) % 4) × (push c w .pushes ≤ 7) × (c .pushes < 4 → push c w .pushes ≡ c .pushes + 1) × (4 ≤ c .pushes → 4 ≤ push c w .pushes)
 unfolding push
@@ -43,7 +43,7 @@ module _ (ws : List ℕ) (c : Cache) (w : ℕ) (t : CacheInvariant ws c) where
   abbrev q : ℕ
   q = push c w .pushes
 
-  -- the slot that is filled, and any other
+  -- The slot that is filled holds the new class word; every other slot is unchanged.
   pushed-slot : (i : ℕ) → i < 4 → length ws % 4 ≡ i → slot (push c w) i ≡ Just w
   unfolding slot push
   pushed-slot i l e =
@@ -85,6 +85,7 @@ module _ (ws : List ℕ) (c : Cache) (w : ℕ) (t : CacheInvariant ws c) where
         ];
       }
 
+-- The invariant holds after any pushes.
 push-all-invariant : (ws : List ℕ) → CacheInvariant ws (push-all ws)
 unfolding empty-cache slot slot-after
 push-all-invariant [] = record {
@@ -97,6 +98,6 @@ push-all-invariant [] = record {
 }
 push-all-invariant (w ∷ ws) = push-invariant ws (push-all ws) w (push-all-invariant ws)
 
--- Each slot of the cache holds what 01 says.
+-- Each slot of the cache holds what `slot-after` gives.
 pub slot-push-all : (ws : List ℕ) (i : ℕ) → i < 4 → slot (push-all ws) i ≡ slot-after ws i
 slot-push-all ws = push-all-invariant ws .slots

@@ -1,5 +1,4 @@
--- What stands at a place is read from the tag there on, and that place is its offset: `entry` by `from-tag`, which the laws of
--- other files go by.
+-- `entry` is `from-tag` with the current offset as the origin; laws of `from-tag` carry over to `entry`.
 -- Assumes nothing.
 use mathlib.Core.Path.{_≡_}
 use Prim.Native.Nat.{ℕ}
@@ -11,16 +10,17 @@ use Rattle.phd.specs.declared.cache.Cache.{Cache}
 use Rattle.phd.specs.declared.Header.{Header}
 use Rattle.phd.specs.declared.Origin.{Origin}
 
--- the origin of a record at a place, with so many references before it
+-- The origin of a record at offset `at`, with `index` references before it.
 abbrev pub origin-at : ℕ → ℕ → Origin
 origin-at at index = record { offset = at; index = index }
 
 module _ (h : Header) (before : ℕ) (c : Cache) (index : ℕ) where
+  -- Reading an entry is reading from its tag, with its own offset as the origin.
   pub entry-from-tag : (s : List ℕ) (at : ℕ) → run (entry h before c index) s at ≡ run (from-tag h before c (origin-at at index)) s at
   unfolding entry
   entry-from-tag s at = rw (run-then, run-position)
 
-  -- what holds of every value, and of every reply, wherever it is read
+  -- A property of every value, or of every reply, of `from-tag` at any origin holds for `entry`.
   pub entry-gives : {s : List ℕ} {P : Item → Type 0} → ((origin : Origin) → Gives s P (from-tag h before c origin)) → Gives s P (entry h before c index)
   unfolding entry
   entry-gives g = gives-then-any _ _ (λ at. g (origin-at at index))

@@ -1,5 +1,5 @@
--- Phd is the definition of the format and of its reading, and Cases are 01's own cases of it. ClassCache, Shapes, References and Origins
--- are laws of its parts.
+-- The definition of the format and of reading (Phd), the scope paper's cases of it (ReadCases), and laws of its parts
+-- (ClassCache, Shapes, RefList, EntryLaws).
 pub mod Phd
 pub mod ReadCases
 pub mod ClassCache

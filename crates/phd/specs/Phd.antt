@@ -1,6 +1,7 @@
--- The portable heap dump, as 01 lays it out: the header, the record layouts, the class cache, the tables, and what a
--- reading of any bytes gives. Every promise about reading cites these definitions, and a reader must believe them.
--- A dump and the tables are lists of numbers, a byte being one below 256. A reply is 01's number.
+-- The portable heap dump (docs/FORMAT.md 2, 3, 4.1 and 5): the header, the record layouts, the class cache, the rows, and the
+-- result of reading any bytes. A reader must believe these definitions; every promise about reading cites them.
+-- A dump and the tables are lists of numbers; a byte is a number below 256. A reply (the scope paper's term) is one of the
+-- numbers of docs/FORMAT.md 8.
 use Prim.Native.Nat.{ℕ, zero, suc, _+_, _-_, _/_, _%_, _^_}
 use mathlib.Core.Bool.{Bool, true, false, not, cond, _&&_, _||_}
 use mathlib.Core.List.{List, [], _∷_}
@@ -27,35 +28,36 @@ use Rattle.phd.specs.declared.Middle.{Middle}
 use Rattle.phd.specs.declared.Span.{Span}
 use Rattle.phd.specs.declared.Tail.{Tail}
 
--- whether the bit of the value m (1, 2, 4, 8 ..) is set
+-- Whether the bit of value m (1, 2, 4, 8 ..) is set in x.
 unfoldable pub bit : ℕ → ℕ → Bool
 bit m x = eqb (x / m % 2) 1
 
--- addresses, class words and references lie in 0 to 2^W - 1
+-- The greatest address for W (32 or 64): addresses, class words and references lie in 0 to 2^W - 1.
 unfoldable pub max-address : ℕ → ℕ
 max-address bits = 2 ^ bits - 1
 
 -- ---- the header
 
+-- Whether two lists of bytes are equal.
 unfoldable pub bytes-equal : List ℕ → List ℕ → Bool
 bytes-equal [] [] = true
 bytes-equal [] (y ∷ ys) = false
 bytes-equal (x ∷ xs) [] = false
 bytes-equal (x ∷ xs) (y ∷ ys) = eqb x y && bytes-equal xs ys
 
--- `portable heap dump`
+-- The opening string, "portable heap dump".
 unfoldable pub magic : List ℕ
 magic =
     0x70 ∷ 0x6F ∷ 0x72 ∷ 0x74 ∷ 0x61 ∷ 0x62 ∷ 0x6C ∷ 0x65 ∷ 0x20 ∷ 0x68 ∷ 0x65 ∷ 0x61 ∷ 0x70 ∷ 0x20 ∷ 0x64 ∷ 0x75 ∷ 0x6D ∷ 0x70 ∷ []
 
--- its bytes, without the length before them
+-- The bytes of the opening string, without the length before them; other bytes are refused with 3.
 unfoldable pub magic-bytes : Layout (Unit {0})
 magic-bytes = do
   text ← raw 18
   check 3 (bytes-equal text magic)
 
--- The opening string, the version, the flags and the byte 1; the flags are what is handed on. (`exactly n v r` is a field of
--- n bytes that must be v, else the reply r; of `below n v r` it must be below v.)
+-- The opening string, the version, the flags and the start byte 1; the value is the flags. (`exactly n v r` is a field of n bytes
+-- that must be v, else reply r; in `below n v r` it must be below v.)
 unfoldable pub preamble : Layout ℕ
 preamble = do
   exactly 2 18 3
@@ -65,14 +67,14 @@ preamble = do
   exactly 1 1 6
   yield flags
 
--- the tag after the VM string: 2 ends the header, and a second VM string is refused
+-- The tag after the VM string: 2 ends the header records; 4 (a second VM string) is refused with 7, any other tag with 6.
 unfoldable pub after-vm : Layout (Unit {0})
 after-vm = do
   tag ← field 1
   check 7 (not (eqb tag 4))
   check 6 (eqb tag 2)
 
--- the header records and the byte 2 that ends them: none, or one VM string
+-- The header records and the tag 2 that ends them: none, or one VM string.
 unfoldable pub header-records : Layout StringSpan
 header-records = do
   tag ← field 1
@@ -81,9 +83,11 @@ header-records = do
     after-vm
     yield vm) (refuse 6))
 
+-- The header for the flags and the VM string.
 unfoldable pub make-header : ℕ → StringSpan → Header
 make-header flags vm = record { bits = cond (bit 1 flags) 64 32; hashed = bit 2 flags; openj9 = bit 4 flags; vm = vm }
 
+-- The whole header, up to the byte 2 that starts the body (docs/FORMAT.md 2).
 unfoldable pub header : Layout Header
 header = do
   flags ← preamble
@@ -91,31 +95,35 @@ header = do
   exactly 1 2 6
   yield (make-header flags vm)
 
--- the facts before both bytes 2 are read
+-- The header that a reading returns if it stops before the end of the header.
 unfoldable pub empty-header : Header
 empty-header = record { bits = 0; hashed = false; openj9 = false; vm = no-string }
 
--- ---- the cache of classes: four slots, filled in turn, 0, 1, 2, 3, 0 and on
+-- ---- the class cache: four slots, filled in the order 0, 1, 2, 3, 0 .. (docs/FORMAT.md 3.5; scope paper's terms: cache, slot)
 
--- What slot i holds after the class words ws were put, the last of them first: the last whose number, from 0, is i modulo 4, if there is
--- one. So it is of the cache that follows (`ClassCache.slot-push-all`), in every reading (phd_read, `ReadTheorems.slots-before-row`).
+-- The content of slot i after pushing the class words ws (the last one first): the last word whose push number, counted from 0,
+-- is i modulo 4, or Nothing. The cache below agrees with it (`ClassCache.slot-push-all`), in every reading (phd_read,
+-- `ReadTheorems.slots-before-row`).
 unfoldable pub slot-after : List ℕ → ℕ → Maybe
 slot-after [] i = Nothing
 slot-after (w ∷ ws) i = cond (eqb (length ws % 4) i) (Just w) (slot-after ws i)
 
+-- The cache at the start of a dump: all slots are empty.
 unfoldable pub empty-cache : Cache
 empty-cache = record { classes = 0 ∷ 0 ∷ 0 ∷ 0 ∷ []; pushes = 0 }
 
--- `puts` counts what was put, up to 7 and then 4 to 7 over and over: the next slot is puts % 4.
+-- The cache after pushing a class word into the next slot, `pushes` % 4. `pushes` counts up to 7 and then cycles through 4 to 7;
+-- modulo 4 it is the number of pushes.
 unfoldable pub push : Cache → ℕ → Cache
 push c w = record { classes = set (c .classes) (c .pushes % 4) w; pushes = cond (ltb (c .pushes) 7) (c .pushes + 1) 4 }
 
--- the class word in a slot, if it was filled
+-- The class word in slot i, if the slot has been filled.
 unfoldable pub slot : Cache → ℕ → Maybe
 slot c i = cond (ltb i (c .pushes)) (Just (getD (c .classes) i 0)) Nothing
 
 -- ---- tags and flag bytes
 
+-- The form that a tag begins (docs/FORMAT.md 3.1); `Other` for the end tag and for tags that are refused.
 unfoldable pub tag-form : ℕ → TagForm
 tag-form t =
     cond (leb 0x80 t) (Begins Short)
@@ -126,43 +134,45 @@ tag-form t =
     (cond (eqb t 7) (Begins LongPrimitive)
     (cond (eqb t 8) (Begins ObjectArray) Other))))))
 
--- a tag that begins no record is refused
+-- The form; a tag that begins no record is refused with 6.
 unfoldable pub need-form : TagForm → Layout Form
 need-form (Begins fm) = yield fm
 need-form Other = refuse 6
 
--- the class of a short record, out of the slot that its tag names; other forms ask for none
+-- The class word of a short object, from the slot that its tag names; 0 for other forms, which use no slot.
 unfoldable pub slot-class : Cache → ℕ → Maybe
 slot-class c t = cond (leb 0x80 t) (slot c (t / 0x20 % 4)) (Just 0)
 
--- The moved bit is 0x02, in a class record 0x08; the hashed bit is 0x01, and a class record has none.
+-- The moved bit of the flag byte f after tag t: 0x02, in a class record 0x08.
 unfoldable pub moved-bit : ℕ → ℕ → Bool
 moved-bit t f = cond (eqb t 6) (bit 0x08 f) (bit 0x02 f)
 
+-- The hashed bit: 0x01; a class record has none.
 unfoldable pub hashed-bit : ℕ → ℕ → Bool
 hashed-bit t f = cond (eqb t 6) false (bit 0x01 f)
 
--- the flag byte, where the form has one, else 0: in an all-hashed dump its bits for hashing are clear
+-- The flag byte if the form has one (tag below 0x20), else 0. In an all-hashed dump a moved or hashed bit is refused with 11.
 unfoldable pub flag-byte : Header → ℕ → Layout ℕ
 flag-byte h t = do
   f ← field (cond (ltb t 0x20) 1 0)
   check 11 (not (h .hashed && (moved-bit t f || hashed-bit t f)))
   yield f
 
--- hash kinds: 0 none, 1 hashed with no stored hash, 2 a stored 32-bit hash, 3 a 16-bit hash
+-- The hash kind (docs/FORMAT.md 3.2): 0 not hashed, 1 hashed but no hash is stored, 2 a stored 32-bit hash, 3 a 16-bit hash.
 unfoldable pub hash-kind : Header → ℕ → ℕ → ℕ
 hash-kind h t f = cond (h .hashed) 3 (cond (moved-bit t f) 2 (cond (hashed-bit t f) 1 0))
 
+-- The bytes of the hash field, by the hash kind.
 unfoldable pub hash-bytes : ℕ → ℕ
 hash-bytes k = cond (eqb k 2) 4 (cond (eqb k 3) 2 0)
 
--- ---- the seven record layouts: all have one order of fields, and what a form lacks has no bytes and reads as 0
+-- ---- record layouts: the seven forms share one order of fields; a field that a form lacks has no bytes and reads as 0
 
--- a width code: 0 byte, 1 short, 2 int, 3 long
+-- The bytes of a width code: 0 byte, 1 short, 2 int, 3 long.
 unfoldable pub width : ℕ → ℕ
 width c = 2 ^ c
 
--- the numbers of a shape in their order, for the table below
+-- A shape from its numbers, in the order of the columns of `shape`.
 abbrev pub make-shape : ℕ → ℕ → ℕ → ℕ → ℕ → ℕ → ℕ → ℕ → ℕ → ℕ → ℕ → ℕ → Bool → ℕ → Shape
 make-shape kind gap class len inst superclass name countwidth count refwidth size truelen cached prim = record {
   kind = kind;
@@ -181,9 +191,9 @@ make-shape kind gap class len inst superclass name countwidth count refwidth siz
   prim = prim;
 }
 
--- 01's "Record layouts", from W in bytes, the form, the tag t and the flag byte f. The bits are found by 01's masks:
--- t / 0x20 % 4 is the two bits 0x60. The columns: kind; bytes of gap, class word, array length, instance size,
--- superclass word, name length, count; the count in the tag; bytes of a reference, of size and true length; cached; type.
+-- The shape of a record (docs/FORMAT.md 3.3), from W in bytes (w), the form, the tag t and the flag byte f. Division extracts
+-- bits: f / 0x40 % 4 is the two bits 0xC0. The columns: kind; bytes of gap, class word, array length, instance size, superclass
+-- word, name length, reference count; the count in the tag; bytes of a reference, of size, of true length; cached; type.
 unfoldable pub shape : ℕ → Form → ℕ → ℕ → Shape
 shape w Short t f = make-shape 2 (width (t / 0x04 % 2)) 0 0 0 0 0 0 (t / 0x08 % 4) (width (t % 4)) 0 0 false 0
 shape w Medium t f = make-shape 2 (width (t / 0x04 % 2)) w 0 0 0 0 0 (t / 0x08 % 8) (width (t % 4)) 0 0 true 0
@@ -194,9 +204,9 @@ shape w Primitive t f = make-shape 4 (width (t % 4)) 0 (width (t % 4)) 0 0 0 0 0
 shape w LongPrimitive t f =
     make-shape 4 (cond (bit 0x10 f) w 1) 0 (cond (bit 0x10 f) w 1) 0 0 0 0 0 0 4 0 false (f / 0x20 % 8)
 
--- ---- one record
+-- ---- records
 
--- gap, class word and array length: `before` is the address of the record before, top the highest
+-- Gap, class word and array length. `before` is the address of the record before, `top` the greatest address.
 unfoldable pub front : ℕ → ℕ → Shape → Layout Front
 front top before sh = do
   a ← address (sh .gap) before top
@@ -204,7 +214,7 @@ front top before sh = do
   len ← count (sh .len)
   yield (record { address = a; class = class; len = len })
 
--- a class's instance size, the hash of hb bytes and the superclass word
+-- Instance size of a class, hash of hb bytes, and superclass word.
 unfoldable pub middle : Shape → ℕ → Layout Middle
 middle sh hb = do
   inst ← count (sh .inst)
@@ -212,15 +222,15 @@ middle sh hb = do
   superclass ← field (sh .superclass)
   yield (record { inst = inst; hash = hash; superclass = superclass })
 
--- a class's name, 1 to 65,535 bytes, each 0x21 to 0x7E
+-- The name of a class: 1 to 65,535 bytes, each 0x21 to 0x7E. There is none if its length field has n = 0 bytes.
 unfoldable pub class-name : ℕ → Layout StringSpan
 class-name n = cond (eqb n 0) (yield no-string) (string 0x21 1)
 
--- how many references: in the tag, or counted in a field of its own
+-- The number of references: in a field of n bytes, or, if n is 0, the number `tagcount` from the tag.
 unfoldable pub ref-count : ℕ → ℕ → Layout ℕ
 ref-count n tagcount = cond (eqb n 0) (yield tagcount) (count n)
 
--- n references of w bytes each, of a record at the address a
+-- n references of w bytes each, of a record at address a.
 unfoldable pub ref-list : ℕ → ℕ → ℕ → ℕ → Layout (List ℕ)
 ref-list w a top zero = yield []
 ref-list w a top (suc n) = do
@@ -228,43 +238,46 @@ ref-list w a top (suc n) = do
   rs ← ref-list w a top n
   yield (r ∷ rs)
 
--- references with where they stand
+-- References, and their position in the dump.
 pub record SpannedRefs : Type 0 where
   pub span : Span
   pub list : List ℕ
 
+-- As `ref-list`, with the span of the references.
 unfoldable pub spanned-refs : ℕ → ℕ → ℕ → ℕ → Layout SpannedRefs
 spanned-refs w a top n = do
   p ← position
   rs ← ref-list w a top n
   yield (record { span = record { place = p; width = w; count = n }; list = rs })
 
--- a true length is at least the count of references
+-- The true length of an object array: w bytes, at least the reference count n, else reply 12. It is 0 if w is 0.
 unfoldable pub true-length : ℕ → ℕ → Layout ℕ
 true-length w n = cond (eqb w 0) (yield 0) (do
   t ← count w
   check 12 (leb n t)
   yield t)
 
+-- The fields after the references: size and true length, of so many bytes; n is the reference count.
 unfoldable pub tail : ℕ → ℕ → ℕ → Layout Tail
 tail size truelen n = do
   z ← field size
   t ← true-length truelen n
   yield (record { size = z; truelen = t })
 
--- the value of a field of w bytes, where there is one, else the other
+-- The value v of a field of w bytes, or `other` if the record lacks the field (w is 0).
 unfoldable pub field-or : ℕ → ℕ → ℕ → ℕ
 field-or w v other = cond (eqb w 0) other v
 
--- The row: kind, address, class word, hash kind, hash, first reference's index, reference count, size, length, name
--- place, name length, primitive type, offset of the record. `known` is the class of a short record.
+-- The row of a record (row: the scope paper's term; docs/FORMAT.md 4.1): kind, address, class word, hash kind, hash, index of the
+-- first reference, reference count, size, length, name place, name length, primitive type, offset of the record. `tagcount` is the
+-- class word of a short object, from its slot.
 unfoldable pub row : Origin → ℕ → ℕ → Shape → Front → Middle → StringSpan → ℕ → Tail → List ℕ
 row origin hk known sh v m name n t =
     sh .kind ∷ v .address ∷ field-or (sh .class) (v .class) (field-or (sh .superclass) (m .superclass) known) ∷ hk ∷ m .hash
     ∷ origin .index ∷ n ∷ field-or (sh .inst) (m .inst) (t .size) ∷ field-or (sh .truelen) (t .truelen) (v .len)
     ∷ name .place ∷ name .len ∷ sh .prim ∷ origin .offset ∷ []
 
--- What is carried from record to record: the address of the record before, and the cache.
+-- What reading a record needs from the records before it: the address of the previous one, and the cache.
 pub record RecordContext : Type 0 where
   pub address : ℕ
   pub cache : Cache
@@ -272,11 +285,11 @@ pub record RecordContext : Type 0 where
 abbrev pub make-context : ℕ → Cache → RecordContext
 make-context a c = record { address = a; cache = c }
 
--- What comes next: the end tag, or a record with its row, its references, where they are, and its address and the cache after it.
+-- The end tag, or a record with its row, its references, their span, and the context for the next record.
 abbrev pub Item : Type 0
 Item = Reader.Item Span RecordContext
 
--- the fields from the reference count on, and the record whole
+-- The fields from the reference count on; they complete the record.
 unfoldable pub from-ref-count : ℕ → Cache → Origin → ℕ → ℕ → Shape → Front → Middle → StringSpan → Layout Item
 from-ref-count top c origin known hk sh v m name = do
   n ← ref-count (sh .countwidth) (sh .count)
@@ -284,7 +297,7 @@ from-ref-count top c origin known hk sh v m name = do
   t ← tail (sh .size) (sh .truelen) n
   yield (item (row origin hk known sh v m name n t) (ls .list) (ls .span) (make-context (v .address) (cond (sh .cached) (push c (v .class)) c)))
 
--- the fields after the tag and the flag byte, in file order
+-- The fields after the tag and the flag byte, in file order.
 unfoldable pub fields : ℕ → ℕ → Cache → Origin → ℕ → ℕ → Shape → Layout Item
 fields top before c origin known hk sh = do
   v ← front top before sh
@@ -292,7 +305,7 @@ fields top before c origin known hk sh = do
   name ← class-name (sh .name)
   from-ref-count top c origin known hk sh v m name
 
--- a record behind its tag t
+-- The rest of a record after its tag t.
 unfoldable pub record-body : Header → ℕ → Cache → Origin → ℕ → Layout Item
 record-body h before c origin t = do
   fm ← need-form (tag-form t)
@@ -300,24 +313,25 @@ record-body h before c origin t = do
   f ← flag-byte h t
   fields (max-address (h .bits)) before c origin known (hash-kind h t f) (shape (h .bits / 8) fm t f)
 
--- the end tag, or a record whole
+-- The end tag 3, or a whole record.
 unfoldable pub from-tag : Header → ℕ → Cache → Origin → Layout Item
 from-tag h before c origin = do
   t ← field 1
   cond (eqb t 3) (yield end-item) (record-body h before c origin t)
 
--- what stands at the place reached, with `index` references before it
+-- The end tag or a record at the current offset, with `index` references before it.
 unfoldable pub entry : Header → ℕ → Cache → ℕ → Layout Item
 entry h before c index = do
   offset ← position
   from-tag h before c (record { offset = offset; index = index })
 
--- ---- a reading
+-- ---- reading
 
--- The format: the reading of its dumps, and what holds of any format's, are those of `read-result`.
+-- The context before the first record: address 0 and an empty cache.
 abbrev pub initial-context : RecordContext
 initial-context = make-context 0 empty-cache
 
+-- PHD as a format of the crate `reader`, whose definition of reading and whose theorems on any format apply to it.
 abbrev pub phd : Reader.Format
 phd = record {
   Header = Header;
@@ -329,7 +343,7 @@ phd = record {
   entry = λ h k. entry h (k .address) (k .cache);
 }
 
--- The state between records, what a reading gives, and what a record does.
+-- The state between records, the result of a reading, and the transition by one record.
 abbrev pub State : Type 0
 State = Reader.State phd
 
@@ -339,19 +353,22 @@ Result = Reader.Result phd
 abbrev pub Transition : Type 0
 Transition = Reader.Transition phd
 
--- one record of a dump; record after record; the state before the first record; a reading that stops before the records
+-- The transition by the next record of the dump s, into tables of R numbers for rows and F for references.
 abbrev pub step : Header → List ℕ → ℕ → ℕ → State → Transition
 step h s R F = Reader.step phd h s (Reader.capacity R F)
 
+-- The result of reading record after record from a state; f bounds their number.
 abbrev pub records : ℕ → Header → List ℕ → ℕ → ℕ → State → Result
 records f h s R F = Reader.records phd f h s (Reader.capacity R F)
 
+-- The state before the first record, which is at the given offset.
 abbrev pub initial-state : ℕ → State
 initial-state = Reader.initial-state phd initial-context
 
+-- The result of a reading that stops before the first record, from its reply and its missing bytes.
 abbrev pub no-records : ℕ → ℕ → Result
 no-records = Reader.no-records phd
 
--- What reading the bytes s gives, with R numbers of room for rows and F for references.
+-- The result of reading the bytes s into tables of R numbers for rows and F for references.
 abbrev pub read-result : List ℕ → ℕ → ℕ → Result
 read-result s R F = Reader.read-result phd s (Reader.capacity R F)

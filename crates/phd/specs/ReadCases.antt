@@ -1,5 +1,5 @@
--- 01's dump, and its cases (a) to (j), as one table under one statement, which holds by computing; and what is missing of each
--- of its cuts. A reader must believe that the dump, the table and the widths are 01's.
+-- The scope paper's dump (docs/FORMAT.md 9) and its cases (a) to (j), as one table and one statement, which holds by computation;
+-- and the missing bytes of every cut of the dump. A reader must believe that the dump, the table and the widths are the paper's.
 use mathlib.Core.Path.{_≡_, refl}
 use Prim.Native.Nat.{ℕ, zero, suc, _*_}
 use mathlib.Core.Bool.{true, false}
@@ -13,12 +13,12 @@ use Rattle.table.specs.Table.{row-width}
 use Rattle.reader.specs.Reader.{limit, ended, transition, step, records, initial-state, no-records, from-header, read-result as read-result-of}
 use Rattle.phd.specs.declared.Header.{Header}
 
--- for a proof by computing: whoever unfolds this unfolds all that a reading is made of
+-- For proofs by computation: unfolding this unfolds all definitions that reading uses.
 unfoldable pub unfold-all : Unit {0}
 unfolding value-after signed add-gap to-count all-within run _>>=_ position raw field check need reply-of missing-of exactly below address ref-field count string limit bit max-address bytes-equal magic magic-bytes preamble after-vm header-records make-header header empty-header empty-cache push slot tag-form need-form slot-class moved-bit hashed-bit flag-byte hash-kind hash-bytes width shape front middle class-name ref-count ref-list spanned-refs true-length tail field-or row from-ref-count fields record-body from-tag entry ended transition step records initial-state no-records from-header read-result-of
 unfold-all = tt
 
--- the dump of 01, 74 bytes
+-- The dump of docs/FORMAT.md 9, 74 bytes.
 unfoldable pub dump : List ℕ
 dump =
     0x00 ∷ 0x12 ∷ magic
@@ -29,11 +29,11 @@ dump =
     ++ 0x24 ∷ 0x04 ∷ 0x03 ∷ 0x00 ∷ 0x00 ∷ 0x00 ∷ 0x06 ∷ []
     ++ 0x03 ∷ []
 
--- its header facts
+-- The header of the dump.
 unfoldable pub dump-header : Header
 dump-header = record { bits = 32; hashed = false; openj9 = true; vm = record { present = true; place = 32; len = 4 } }
 
--- its rows, with the offsets of their records; (i) moves all addresses but the first
+-- The rows of the dump, with the offsets of their records. All addresses but the first are parameters, since case (i) moves them.
 unfoldable pub dump-rows : ℕ → ℕ → ℕ → List ℕ
 dump-rows second third fourth =
     1 ∷ 0x1000 ∷ 0 ∷ 0 ∷ 0 ∷ 0 ∷ 0 ∷ 16 ∷ 0 ∷ 52 ∷ 1 ∷ 0 ∷ 38
@@ -41,13 +41,14 @@ dump-rows second third fourth =
     ∷ 2 ∷ third ∷ 0x1000 ∷ 0 ∷ 0 ∷ 1 ∷ 0 ∷ 0 ∷ 0 ∷ 0 ∷ 0 ∷ 0 ∷ 64
     ∷ 4 ∷ fourth ∷ 0 ∷ 0 ∷ 0 ∷ 1 ∷ 0 ∷ 6 ∷ 3 ∷ 0 ∷ 0 ∷ 1 ∷ 66 ∷ []
 
--- bytes, rows of room, and the reading that 01 says, with room for one reference
+-- A case: the bytes, the capacity in rows, and the expected result with capacity for one reference.
 pub record Case : Type 0 where
   pub bytes : List ℕ
   pub capacity : ℕ
   pub expected : Result
 
--- the columns: bytes, rows of room; reply, place, missing bytes; how many of the rows are stored, out of which; references; facts
+-- A case from its columns: bytes, capacity in rows; reply, place, missing bytes; number of rows stored, all rows; references;
+-- header.
 abbrev case : List ℕ → ℕ → ℕ → ℕ → ℕ → ℕ → List ℕ → List ℕ → Header → Case
 case bytes capacity reply place missing n rows refs header = record {
   bytes = bytes;
@@ -55,15 +56,16 @@ case bytes capacity reply place missing n rows refs header = record {
   expected = record { reply = reply; place = place; missing = missing; rows = take (n * row-width) rows; refs = refs; header = header };
 }
 
--- (f): the whole dump and whatever follows
+-- Case (f): the whole dump and any bytes after it.
 unfoldable pub case-f : List ℕ → Case
 case-f more = case (dump ++ more) 4 0 74 0 4 (dump-rows 0x1010 0x1020 0x1030) (0x1020 ∷ []) dump-header
 
+-- The table of cases.
 unfoldable pub cases : List Case
 cases =
     let rows : List ℕ = dump-rows 0x1010 0x1020 0x1030 in
     let refs : List ℕ = 0x1020 ∷ [] in
-    -- (a), none and 37 bytes; (b) to (e); (f), and (f) with a record's beginning behind it; (g)
+    -- (a) with no bytes and with 37; (b) to (e); (f), and (f) with the beginning of a record after it; (g)
     case (take 0 dump) 4 1 0 2 0 [] [] empty-header
     ∷ case (take 37 dump) 4 1 0 1 0 [] [] empty-header
     ∷ case (take 38 dump) 4 1 38 1 0 [] [] dump-header
@@ -73,23 +75,24 @@ cases =
     ∷ case-f []
     ∷ case-f (0x06 ∷ 0xFF ∷ [])
     ∷ case dump 3 13 66 0 3 rows refs dump-header
-    -- (h) the third record's tag as A0, (i) the second's gap as FF, (j) the first's gap as 80 00
+    -- (h) tag A0 in the third record, (i) gap FF in the second, (j) gap 80 00 in the first
     ∷ case (set dump 64 0xA0) 4 10 64 0 2 rows refs dump-header
     ∷ case (set dump 58 0xFF) 4 0 74 0 4 (dump-rows 0x0FFC 0x100C 0x101C) (0x100C ∷ []) dump-header
     ∷ case (set dump 40 0x80) 4 8 38 0 0 [] [] dump-header
     ∷ []
 
--- what a case's bytes are read as
+-- The result of reading the bytes of a case.
 abbrev pub actual : Case → Result
 actual c = read-result (c .bytes) (c .capacity * row-width) 1
 
+-- Every case gives its expected result.
 pub cases-hold : map actual cases ≡ map (λ c. c .expected) cases
 unfolding unfold-all dump dump-header dump-rows case-f cases
 cases-hold = refl
 
--- ---- what is missing of every cut
+-- ---- missing bytes of every cut
 
--- the widths of the dump's fields: the header's, the four records' and the end tag's
+-- The widths of the fields of the dump: those of the header, of the four records and of the end tag.
 unfoldable pub field-widths : List ℕ
 field-widths =
     2 ∷ 18 ∷ 4 ∷ 4 ∷ 1 ∷ 1 ∷ 2 ∷ 4 ∷ 1 ∷ 1
@@ -99,22 +102,22 @@ field-widths =
     ∷ 1 ∷ 1 ∷ 1 ∷ 4
     ∷ 1 ∷ []
 
--- what a field of so many bytes lacks with none of them, with one, and so on
+-- The missing bytes of a field of the given width with 0 of its bytes present, with 1, and so on.
 unfoldable pub field-deficits : ℕ → List ℕ
 field-deficits zero = []
 field-deficits (suc w) = suc w ∷ field-deficits w
 
--- what the first n bytes lack, the first n + 1, and so on, k times
+-- The missing bytes of the first n bytes of the dump, of the first n + 1, and so on, k times.
 unfoldable pub missing-at-cuts : ℕ → ℕ → List ℕ
 missing-at-cuts zero n = []
 missing-at-cuts (suc k) n = read-result (take n dump) (4 * row-width) 1 .missing ∷ missing-at-cuts k (suc n)
 
--- field after field, and none behind the last
+-- The missing bytes of all cuts by the widths of the fields, and 0 for the whole dump.
 unfoldable pub dump-deficits : List ℕ → List ℕ
 dump-deficits [] = 0 ∷ []
 dump-deficits (w ∷ ws) = field-deficits w ++ dump-deficits ws
 
--- At every cut the field at hand lacks the rest of its bytes, and all of the dump lacks none.
+-- At every cut the missing bytes are those that the current field lacks; the whole dump has none missing.
 pub missing-at-every-cut : missing-at-cuts 75 0 ≡ dump-deficits field-widths
 unfolding unfold-all dump field-widths field-deficits missing-at-cuts dump-deficits
 missing-at-every-cut = refl

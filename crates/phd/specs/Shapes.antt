@@ -1,4 +1,4 @@
--- Laws of the tags and shapes of records: W is 32 or 64, every field has at most 8 bytes, and how many bytes a record has by its shape.
+-- Laws of tags and shapes: what a tag of each form is, that a field has at most 8 bytes, and how many bytes a record has.
 -- A reader must believe `record-bytes`.
 use mathlib.Core.Path.{_≡_, refl, subst}
 use mathlib.Core.Logic.{_⊎_, inl, inr}
@@ -15,16 +15,16 @@ use Rattle.phd.specs.declared.Form.{Form}
 use Rattle.phd.specs.declared.Form.the-variants.{Short, Medium, Long, Class, ObjectArray, Primitive, LongPrimitive}
 use Rattle.phd.specs.declared.TagForm.the-variants.{Begins, Other}
 
--- W is 32 or 64
+-- W is 32 or 64.
 abbrev pub ValidBits : ℕ → Type 0
 ValidBits w = (w ≡ 32) ⊎ (w ≡ 64)
 
--- a word has a byte at least
+-- W in bytes is not 0.
 pub bits-bytes-nonzero : (w : ℕ) → ValidBits w → eqb (w / 8) 0 ≡ false
 bits-bytes-nonzero w (inl e) = rw e
 bits-bytes-nonzero w (inr e) = rw e
 
--- the tests by which a tag begins a record of a form
+-- Tests that every tag of the form passes (some of those in `tag-form`).
 abbrev pub TagMatches : Form → ℕ → Type 0
 TagMatches Short t = leb 0x80 t ≡ true
 TagMatches Medium t = (leb 0x80 t ≡ false) × (leb 0x40 t ≡ true)
@@ -34,6 +34,7 @@ TagMatches Class t = (leb 0x80 t ≡ false) × (eqb t 6 ≡ true)
 TagMatches LongPrimitive t = (leb 0x80 t ≡ false) × (eqb t 7 ≡ true)
 TagMatches ObjectArray t = (leb 0x80 t ≡ false) × (eqb t 8 ≡ true)
 
+-- A tag that begins a form passes the tests of that form.
 pub tag-matches : (t : ℕ) (fm : Form) → tag-form t ≡ Begins fm → TagMatches fm t
 unfolding tag-form
 tag-matches t fm e = by _ _ _ _ _ _ _ refl refl refl refl refl refl refl e
@@ -54,7 +55,7 @@ tag-matches t fm e = by _ _ _ _ _ _ _ refl refl refl refl refl refl refl e
     by false false false false false false true p q r s u v w x = is {a = ObjectArray} (p, w) x
     by false false false false false false false p q r s u v w x = let z : _≡_ {A = ℕ} 0 1 = cc in absurd (omega arith)
 
--- every field that is read as a number has at most 8 bytes
+-- Every field that is read as a number has at most 8 bytes.
 pub record WidthsLe8 (sh : Shape) : Type 0 where
   pub gap : sh .gap ≤ 8
   pub class : sh .class ≤ 8
@@ -67,11 +68,12 @@ pub record WidthsLe8 (sh : Shape) : Type 0 where
   pub size : sh .size ≤ 8
   pub truelen : sh .truelen ≤ 8
 
--- a greater width code stands for no fewer bytes, and the greatest for 8
+-- A greater width code means at least as many bytes.
 pub width-mono : (c k : ℕ) → c ≤ k → width c ≤ width k
 unfolding width
 width-mono c k h = pow-le-pow-right {n = 2} (omega arith) {i = c} {j = k} h
 
+-- The greatest width code, 3, means 8 bytes.
 pub width-le-8 : (c : ℕ) → c < 4 → width c ≤ 8
 unfolding width
 width-le-8 c h = width-mono c 3 (omega arith)
@@ -80,6 +82,7 @@ cond-le-8 : (b : Bool) (w : ℕ) → w ≤ 8 → cond b w 1 ≤ 8
 cond-le-8 true w h = h
 cond-le-8 false w h = omega arith
 
+-- The widths of every shape are at most 8.
 pub shape-widths-le-8 : (w : ℕ) (fm : Form) (t f : ℕ) → w ≤ 8 → WidthsLe8 (shape w fm t f)
 unfolding shape
 shape-widths-le-8 w Short t f h =
@@ -105,7 +108,7 @@ shape-widths-le-8 w ObjectArray t f h =
 shape-widths-le-8 w Primitive t f h = let g : width (t % 4) ≤ 8 = width-le-8 _ (omega arith) in omega arith
 shape-widths-le-8 w LongPrimitive t f h = let g : cond (bit 0x10 f) w 1 ≤ 8 = cond-le-8 (bit 0x10 f) w h in omega arith
 
--- a reference has at most 8 bytes, whatever W is
+-- A reference has at most 8 bytes, whatever W is.
 pub ref-width-le-8 : (w : ℕ) (fm : Form) (t f : ℕ) → shape w fm t f .refwidth ≤ 8
 unfolding shape
 ref-width-le-8 w Short t f = width-le-8 _ (omega arith)
@@ -121,7 +124,7 @@ hash-cond-le-4 true b = omega arith
 hash-cond-le-4 false true = omega arith
 hash-cond-le-4 false false = omega arith
 
--- a hash has four bytes at most
+-- A hash has at most 4 bytes.
 hash-bytes-le-4 : (k : ℕ) → hash-bytes k ≤ 4
 unfolding hash-bytes
 hash-bytes-le-4 k = hash-cond-le-4 (eqb k 2) (eqb k 3)
@@ -129,10 +132,10 @@ hash-bytes-le-4 k = hash-cond-le-4 (eqb k 2) (eqb k 3)
 pub hash-bytes-le-8 : (k : ℕ) → hash-bytes k ≤ 8
 hash-bytes-le-8 k = omega (arith, hash-bytes-le-4 k)
 
--- ---- the bytes of a record
+-- ---- length of a record in bytes
 
--- How many bytes a record has: the tag t, the flag byte where there is one, and the fields of its shape in file order. Of its row, the
--- hash kind, the length of the name and the count of references bear on it.
+-- The number of bytes of a record: the tag t, the flag byte if there is one, and the fields of its shape in file order. Of its
+-- row only the hash kind, the name length and the reference count matter.
 unfoldable pub record-bytes : ℕ → Shape → Row → ℕ
 record-bytes t sh r =
     1 + cond (ltb t 0x20) 1 0
@@ -142,16 +145,16 @@ record-bytes t sh r =
     + (sh .countwidth + r .count * sh .refwidth)
     + (sh .size + sh .truelen)
 
--- a width has a byte at least
+-- A width code means at least 1 byte.
 width-positive : (c : ℕ) → 1 ≤ width c
 unfolding width
 width-positive c = one-le-pow c 2 (omega arith)
 
--- references of a width, one byte at least for each and eight at most
+-- k references of one width take k to 8 * k bytes.
 refs-bytes-bounds : (c k : ℕ) → c < 4 → (k ≤ k * width c) × (k * width c ≤ k * 8)
 refs-bytes-bounds c k l = (let p = mul-le-mul-left k (width-positive c) in omega (arith, mul-one k), mul-le-mul-left k (width-le-8 c l))
 
--- A record has two bytes at least, its tag and its gap, and one for each reference. (Its count is in a field, or else in the shape.)
+-- A record has at least 2 bytes (tag and gap) and 1 for each reference. (Its count is in a field, or else in the shape.)
 pub record-bytes-ge : (w : ℕ) (fm : Form) (t f : ℕ) (r : Row) → (shape w fm t f .countwidth ≡ 0 → r .count ≡ shape w fm t f .count)
     → 2 + r .count ≤ record-bytes t (shape w fm t f) r
 unfolding shape record-bytes
@@ -163,7 +166,8 @@ record-bytes-ge w ObjectArray t f r e = omega (arith, refs-bytes-bounds (f / 0x1
 record-bytes-ge w Primitive t f r e = omega (arith, e refl)
 record-bytes-ge w LongPrimitive t f r e = omega (arith, e refl)
 
--- And it has 34 at most beside its name, and eight for each reference: an object array with a long gap, a long word and an int hash.
+-- A record has at most 34 bytes besides its name, and 8 for each reference. An object array with a gap of 8 bytes, W = 64 and a
+-- 32-bit hash has that many.
 pub record-bytes-le : (w : ℕ) (fm : Form) (t f : ℕ) (r : Row) → w ≤ 8 → record-bytes t (shape w fm t f) r ≤ 34 + r .namelen + r .count * 8
 unfolding shape record-bytes
 record-bytes-le w fm t f r h = by fm

@@ -1,18 +1,19 @@
-// The class cache: four slots, filled in turn.
+// The class cache: four slots, filled in the order 0, 1, 2, 3, 0 ..
 ghost use mathlib.Core.Path.{_≡_};
 ghost use mathlib.Core.Bool.{cond};
 ghost use Prim.Native.Nat.{_<_};
 ghost use Rattle.phd.specs.Phd.{empty-cache, push as pushOf, slot as slotOf};
 use decode::Maybe;
 
-// The last four class words, and how many were put: 0 to 7, where 4 to 7 stand for any count that is as much above a
-// multiple of 4.
+// The class cache (the scope paper's term; docs/FORMAT.md 3.5): the class words in its four slots, and the count of pushes,
+// 0 to 7, where each of 4 to 7 represents all counts from 4 on that are equal to it modulo 4.
 pub struct Cache {
     pub classes: [u64; 4],
     pub pushes: usize,
 }
 
 impl Cache {
+    // Returns the empty cache.
     pub fn new() -> Self
         ensures { λ r. ⌜ r ≡ empty-cache ⌝ }
     {
@@ -22,7 +23,7 @@ impl Cache {
         }
     }
 
-    // A class word in the next slot.
+    // Pushes a class word into the next slot.
     pub fn push(self, class: u64) -> Self
         ensures { λ r. ⌜ r ≡ pushOf self class ⌝ }
     {
@@ -42,7 +43,7 @@ impl Cache {
         }
     }
 
-    // The cache after a record, which puts its class word or does not.
+    // Pushes the class word of a record if its form is cached.
     pub fn push_if(self, cached: bool, class: u64) -> Self
         ensures { λ r. ⌜ r ≡ cond cached (pushOf self class) self ⌝ }
     {
@@ -52,7 +53,7 @@ impl Cache {
         self
     }
 
-    // What a slot holds.
+    // Returns the class word in slot i, if the slot has been filled.
     pub fn slot(self, i: usize) -> Maybe
         requires { ⌜ i < 4 ⌝ }
         ensures { λ r. ⌜ r ≡ slotOf self i ⌝ }

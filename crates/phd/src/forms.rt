@@ -1,4 +1,4 @@
-// Tags, flag bytes and the shapes of records.
+// Tags, flag bytes and shapes of records.
 ghost use mathlib.Core.Path.{_≡_};
 ghost use mathlib.Core.Bool.{cond};
 ghost use Prim.Native.Nat.{_<_, _≤_};
@@ -16,7 +16,7 @@ use decode::Maybe;
 use decode::NumberRead;
 use decode::Stop;
 
-// Whether the bit of the value m is set.
+// Checks whether the bit of value m is set in x.
 pub fn bit(m: u64, x: u64) -> bool
     requires { ⌜ 0 < m ⌝ }
     ensures { λ r. ⌜ r ≡ bitOf m x ⌝ }
@@ -24,7 +24,7 @@ pub fn bit(m: u64, x: u64) -> bool
     x / m % 2 == 1
 }
 
-// The bytes of a width code.
+// Returns the number of bytes of a width code.
 pub fn width_of(code: u64) -> usize
     requires { ⌜ code < 4 ⌝ }
     ensures { λ r. ⌜ r ≡ width code ⌝ }
@@ -32,7 +32,7 @@ pub fn width_of(code: u64) -> usize
     1 << code
 }
 
-// The highest address, by W.
+// Returns the greatest address, 2^W - 1.
 pub fn max_address_of(bits: u64) -> u64
     requires { ⌜ ValidBits bits ⌝ }
     ensures { λ r. ⌜ r ≡ max-address bits ⌝ }
@@ -43,7 +43,7 @@ pub fn max_address_of(bits: u64) -> u64
     0xFFFF_FFFF
 }
 
-// The form that a tag begins.
+// Returns the form that a tag begins.
 pub fn tag_form(tag: u64) -> TagForm
     ensures { λ r. ⌜ r ≡ tag-form tag ⌝ }
 {
@@ -71,7 +71,7 @@ pub fn tag_form(tag: u64) -> TagForm
     TagForm::Other
 }
 
-// The class of a short record, out of the slot that its tag names.
+// Returns the class word of a short object, from the slot that its tag names; 0 for other forms, which use no slot.
 pub fn slot_class_of(cache: Cache, tag: u64) -> Maybe
     ensures { λ r. ⌜ r ≡ slot-class cache tag ⌝ }
 {
@@ -82,7 +82,7 @@ pub fn slot_class_of(cache: Cache, tag: u64) -> Maybe
     Maybe::Just(0)
 }
 
-// The moved bit of a flag byte.
+// Returns the moved bit of a flag byte.
 fn is_moved(tag: u64, flags: u64) -> bool
     ensures { λ r. ⌜ r ≡ moved-bit tag flags ⌝ }
 {
@@ -92,7 +92,7 @@ fn is_moved(tag: u64, flags: u64) -> bool
     bit(0x02, flags)
 }
 
-// The hashed bit of a flag byte.
+// Returns the hashed bit of a flag byte; a class record has none.
 fn is_hashed(tag: u64, flags: u64) -> bool
     ensures { λ r. ⌜ r ≡ hashed-bit tag flags ⌝ }
 {
@@ -102,7 +102,7 @@ fn is_hashed(tag: u64, flags: u64) -> bool
     bit(0x01, flags)
 }
 
-// The flag byte, where the tag's form has one.
+// Decodes the flag byte, or returns 0 if the form has none. In an all-hashed dump a moved or hashed bit is refused with 11.
 pub fn read_flag_byte(s: &[u8], at: usize, header: Header, tag: u64) -> NumberRead
     requires { ⌜ at ≤ length (now s) ⌝ }
     ensures { λ r. ⌜ outcome r ≡ run (flag-byte header tag) (now (s .entry)) at ⌝ }
@@ -126,7 +126,7 @@ pub fn read_flag_byte(s: &[u8], at: usize, header: Header, tag: u64) -> NumberRe
     }
 }
 
-// The hash kind of a record.
+// Returns the hash kind of a record (docs/FORMAT.md 3.2).
 pub fn hash_kind_of(header: Header, tag: u64, flags: u64) -> u64
     ensures { λ r. ⌜ r ≡ hash-kind header tag flags ⌝ }
 {
@@ -142,7 +142,7 @@ pub fn hash_kind_of(header: Header, tag: u64, flags: u64) -> u64
     0
 }
 
-// The bytes of a hash, by its kind.
+// Returns the number of bytes of the hash field, by the hash kind.
 pub fn hash_bytes_of(kind: u64) -> usize
     ensures { λ r. ⌜ r ≡ hash-bytes kind ⌝ }
 {
@@ -155,7 +155,7 @@ pub fn hash_bytes_of(kind: u64) -> usize
     0
 }
 
-// The value of a field of w bytes, where there is one, else the other.
+// Returns the value v of a field of w bytes, or `other` if the record lacks the field (w is 0).
 pub fn field_or(w: usize, v: u64, other: u64) -> u64
     ensures { λ r. ⌜ r ≡ field-or w v other ⌝ }
 {
@@ -165,7 +165,7 @@ pub fn field_or(w: usize, v: u64, other: u64) -> u64
     v
 }
 
-// A shape by its numbers, in the order of the table `shape`.
+// Returns a shape from its numbers, in the order of the columns of `shape` (specs/Phd.antt).
 fn make_shape(
     kind: u64,
     gap: usize,
@@ -202,7 +202,7 @@ fn make_shape(
     }
 }
 
-// The bytes of a long primitive array's gap and length: words, or bytes.
+// Returns the number of bytes of the gap and of the length in a long primitive array: W in bytes, or 1.
 fn long_width(bytes: usize, flags: u64) -> usize
     ensures { λ r. ⌜ r ≡ cond (bitOf 0x10 flags) bytes 1 ⌝ }
 {
@@ -212,7 +212,7 @@ fn long_width(bytes: usize, flags: u64) -> usize
     1
 }
 
-// How a record is laid out: W in bytes, the form, the tag and the flag byte.
+// Returns the shape of a record, from W in bytes, the form, the tag and the flag byte.
 pub fn shape_of(bytes: usize, form: Form, tag: u64, flags: u64) -> Shape
     ensures { λ r. ⌜ r ≡ shape bytes form tag flags ⌝ }
 {

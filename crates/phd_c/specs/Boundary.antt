@@ -1,5 +1,5 @@
--- How a header and an answer stand as numbers at the C boundary.
--- A reader must believe these lines.
+-- A header and an answer as numbers, at the C boundary (docs/FORMAT.md 5 and 6).
+-- A reader must believe these definitions.
 use mathlib.Core.Path.{_≡_, refl}
 use mathlib.Core.Bool.{Bool, true, false, cond}
 use mathlib.Core.List.{List, [], _∷_}
@@ -10,12 +10,12 @@ use Rattle.phd.specs.declared.Header.{Header}
 use Rattle.phd_read.specs.declared.ReadAnswer.{ReadAnswer}
 use Rattle.table.specs.declared.Answer.{Answer}
 
--- a flag as a number
+-- A flag as a number: 1 if it is set, else 0.
 abbrev pub flag : Bool → ℕ
 flag b = cond b 1 0
 
--- the header that six numbers say: W, all hashed, from OpenJ9, and whether a VM string is there, its place and its length; a
--- flag is set where its number is not 0
+-- The header that six numbers give: W, all-hashed, from OpenJ9, whether there is a VM string, its place and its length. A flag is
+-- set if its number is not 0.
 unfoldable pub header-from : List ℕ → Header
 header-from l =
     let set : ℕ → Bool = λ i. ltb 0 (getD l i 0) in
@@ -26,24 +26,25 @@ header-from l =
       vm = record { present = set 3; place = getD l 4 0; len = getD l 5 0 };
     }
 
--- the numbers of a reading's answer: reply, place, rows, references, the header facts, and the missing bytes
+-- The numbers of a reading's answer: reply, place, rows, references, the six numbers of the header, and the missing bytes.
 unfoldable pub read-answer-numbers : ReadAnswer → List ℕ
 read-answer-numbers r =
     let f : Header = r .header in
     r .reply ∷ r .place ∷ r .rows ∷ r .refs ∷ f .bits ∷ flag (f .hashed) ∷ flag (f .openj9) ∷ flag (f .vm .present) ∷ f .vm .place ∷ f .vm .len
     ∷ r .missing ∷ 0 ∷ 0 ∷ 0 ∷ 0 ∷ 0 ∷ []
 
--- the numbers of the answer of a writing, or of asking for its size: reply and place
+-- The numbers of the answer of a write or of a size query: reply and place.
 unfoldable pub answer-numbers : Answer → List ℕ
 answer-numbers w = w .reply ∷ w .place ∷ 0 ∷ 0 ∷ 0 ∷ 0 ∷ 0 ∷ 0 ∷ 0 ∷ 0 ∷ 0 ∷ 0 ∷ 0 ∷ 0 ∷ 0 ∷ 0 ∷ []
 
--- ---- the header facts of a reading are a header to write
+-- ---- the header of a reading, passed to a write
 
+-- A flag is read back from its number.
 flag-round-trip : (b : Bool) → ltb 0 (flag b) ≡ b
 flag-round-trip true = refl
 flag-round-trip false = refl
 
--- Numbers 4 to 9 of a reading's answer, passed on as a header, say the header that was read.
+-- Numbers 4 to 9 of a reading's answer, passed on as a header, give the header that was read.
 pub header-round-trip : (r : ReadAnswer) → header-from (take 6 (drop 4 (read-answer-numbers r))) ≡ r .header
 unfolding header-from read-answer-numbers
 header-round-trip r = λ j. record {

@@ -1,2 +1,2 @@
--- Boundary says how a header and an answer stand as numbers.
+-- Boundary defines a header and an answer as numbers.
 pub mod Boundary

@@ -1,6 +1,6 @@
-// The C boundary: reading, writing and text, and asking how many bytes these two take, for callers in C or Rust. A slice is a
-// pointer and a length, a number has 64 bits, and nothing is allocated. Each function's contract is that of the operation it calls,
-// with the answer as numbers (specs/Boundary.antt).
+// The C boundary: reading, writing, the classic text, and the size queries of the last two, for callers in C or Rust. A slice is
+// a pointer and a length, a number has 64 bits, and nothing is allocated. Each function has the contract of the operation that it
+// calls, with the header and the answer as numbers (specs/Boundary.antt).
 ghost use mathlib.Core.Path.{_≡_};
 ghost use lib.ListN.{length};
 ghost use Rattle.table.specs.Buffer.{overwrite};
@@ -14,7 +14,7 @@ use phd::Header;
 use phd_read::ReadAnswer;
 use table::Answer;
 
-// A flag as a number.
+// Returns a flag as a number: 1 if it is set, else 0.
 fn flag(set: bool) -> u64
     ensures { λ r. ⌜ r ≡ flagOf set ⌝ }
 {
@@ -24,7 +24,7 @@ fn flag(set: bool) -> u64
     0
 }
 
-// The header that a caller lends as numbers.
+// Returns the header that the caller passes as six numbers.
 fn header_from(h: &[u64; 6]) -> Header
     ensures { λ r. ⌜ r ≡ header-from (now (h .entry)) ⌝ }
 {
@@ -40,7 +40,7 @@ fn header_from(h: &[u64; 6]) -> Header
     }
 }
 
-// A reading's answer as numbers.
+// Returns the answer of a reading as 16 numbers.
 fn read_answer_numbers(r: ReadAnswer) -> [u64; 16]
     ensures { λ x. ⌜ x ≡ read-answer-numbers r ⌝ }
 {
@@ -66,7 +66,7 @@ fn read_answer_numbers(r: ReadAnswer) -> [u64; 16]
     ]
 }
 
-// The answer of a writing, or of asking for its size, as numbers.
+// Returns the answer of a write or of a size query as 16 numbers.
 fn answer_numbers(w: Answer) -> [u64; 16]
     ensures { λ x. ⌜ x ≡ answer-numbers w ⌝ }
 {
@@ -90,7 +90,7 @@ fn answer_numbers(w: Answer) -> [u64; 16]
     ]
 }
 
-// Reads a dump into lent tables.
+// Reads a dump into the caller's tables. Returns the reply, as do all functions below.
 #[no_mangle]
 pub extern "C" fn phd_read(
     dump: &[u8],
@@ -108,7 +108,7 @@ pub extern "C" fn phd_read(
     r.reply
 }
 
-// Asks how many bytes lent tables take as a dump.
+// Computes how many bytes `phd_write` would write (size query).
 #[no_mangle]
 pub extern "C" fn phd_write_size(
     header: &[u64; 6],
@@ -125,7 +125,7 @@ pub extern "C" fn phd_write_size(
     w.reply
 }
 
-// Writes lent tables as a dump.
+// Writes the caller's tables as a dump.
 #[no_mangle]
 pub extern "C" fn phd_write(
     header: &[u64; 6],
@@ -144,7 +144,7 @@ pub extern "C" fn phd_write(
     w.reply
 }
 
-// Asks how many bytes lent tables take as classic text.
+// Computes how many bytes `phd_text` would write (size query).
 #[no_mangle]
 pub extern "C" fn phd_text_size(
     header: &[u64; 6],
@@ -161,7 +161,7 @@ pub extern "C" fn phd_text_size(
     w.reply
 }
 
-// Writes lent tables as classic text.
+// Writes the caller's tables as classic text.
 #[no_mangle]
 pub extern "C" fn phd_text(
     header: &[u64; 6],

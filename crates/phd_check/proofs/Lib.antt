@@ -1,2 +1,2 @@
--- Laws of the tests of a row and of the first bad row.
+-- CheckLaws (laws of the tests of GoodRows and of the first bad row).
 pub mod CheckLaws

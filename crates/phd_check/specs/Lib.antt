@@ -1,3 +1,3 @@
--- Good (which rows and which header may be written) and Kept (what good rows and headers are, as facts).
+-- GoodRows (which header and which rows may be written) and WellFormed (what holds of a good header and good rows).
 pub mod GoodRows
 pub mod WellFormed

@@ -1,5 +1,5 @@
-// Whether the rows of a table and a header may be written: 01's "Writing", first paragraph.
-// Each function's contract is an equation with a definition of specs/Good.antt.
+// Checks of a header and of the rows of a table before they are written (docs/FORMAT.md 6.1).
+// Each contract equates the result with a definition of specs/GoodRows.antt, that of `check` with `checked-input` of table.
 ghost use mathlib.Core.Path.{_≡_};
 ghost use Rattle.phd.specs.Shapes.{ValidBits};
 ghost use Rattle.table.specs.Rows.{rows-of};
@@ -12,7 +12,7 @@ use table::Search;
 
 mod numbers;
 
-// Whether a VM string may be written, or none is there.
+// Checks whether the VM string may be written; an absent one may.
 fn vm_good(names: &[u8], vm: StringSpan) -> bool
     ensures { λ r. ⌜ r ≡ good-vm (now (names .entry)) vm ⌝ }
 {
@@ -31,7 +31,7 @@ fn vm_good(names: &[u8], vm: StringSpan) -> bool
     true
 }
 
-// Whether a header may be written, and not too many rows and reference numbers are lent.
+// Checks whether the header may be written and there are at most 2^30 rows and 2^30 reference numbers.
 fn header_good(header: Header, names: &[u8], rows: &[u64], refs: &[u64]) -> bool
     ensures { λ r. ⌜ r ≡ good-header header (now (names .entry)) (rows-of (now (rows .entry))) (now (refs .entry)) ⌝ }
 {
@@ -41,7 +41,7 @@ fn header_good(header: Header, names: &[u8], rows: &[u64], refs: &[u64]) -> bool
         & vm_good(names, header.vm)
 }
 
-// The first bad row.
+// Returns the index of the first bad row, if there is one.
 fn find_bad(header: Header, names: &[u8], refs: &[u64], rows: &[u64]) -> Search
     requires { ⌜ ValidBits (header .bits) ⌝ }
     ensures { λ r. ⌜ r ≡ first-bad header (now (names .entry)) (now (refs .entry)) (rows-of (now (rows .entry))) ⌝ }
@@ -80,7 +80,8 @@ fn find_bad(header: Header, names: &[u8], refs: &[u64], rows: &[u64]) -> Search
     Search::NotFound
 }
 
-// What the writer and the text ask first: 15 for a bad header, 16 with the first bad row, else 0.
+// Checks the header, then the rows; writing and the text both begin with it. Returns 15 for a bad header, 16 with the index of
+// the first bad row as the place, else 0.
 pub fn check(header: Header, names: &[u8], refs: &[u64], rows: &[u64]) -> Answer
     ensures { λ r. ⌜ r ≡ checked-input (good-header header (now (names .entry)) (rows-of (now (rows .entry))) (now (refs .entry))) (first-bad header (now (names .entry)) (now (refs .entry)) (rows-of (now (rows .entry)))) ⌝ }
 {

@@ -1,11 +1,11 @@
-// The numbers of a row, part by part: whether they may be written.
+// Checks of the numbers of a row, in groups (docs/FORMAT.md 6.1).
 ghost use mathlib.Core.Path.{_≡_};
 ghost use Rattle.phd.specs.Shapes.{ValidBits};
 ghost use Rattle.phd_check.specs.GoodRows.{good-hash, good-class, no-name, good-object, good-array, good-primitive, good-kind, good-addresses, good-span, good-numbers, good-ref};
 use phd::Header;
 use table::Row;
 
-// The hash kind and the hash.
+// Checks the hash kind and the hash; `hashed` is whether the dump is all-hashed.
 fn hash_good(hashed: bool, r: Row) -> bool
     ensures { λ x. ⌜ x ≡ good-hash hashed r ⌝ }
 {
@@ -18,7 +18,7 @@ fn hash_good(hashed: bool, r: Row) -> bool
     (r.hashkind < 2) & (r.hash == 0)
 }
 
-// What each kind asks; `lent` is how many name bytes there are.
+// Checks the conditions specific to classes; `available` is the number of name bytes.
 fn class_good(available: usize, r: Row) -> bool
     ensures { λ x. ⌜ x ≡ good-class available r ⌝ }
 {
@@ -35,18 +35,21 @@ fn class_good(available: usize, r: Row) -> bool
         & (r.prim == 0)
 }
 
+// Checks whether the row has no name: place and length are 0.
 fn name_absent(r: Row) -> bool
     ensures { λ x. ⌜ x ≡ no-name r ⌝ }
 {
     (r.place == 0) & (r.namelen == 0)
 }
 
+// Checks the conditions specific to objects.
 fn object_good(r: Row) -> bool
     ensures { λ x. ⌜ x ≡ good-object r ⌝ }
 {
     (r.size == 0) & (r.len == 0) & name_absent(r) & (r.prim == 0)
 }
 
+// Checks the conditions specific to object arrays; the length is at least the reference count.
 fn array_good(r: Row) -> bool
     ensures { λ x. ⌜ x ≡ good-array r ⌝ }
 {
@@ -57,6 +60,7 @@ fn array_good(r: Row) -> bool
         & (r.prim == 0)
 }
 
+// Checks the conditions specific to primitive arrays.
 fn primitive_good(r: Row) -> bool
     ensures { λ x. ⌜ x ≡ good-primitive r ⌝ }
 {
@@ -68,6 +72,7 @@ fn primitive_good(r: Row) -> bool
         & (r.prim < 8)
 }
 
+// Checks the kind, which is 1 to 4, and the conditions specific to it; `available` is the number of name bytes.
 fn kind_good(available: usize, r: Row) -> bool
     ensures { λ x. ⌜ x ≡ good-kind available r ⌝ }
 {
@@ -86,14 +91,14 @@ fn kind_good(available: usize, r: Row) -> bool
     false
 }
 
-// The address and the class word.
+// Checks the address and the class word; `top` is the highest address.
 fn addresses_good(top: u64, r: Row) -> bool
     ensures { λ x. ⌜ x ≡ good-addresses top r ⌝ }
 {
     (r.address % 4 == 0) & (r.address <= top) & (r.class <= top)
 }
 
-// Where the references stand; `lent` is how many reference numbers there are.
+// Checks where the references lie; `index` is the sum of the counts before, `available` the number of reference numbers.
 fn span_good(index: u64, available: usize, r: Row) -> bool
     ensures { λ x. ⌜ x ≡ good-span index available r ⌝ }
 {
@@ -104,7 +109,7 @@ fn span_good(index: u64, available: usize, r: Row) -> bool
     (r.first == index) & (r.first <= n - r.count) & (r.count < 0x8000_0000)
 }
 
-// All numbers of a row.
+// Checks all numbers of a row; `index` is the sum of the counts before, `refs` and `names` are the lengths of these tables.
 pub fn numbers_good(header: Header, index: u64, refs: usize, names: usize, r: Row) -> bool
     requires { ⌜ ValidBits (header .bits) ⌝ }
     ensures { λ x. ⌜ x ≡ good-numbers header index refs names r ⌝ }
@@ -116,7 +121,7 @@ pub fn numbers_good(header: Header, index: u64, refs: usize, names: usize, r: Ro
         & kind_good(names, r)
 }
 
-// A reference.
+// Checks whether a reference is a multiple of 4 in 1 to `top`.
 pub fn ref_good(top: u64, a: u64) -> bool
     ensures { λ x. ⌜ x ≡ good-ref top a ⌝ }
 {

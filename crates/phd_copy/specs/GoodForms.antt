@@ -1,5 +1,4 @@
--- The row of a record that was read passes the writer's checks, whatever its form is: what the tests of Good ask, from what holds of
--- a row by its shape.
+-- The row of a record that was read passes the writer's checks (GoodRows), whatever its form: they follow from its `RowBounds`.
 -- Assumes nothing.
 use mathlib.Core.Path.{_≡_, refl, sym, _∙_}
 use mathlib.Core.Logic.{inl, inr}
@@ -27,12 +26,13 @@ use Rattle.phd_check.specs.GoodRows.{all-true, good-hash, good-class, no-name, 
 use Rattle.phd_check.specs.WellFormed.{GoodRefs}
 use Rattle.phd_copy.specs.ReadRows.{RowBounds}
 
--- ---- the tests of a row
+-- ---- the checks of a row
 
 addresses-good : (top : ℕ) (r : Row) → r .address % 4 ≡ 0 → r .address ≤ top → r .class ≤ top → good-addresses top r ≡ true
 unfolding good-addresses all-true
 addresses-good top r a b c = rw (eq-eqb _ _ a, le-leb _ _ b, le-leb _ _ c)
 
+-- A row passes the check of its references if they begin at `index`, lie within the `given` references, and are fewer than 2^31.
 pub span-good : (index given : ℕ) (r : Row) → r .first ≡ index → r .first + r .count ≤ given → r .count < 2 ^ 31 → good-span index given r ≡ true
 unfolding good-span all-true
 span-good index given r a b c = rw (eq-eqb _ _ a, le-leb _ _ b, lt-ltb _ _ c)
@@ -86,12 +86,13 @@ unfolding good-refs good-ref all-true
 refs-good top [] g = refl
 refs-good top (a ∷ rs) g = rw (eq-eqb _ _ (g .0 .aligned), le-leb _ _ (g .0 .some), le-leb _ _ (g .0 .most), refs-good top rs (g .1))
 
--- ---- its references and its name, among those of all
+-- ---- references and names
 
--- the references of the last row are the last of all
+-- The references of the last row are the last in the table.
 last-refs : (refs rs : List ℕ) (first count : ℕ) → first ≡ length refs → length rs ≡ count → take count (drop first (refs ++ rs)) ≡ rs
 last-refs refs rs first count a b = rw (drop-at refs rs first (sym a)) (take-all count rs (omega arith))
 
+-- An empty name passes the check of its bytes.
 no-bytes : (s : List ℕ) (place len : ℕ) → len ≡ 0 → all-within 0x21 0x7E (take len (drop place s)) ≡ true
 unfolding all-within
 no-bytes s place len e = rw e
@@ -106,7 +107,7 @@ hash-kind-not-all-hashed : (h : Header) (t f : ℕ) → h .hashed ≡ false → 
 unfolding hash-kind
 hash-kind-not-all-hashed h t f e = rw e (cond-elim (λ k. k < 3) (moved-bit t f) 2 _ (omega arith) (cond-elim (λ k. k < 3) (hashed-bit t f) 1 0 (omega arith) (omega arith)))
 
--- a class is never hashed without a hash
+-- A class never has hash kind 1, hashed without a stored hash.
 class-hash-kind : (h : Header) (t f : ℕ) → eqb t 6 ≡ true → hash-kind h t f ≡ 1 → ⊥
 unfolding hash-kind moved-bit hashed-bit
 class-hash-kind h t f e = rw e (by (h .hashed) (bit 0x08 f))
@@ -116,19 +117,20 @@ class-hash-kind h t f e = rw e (by (h .hashed) (bit 0x08 f))
     by false true z = omega arith
     by false false z = omega arith
 
--- ---- by the form
+-- ---- forms
 
--- a number of W bits is at most the highest
+-- A number of W bits is at most the highest address.
 class-le-max : (W x : ℕ) → ValidBits W → x < 256 ^ (W / 8) → x ≤ max-address W
 unfolding max-address
 class-le-max W x (inl e) l = let k : x < 256 ^ 4 = rw e at l in rw e (omega arith)
 class-le-max W x (inr e) l = let k : x < 256 ^ 8 = rw e at l in rw e (omega arith)
 
+-- A record that is not a short object has no class word from a slot.
 known-zero : (c : Cache) (t known : ℕ) → leb 0x80 t ≡ false → slot-class c t ≡ Just known → known ≡ 0
 unfolding slot-class
 known-zero c t known x e = let z : Just 0 ≡ Just known = rw x at e in cc
 
--- what is left to show of a row, beside its address, its span and its hash
+-- The checks of a row that depend on its form: all but those of its address, its hash and where its references lie.
 record GoodInForm (top : ℕ) (s : List ℕ) (r : Row) : Type 0 where
   pub class : r .class ≤ top
   pub few : r .count < 2 ^ 31
@@ -146,6 +148,7 @@ module _ (top : ℕ) (s : List ℕ) (r : Row) where
   primitive-in-form k w c z l n p =
       record { class = omega arith; few = omega arith; kind = primitive-good (length s) r k w c z l n p; name = no-bytes s (r .place) (r .namelen) (n .1) }
 
+-- The row r and the references rs of a record that was read with the tag t and the flag byte f.
 module _ (h : Header) (w : ValidBits (h .bits)) (s : List ℕ) (c : Cache) (t f known index : ℕ) (r : Row) (rs : List ℕ)
     (d : slot-class c t ≡ Just known) (k : known ≤ max-address (h .bits)) where
   abbrev top : ℕ
@@ -191,7 +194,7 @@ module _ (h : Header) (w : ValidBits (h .bits)) (s : List ℕ) (c : Cache) (t f 
       let z : known ≡ 0 = known-zero c t known (tag-matches t LongPrimitive g .0) d in
       primitive-in-form top s r (o .kind) (o .class-known refl refl ∙ z) (o .count .fixed refl) (o .size refl) (o .len refl .0) (o .name .none refl) (omega (arith, o .prim))
 
-  -- The row is good, with its references after those before it, and so is its class word.
+  -- The row is good, with its references after those of the rows before it, and its class word is in range.
   pub row-good : (fm : Form) (refs : List ℕ) → tag-form t ≡ Begins fm → index ≡ length refs → ShapeBounds fm
       → (good-row h s (refs ++ rs) (length refs) r ≡ true) × (r .class ≤ top)
   unfolding good-row good-numbers all-true refs-of

@@ -1,4 +1,4 @@
--- Every row that a reading of bytes stores passes the writer's checks, and so does the header: record after record.
+-- Every row that a reading of bytes stores passes the writer's checks: the invariant `GoodState` holds after each record.
 -- A reader must believe `GoodState`.
 use mathlib.Core.Path.{_≡_, refl}
 use Prim.Native.Nat.{ℕ, suc, _+_, _-_, _/_, _%_, _≤_}
@@ -38,9 +38,9 @@ use Rattle.reader.specs.Reader.{next-item, append-item}
 use Rattle.phd_copy.specs.ReadRows.{GoodContext, push-le, known-le, ItemBounds, gives-fields}
 use Rattle.phd_copy.specs.GoodForms.{span-good, row-good}
 
--- ---- rows one after another
+-- ---- lists of rows
 
--- the tests of a good row
+-- The checks that a good row passes.
 good-row-checks : (h : Header) (names refs : List ℕ) (index : ℕ) (r : Row) → good-row h names refs index r ≡ true
     → (good-numbers h index (length refs) (length names) r ≡ true) × (good-refs (max-address (h .bits)) (refs-of refs r) ≡ true) × (all-within 0x21 0x7E (name-of names r) ≡ true)
 unfolding good-row
@@ -51,7 +51,7 @@ good-numbers-checks : (h : Header) (index refs names : ℕ) (r : Row) → good-n
 unfolding good-numbers
 good-numbers-checks h index refs names r g = let t = all-true-at _ g in (t 0, t 2, t 3)
 
--- a good row stays good where references follow those that there are
+-- A good row stays good if references are appended to the table.
 good-row-append : (h : Header) (names refs rs : List ℕ) (index : ℕ) (r : Row) → good-row h names refs index r ≡ true → good-row h names (refs ++ rs) index r ≡ true
 unfolding good-row good-numbers all-true refs-of
 good-row-append h names refs rs index r g =
@@ -71,6 +71,7 @@ good-row-append h names refs rs index r g =
       t .2,
     )
 
+-- Rows of which none is bad stay so if references are appended to the table.
 first-bad-append : (h : Header) (names refs rs : List ℕ) (i index : ℕ) (rows : List Row) → first-bad-from h names refs i index rows ≡ NotFound
     → first-bad-from h names (refs ++ rs) i index rows ≡ NotFound
 unfolding first-bad-from
@@ -79,7 +80,7 @@ first-bad-append h names refs rs i index (r ∷ rows) e =
     let b = none-bad h names refs i index r rows e in
     rw (good-row-append h names refs rs index r (b .0)) (first-bad-append h names refs rs (suc i) (index + r .count) rows (b .1))
 
--- a good row after good ones
+-- Rows of which none is bad stay so if a good row is appended.
 first-bad-snoc : (h : Header) (names refs : List ℕ) (i index : ℕ) (rows : List Row) (r : Row) → first-bad-from h names refs i index rows ≡ NotFound
     → good-row h names refs (index + sum row-ref-count rows) r ≡ true → first-bad-from h names refs i index (rows ++ (r ∷ [])) ≡ NotFound
 unfolding first-bad-from sum
@@ -91,7 +92,7 @@ first-bad-snoc h names refs i index (x ∷ rows) r e g =
 
 -- ---- a record
 
--- What holds of a record that was read after references as many as refs.
+-- A record with the row r and the references rs, read after the references `refs`, is good.
 record GoodRecord (h : Header) (s : List ℕ) (refs : List ℕ) (r : Row) (rs : List ℕ) : Type 0 where
   pub good : good-row h s (refs ++ rs) (length refs) r ≡ true
   pub class : r .class ≤ max-address (h .bits)
@@ -116,7 +117,7 @@ module _ (h : Header) (w : ValidBits (h .bits)) (s : List ℕ) (b : AllBytes s) 
           let q = row-good h w s c t f known (origin .index) (row-at r 0) rs d (known-le c t known _ (g .classes) d) fm refs a e x in
           record { good = q .0; class = q .1; aligned = x .aligned; count = x .refs .many }
 
-  -- The record at a place, and what is kept after it.
+  -- A record that is read at an offset is good, and so is the context after it.
   entry-good : (at : ℕ) (r rs : List ℕ) (sp : Span) (k : RecordContext) (n : ℕ) → run (entry h before c (length refs)) s at ≡ whole (item r rs sp k) n
       → GoodRecord h s refs (row-at r 0) rs × GoodContext h k
   unfolding from-tag row-at
@@ -129,9 +130,10 @@ module _ (h : Header) (w : ValidBits (h .bits)) (s : List ℕ) (b : AllBytes s) 
       let m = entry-cache-step h s before c (length refs) at r rs sp k n w e .0 in
       (x, record { aligned = omega (arith, a, x .aligned); classes = rw m (push-le c (pushes-class (tag-form (tag-at s at))) (getD r 2 0) (max-address (h .bits)) (g .classes) (x .class)) })
 
--- ---- between records
+-- ---- the invariant
 
--- What holds of a state of a reading: what is kept is good, no row stored is bad, and their references are those stored.
+-- The invariant of a reading between records: the context is good, no stored row is bad, and the counts of the rows add up to the
+-- number of stored references.
 pub record GoodState (h : Header) (s : List ℕ) (st : State) : Type 0 where
   pub bits : ValidBits (h .bits)
   pub before : GoodContext h (st .context)
@@ -139,6 +141,7 @@ pub record GoodState (h : Header) (s : List ℕ) (st : State) : Type 0 where
   pub counts : sum row-ref-count (rows-of (st .rows)) ≡ length (st .refs)
   pub good : first-bad h s (st .refs) (rows-of (st .rows)) ≡ NotFound
 
+-- Storing the next record keeps the invariant.
 pub good-state-step : (h : Header) (s : List ℕ) → AllBytes s → (st : State) → GoodState h s st → (r rs : List ℕ) (m : Span) (k : RecordContext) (n : ℕ)
     → next-item phd h s st ≡ whole (item r rs m k) n → GoodState h s (append-item st r rs k n)
 good-state-step h s b st g r rs m k n e =

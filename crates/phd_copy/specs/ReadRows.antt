@@ -1,4 +1,5 @@
--- The row of a record that was read from bytes passes every check that the writer makes of a row.
+-- The row of a record that was read from bytes satisfies the bounds of its shape (`RowBounds`). GoodForms derives the writer's
+-- checks from them.
 -- A reader must believe `GoodContext`.
 use mathlib.Core.Path.{_≡_, refl, sym, ap, _∙_}
 use Prim.Native.Nat.{ℕ, zero, suc, _/_, _%_, _^_, _≤_, _<_}
@@ -28,12 +29,13 @@ use Rattle.phd.specs.declared.Tail.{Tail}
 use Rattle.phd_check.specs.WellFormed.{GoodRefs}
 use Rattle.phd_read.specs.LengthBounds.{AtLeastCount, gives-true-length}
 
--- What a reading keeps between records: the address of the record before is in fours, and the class words of the cache lie in 0 to
--- 2^W - 1.
+-- The context between records is good: the address of the record before is a multiple of 4, and the class words in the cache lie
+-- in 0 to 2^W - 1.
 pub record GoodContext (h : Header) (k : RecordContext) : Type 0 where
   pub aligned : k .address % 4 ≡ 0
   pub classes : (i : ℕ) → getD (k .cache .classes) i 0 ≤ max-address (h .bits)
 
+-- The context before the first record is good.
 pub good-context-start : (h : Header) → GoodContext h initial-context
 unfolding empty-cache
 good-context-start h = record { aligned = refl; classes = none }
@@ -45,7 +47,7 @@ good-context-start h = record { aligned = refl; classes = none }
     none (suc (suc (suc zero))) = omega arith
     none (suc (suc (suc (suc i)))) = omega arith
 
--- a number of a list that was set is at most what all are
+-- If all numbers of a list are at most `top`, they still are after one of them is set to such a number.
 set-le : (l : List ℕ) (j a top : ℕ) → ((i : ℕ) → getD l i 0 ≤ top) → a ≤ top → (i : ℕ) → getD (set l j a) i 0 ≤ top
 set-le l j a top m k i = elim (ℕ-discrete i j) [
   | yes e ↦ elim (decLt j (length l)) [
@@ -55,12 +57,13 @@ set-le l j a top m k i = elim (ℕ-discrete i j) [
   | no e ↦ rw (getD-set-other l j i a 0 e) (m i)
 ]
 
+-- If all class words in the cache are at most `top`, they still are after one such word is pushed, or none.
 pub push-le : (c : Cache) (b : Bool) (w top : ℕ) → ((i : ℕ) → getD (c .classes) i 0 ≤ top) → w ≤ top → (i : ℕ) → getD (cond b (push c w) c .classes) i 0 ≤ top
 unfolding push
 push-le c true w top m k = set-le (c .classes) (c .pushes % 4) w top m k
 push-le c false w top m k = m
 
--- the class of a short record lies there too
+-- Then the class word of a short object, from its slot, is at most `top` too.
 pub known-le : (c : Cache) (t known top : ℕ) → ((i : ℕ) → getD (c .classes) i 0 ≤ top) → slot-class c t ≡ Just known → known ≤ top
 unfolding slot-class slot
 known-le c t known top m e = by (leb 0x80 t) (ltb (t / 0x20 % 4) (c .pushes)) e
@@ -72,33 +75,35 @@ known-le c t known top m e = by (leb 0x80 t) (ltb (t / 0x20 % 4) (c .pushes)) e
 
 -- ---- the parts of a record
 
--- the front: the address, the class word and the array length, as wide as the shape says
+-- The address, the class word and the array length, within the widths of the shape.
 record FrontBounds (top : ℕ) (sh : Shape) (v : Front) : Type 0 where
   pub aligned : v .address % 4 ≡ 0
   pub most : v .address ≤ top
   pub class : v .class < 256 ^ sh .class
   pub len : (v .len < 2 ^ 31) × (sh .len ≡ 0 → v .len ≡ 0)
 
+-- The instance size, the hash of hb bytes and the superclass word.
 record MiddleBounds (sh : Shape) (hb : ℕ) (m : Middle) : Type 0 where
   pub inst : m .inst < 2 ^ 31
   pub hash : m .hash < 256 ^ hb
   pub superclass : m .superclass < 256 ^ sh .superclass
 
--- a name of a length field of n bytes: none where there is no such field
+-- A good name, if its length has a field (of n bytes); otherwise none.
 pub record NameBounds (s : List ℕ) (n : ℕ) (t : StringSpan) : Type 0 where
   pub none : n ≡ 0 → (t .place ≡ 0) × (t .len ≡ 0)
   pub some : eqb n 0 ≡ false → StringAt s 0x21 1 t
 
--- a count in a field of n bytes, or else the one that is known
+-- A count in a field of n bytes; if there is no such field, the count known from the tag.
 pub record CountBounds (n known v : ℕ) : Type 0 where
   pub fixed : n ≡ 0 → v ≡ known
   pub countwidth : eqb n 0 ≡ false → v < 2 ^ 31
 
--- n references, each of them good
+-- n references, each of them good.
 pub record RefsBounds (top n : ℕ) (rs : List ℕ) : Type 0 where
   pub many : length rs ≡ n
   pub good : GoodRefs top rs
 
+-- The size and the true length, of an array with n references.
 record TailBounds (wide truelen n : ℕ) (t : Tail) : Type 0 where
   pub size : t .size < 256 ^ wide
   pub long : AtLeastCount truelen n (t .truelen)
@@ -147,8 +152,8 @@ module _ {s : List ℕ} (b : AllBytes s) where
 
 -- ---- the row of a record
 
--- What holds of the row r and the references rs of a record that was read from s by its shape; `known` is the class of a short record,
--- hk the hash kind, `index` how many references were before.
+-- Bounds on the row r and the references rs of a record that was read from s by the shape sh; `known` is the class word of a
+-- short object, hk the hash kind, and `index` the number of references before the record.
 pub record RowBounds (top known hk index : ℕ) (s : List ℕ) (sh : Shape) (r : Row) (rs : List ℕ) : Type 0 where
   pub kind : r .kind ≡ sh .kind
   pub aligned : r .address % 4 ≡ 0
@@ -168,10 +173,12 @@ pub record RowBounds (top known hk index : ℕ) (s : List ℕ) (sh : Shape) (r :
   pub name : NameBounds s (sh .name) (record { present = true; place = r .place; len = r .namelen })
   pub prim : r .prim ≡ sh .prim
 
+-- `RowBounds` of the record in an item; no bounds for the end tag.
 abbrev pub ItemBounds : (top known hk index : ℕ) → List ℕ → Shape → Item → Type 0
 ItemBounds top known hk index s sh end-item = Unit {0}
 ItemBounds top known hk index s sh (item r rs sp k) = RowBounds top known hk index s sh (row-at r 0) rs
 
+-- The fields of a record give an item within these bounds.
 pub gives-fields : {s : List ℕ} → AllBytes s → (top before : ℕ) (c : Cache) (origin : Origin) (known hk : ℕ) (sh : Shape) → before % 4 ≡ 0
     → Gives s (ItemBounds top known hk (origin .index) s sh) (fields top before c origin known hk sh)
 unfolding fields from-ref-count row field-or row-at

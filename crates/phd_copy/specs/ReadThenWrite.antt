@@ -1,6 +1,6 @@
--- What a reading of any bytes gave can be written and converted: its header and its rows, with the dump as name bytes, pass every check.
--- So a copy of a damaged dump is refused only if the output is too small or the size limit is exceeded, and its text only if the output is
--- too small or a class row is missing.
+-- If a reading of any bytes has read the header, its header and rows can be written and converted: with the dump as the name
+-- bytes they pass every check. So a copy of a damaged dump is refused only if the output is too small or the size limit is
+-- exceeded, and its text only if the output is too small or a class row is missing.
 -- A reader must believe the records `WriteAfterRead` and `TextAfterRead`.
 use mathlib.Core.Path.{_≡_, refl, sym, _∙_}
 use mathlib.Core.Logic.{_↔_, _⊎_, inl, inr}
@@ -47,7 +47,7 @@ use Rattle.phd_copy.specs.GoodTables.{GoodState, good-state-step}
 
 -- ---- the header
 
--- a VM string, if there is one, lies in the dump
+-- The VM string, if there is one, lies in the dump and has only allowed bytes.
 abbrev VmInDump : List ℕ → StringSpan → Type 0
 VmInDump s t = t .present ≡ true → StringAt s 0x20 0 t
 
@@ -86,17 +86,18 @@ header-good h s rows refs w v p q =
 
 -- ---- a reading
 
--- What holds of a reading that gave header facts.
+-- The header and the rows of a result are good.
 record GoodResult (s : List ℕ) (r : Result) : Type 0 where
   pub bits : ValidBits (r .header .bits)
   pub vm : VmInDump s (r .header .vm)
   pub rows : first-bad (r .header) s (r .refs) (rows-of (r .rows)) ≡ NotFound
 
 module _ (s : List ℕ) (b : AllBytes s) (R F : ℕ) where
+  -- The result is good if the header was read; otherwise W is 0.
   abbrev GoodIfHeader : Result → Type 0
   GoodIfHeader r = (r .header .bits ≡ 0 → ⊥) → GoodResult s r
 
-  -- between records
+  -- The invariant between records.
   abbrev GoodSoFar : Header → State → Type 0
   GoodSoFar h st = VmInDump s (h .vm) × GoodState h s st
 
@@ -127,7 +128,7 @@ module _ (s : List ℕ) (b : AllBytes s) (R F : ℕ) where
       (good-at-end h st 13 (st .at) 0 g) (good-at-end h st 14 (st .at) 0 g) (λ w e. good-at-end h st (reply-of w) (st .at) (missing-of w) g))
       (λ h st g. good-at-end h st 0 (st .at) 0 g)
 
-  -- The header and the rows pass every check of the writer and of the text.
+  -- If the header was read, the header and the rows pass every check of the writer and of the text.
   pub read-passes-checks : (read-result s R F .header .bits ≡ 0 → ⊥) → TablesGood (read-result s R F .header) s (read-result s R F .refs) (rows-of (read-result s R F .rows))
   unfolding read-answer limit no-records empty-header
   read-passes-checks n = elim (decLe (length s) limit) [
@@ -138,21 +139,23 @@ module _ (s : List ℕ) (b : AllBytes s) (R F : ℕ) where
     | no l ↦ absurd (n (rw (read-over-limit phd s (capacity R F) (omega arith))))
   ]
 
--- ---- as a caller sees it
+-- ---- calls of `read`, `write` and `text`
 
--- What holds of a write of these tables: 17 if the dump is longer than the output or than the size limit, and no other refusal.
+-- The result of writing these tables: 17 if the dump is longer than the output or than the size limit, and no other refusal.
 pub record WriteAfterRead (h : Header) (names refs : List ℕ) (rows : List Row) (out-capacity : ℕ) (w : WriteResult) : Type 0 where
   pub reply-cases : (w .answer .reply ≡ 0) ⊎ (w .answer .reply ≡ 17)
   pub done : (w .answer .reply ≡ 0) ↔ ((length (dump-of h names refs rows) ≤ out-capacity) × (length (dump-of h names refs rows) ≤ limit))
   pub too-small : (w .answer .reply ≡ 17) ↔ TooLong out-capacity (dump-of h names refs rows)
 
--- What holds of a text of them: 18 too, for the first row whose class row is missing.
+-- The result of converting them to text: 18 for the first row whose class row is missing, else 17 if the text is longer than the
+-- output, and no other refusal.
 pub record TextAfterRead (h : Header) (names refs : List ℕ) (rows : List Row) (out-capacity : ℕ) (w : WriteResult) : Type 0 where
   pub reply-cases : (w .answer .reply ≡ 0) ⊎ ((w .answer .reply ≡ 17) ⊎ (w .answer .reply ≡ 18))
   pub done : (w .answer .reply ≡ 0) ↔ ((first-row (class-missing rows) rows ≡ NotFound) × (length (text-of h names refs rows) ≤ out-capacity))
   pub too-small : (w .answer .reply ≡ 17) ↔ ((first-row (class-missing rows) rows ≡ NotFound) × (out-capacity < length (text-of h names refs rows)))
   pub no-class : (i : ℕ) → ((w .answer .reply ≡ 18) × (w .answer .place ≡ i)) ↔ (first-row (class-missing rows) rows ≡ At i)
 
+-- Tables that pass every check.
 module _ (h : Header) (names refs : List ℕ) (rows : List Row) (a : TablesGood h names refs rows) (out-capacity : ℕ) where
   write-of-checked : WriteAfterRead h names refs rows out-capacity (write-rows h names refs rows out-capacity)
   write-of-checked = record {
@@ -189,7 +192,7 @@ module _ (h : Header) (names refs : List ℕ) (rows : List Row) (a : TablesGood 
       three (inr (inr (inl e))) = at-is-not-notfound (sym (x .row _ .0 (e, refl) .1) ∙ a .1)
       three (inr (inr (inr e))) = inr e
 
--- A call of `read` on any bytes that gave header facts, and what it filled: so many rows and references as it counts.
+-- A call of `read` on any bytes that has read the header; `rows` and `refs` are as much of its tables as its answer counts.
 module _ (dump : List ℕ) (b : AllBytes dump) (rows₀ refs₀ : List ℕ) (a : ReadAnswer) (rows′ refs′ : List ℕ) (r : AfterRead dump rows₀ refs₀ a rows′ refs′)
     (n : a .header .bits ≡ 0 → ⊥) where
   abbrev rows : List ℕ
@@ -209,15 +212,15 @@ module _ (dump : List ℕ) (b : AllBytes dump) (rows₀ refs₀ : List ℕ) (a :
   unfolding overwrite
   refs-are = rw (r .is, r .ref-table, sound dump (length rows₀) (length refs₀) .refs-counted) (take-append-seam (rd .refs) _)
 
-  -- The header and the rows that it filled pass every check.
+  -- The header and the stored rows pass every check.
   pub tables-pass-checks : TablesGood (a .header) dump refs (rows-of rows)
   unfolding read-answer
   tables-pass-checks = rw (rows-are, refs-are, r .is) (read-passes-checks dump b (length rows₀) (length refs₀) (rw (r .is) at n))
 
-  -- It can be passed to `write` as it is, with the dump as name bytes.
+  -- They can be passed to `write` unchanged, with the dump as the name bytes.
   pub write-after-read : (out-capacity : ℕ) → WriteAfterRead (a .header) dump refs (rows-of rows) out-capacity (write-result (a .header) dump refs rows out-capacity)
   write-after-read out-capacity = write-of-checked (a .header) dump refs (rows-of rows) tables-pass-checks out-capacity
 
-  -- And to `text`.
+  -- They can be passed to `text` unchanged, with the dump as the name bytes.
   pub text-after-read : (out-capacity : ℕ) → TextAfterRead (a .header) dump refs (rows-of rows) out-capacity (text-result (a .header) dump refs rows out-capacity)
   text-after-read out-capacity = text-of-checked (a .header) dump refs (rows-of rows) tables-pass-checks out-capacity

@@ -1,5 +1,5 @@
--- What holds between two rows when rows are counted: of each count, what is counted and what the rows that are left add to it
--- is the sum over all. It begins so, each row keeps it, and at the end it is what was asked.
+-- The loop invariant of counting: each count so far, plus what the remaining rows add to it, is the sum over all rows. It holds
+-- at the start, each row preserves it, and at the end it gives the tally of all rows.
 -- Assumes nothing.
 use mathlib.Core.Path.{_≡_, refl}
 use Prim.Native.Nat.{ℕ, _+_, _^_, _≤_, _<_}
@@ -14,13 +14,13 @@ use Rattle.table.specs.declared.Row.{Row}
 use Rattle.phd_counts.specs.Counts.{kind-count, row-ref-count, nulls-of, nulls, tally-of, add-row}
 use Rattle.phd_counts.specs.declared.Tally.{Tally}
 
--- rows, their references and their nulls are few
+-- Bounds on the numbers of rows, references and nulls, far below what 64 bits hold.
 pub record CountBounds (rows : List Row) : Type 0 where
   pub rows-bound : length rows ≤ 2 ^ 30
   pub refs-bound : sum row-ref-count rows ≤ 2 ^ 30
   pub nulls-bound : nulls rows ≤ 2 ^ 61
 
--- no count of a tally can leave 64 bits with a row more
+-- Adding the row r to the tally t overflows none of its 64-bit counts.
 pub record NoOverflow (t : Tally) (r : Row) : Type 0 where
   pub classes : t .classes < 2 ^ 62
   pub objects : t .objects < 2 ^ 62
@@ -32,14 +32,15 @@ pub record NoOverflow (t : Tally) (r : Row) : Type 0 where
   pub nulls : t .nulls < 2 ^ 62
   pub unlisted : nulls-of r < 2 ^ 62
 
--- at most one a row
+-- No kind has more rows than there are.
 pub sum-le-length : (k : ℕ) (rows : List Row) → sum (kind-count k) rows ≤ length rows
 unfolding sum
 sum-le-length k [] = omega arith
 sum-le-length k (r ∷ rows) = omega (arith, bit-le-one (is-kind k r), sum-le-length k rows)
 
--- ---- a tally with a row more, by what is added to its counts
+-- ---- adding a row
 
+-- The tally with one more row, given the numbers added to its counts.
 pub add-row-is : (t : Tally) (r : Row) {a b c d n : ℕ} → a ≡ kind-count 1 r → b ≡ kind-count 2 r → c ≡ kind-count 3 r → d ≡ kind-count 4 r → n ≡ nulls-of r
     → record {
       classes = t .classes + a;
@@ -53,8 +54,9 @@ pub add-row-is : (t : Tally) (r : Row) {a b c d n : ℕ} → a ≡ kind-count 1 
 unfolding add-row
 add-row-is t r p q u v w = rw (p, q, u, v, w)
 
--- ---- a tally of the rows before number i
+-- ---- the loop invariant
 
+-- t is the tally of the rows before row i.
 pub record CountedBefore (rows : List ℕ) (i : ℕ) (t : Tally) : Type 0 where
   pub classes : SumInvariant (kind-count 1) rows i (t .classes)
   pub objects : SumInvariant (kind-count 2) rows i (t .objects)
@@ -65,6 +67,7 @@ pub record CountedBefore (rows : List ℕ) (i : ℕ) (t : Tally) : Type 0 where
   pub refs : SumInvariant row-ref-count rows i (t .refs)
   pub nulls : SumInvariant nulls-of rows i (t .nulls)
 
+-- The empty tally is that of the rows before row 0.
 pub counted-before-first : (rows : List ℕ) → CountedBefore rows 0 (record { classes = 0; objects = 0; arrays = 0; primitives = 0; rows = 0; refs = 0; nulls = 0 })
 counted-before-first rows = record {
   classes = sum-start (kind-count 1) rows;
@@ -78,6 +81,7 @@ counted-before-first rows = record {
 }
 
 module _ (rows : List ℕ) (i : ℕ) (t : Tally) (z : CountedBefore rows i t) where
+  -- Adding row i gives the tally of the rows before row i + 1.
   pub counted-before-next : (r : Row) (t′ : Tally) → i < row-count rows → r ≡ row-at rows i → t′ ≡ add-row t r → CountedBefore rows (i + 1) t′
   unfolding add-row
   counted-before-next r t′ l e f = rw (f, e) (record {
@@ -91,7 +95,7 @@ module _ (rows : List ℕ) (i : ℕ) (t : Tally) (z : CountedBefore rows i t) wh
     nulls = sum-next nulls-of rows i (t .nulls) l (z .nulls);
   })
 
-  -- no count can leave 64 bits
+  -- Adding row i overflows no count.
   pub counted-no-overflow : (r : Row) → i < row-count rows → r ≡ row-at rows i → CountBounds (rows-of rows) → NoOverflow t r
   unfolding nulls
   counted-no-overflow r l e few =
@@ -110,6 +114,7 @@ module _ (rows : List ℕ) (i : ℕ) (t : Tally) (z : CountedBefore rows i t) wh
         unlisted = omega arith;
       })
 
+  -- After the last row, t is the tally of all rows.
   pub counted-before-end : row-count rows ≤ i → t ≡ tally-of (rows-of rows)
   unfolding tally-of nulls
   counted-before-end l =

@@ -1,5 +1,5 @@
--- What is counted of a row and of rows: rows by kind, references, and nulls. The text's trailers are made of these counts,
--- and a reader must believe the definitions.
+-- The counts of rows: rows by kind, references, and nulls. The text's trailers print them (docs/FORMAT.md 7.4).
+-- A reader must believe the definitions.
 use Prim.Native.Nat.{ℕ, _+_, _-_}
 use mathlib.Core.List.{List}
 use mathlib.Core.Bool.{cond}
@@ -9,29 +9,30 @@ use Rattle.table.specs.Sums.{sum}
 use Rattle.table.specs.declared.Row.{Row}
 use Rattle.phd_counts.specs.declared.Tally.{Tally}
 
--- ---- of a row
+-- ---- counts of one row
 
--- 1 for a row of a kind, else 0
+-- 1 for a row of kind k, else 0.
 abbrev pub kind-count : ℕ → Row → ℕ
 kind-count k r = cond (is-kind k r) 1 0
 
--- the references that it lists
+-- The number of references of a row; nulls do not count.
 abbrev pub row-ref-count : Row → ℕ
 row-ref-count r = r .count
 
--- An object array's nulls: its true length less its reference count. No other row has any. (A good array has no more references
--- than its length, so that nothing is cut off: Exact.)
+-- The number of nulls of a row: an object array's true length minus its reference count; 0 for any other row. The subtraction
+-- stops at 0, but in a good array the count is at most the length (`ExactCounts`).
 unfoldable pub nulls-of : Row → ℕ
 nulls-of r = cond (is-kind 3 r) (r .len - r .count) 0
 
--- ---- of rows
+-- ---- counts of all rows
 
--- the nulls of rows: the sum of those of each, and so of all object arrays
+-- The number of nulls of all rows. Only object arrays have any.
 unfoldable pub nulls : List Row → ℕ
 nulls rows = sum nulls-of rows
 
--- ---- all of them
+-- ---- tallies
 
+-- The tally of all rows.
 unfoldable pub tally-of : List Row → Tally
 tally-of rows = record {
   classes = sum (kind-count 1) rows;
@@ -43,7 +44,7 @@ tally-of rows = record {
   nulls = nulls rows;
 }
 
--- a tally with a row more
+-- The tally with one more row.
 unfoldable pub add-row : Tally → Row → Tally
 add-row t r = record {
   classes = t .classes + kind-count 1 r;

@@ -1,5 +1,5 @@
--- What holds of the counts of good tables: of no array's nulls is anything cut off, references and nulls together are what the
--- rows have in all, and every sum is far below what 64 bits hold. A reader must believe the record `ExactCounts`.
+-- The counts of good tables are exact: in each object array, references and nulls add up to the true length; over all rows, they
+-- add up to the total; and every sum is far below what 64 bits hold. A reader must believe the record `ExactCounts`.
 use mathlib.Core.Path.{_≡_, refl}
 use Prim.Native.Nat.{ℕ, suc, _+_, _*_, _^_, _≤_, _<_}
 use native.Mathlib.Nat.{zero-add}
@@ -18,35 +18,36 @@ use Rattle.phd_check.specs.WellFormed.{GoodKind, a-class, an-object, an-array, 
 use Rattle.phd_counts.specs.Counts.{row-ref-count, nulls-of, nulls}
 use Rattle.phd_counts.specs.CountLoop.{CountBounds}
 
--- what a row has, nulls included: an object array its true length, any other row its references
+-- The references and nulls of a row together: an object array's true length; the reference count of any other row.
 abbrev pub with-nulls : Row → ℕ
 with-nulls r = cond (is-kind 3 r) (r .len) (r .count)
 
--- What holds of rows, with the table of references.
+-- The counts of rows are exact, given the table of references.
 pub record ExactCounts (refs : List ℕ) (rows : List Row) : Type 0 where
-  -- the references and the nulls of an object array are as many as its true length
+  -- The references and nulls of an object array add up to its true length.
   pub array : All (λ r. r .kind ≡ 3 → r .count + nulls-of r ≡ r .len) rows
-  -- all references and nulls are what the rows have, nulls included
+  -- All references plus all nulls are the sum of `with-nulls` over the rows.
   pub total : sum row-ref-count rows + nulls rows ≡ sum with-nulls rows
-  -- all references stand in their table
+  -- The table of references holds all of them.
   pub in-bounds : sum row-ref-count rows ≤ length refs
-  -- there are at most 2^30 rows, 2^30 references and 2^61 nulls
+  -- There are at most 2^30 rows, 2^30 references and 2^61 nulls.
   pub few : CountBounds rows
 
--- ---- a good row
+-- ---- one good row
 
--- its references and nulls are what it has, and its nulls are few
+-- The references and nulls of a row add up to `with-nulls`, and it has fewer than 2^31 nulls.
 record RefsAndNulls (r : Row) : Type 0 where
   whole : r .count + nulls-of r ≡ with-nulls r
   few : nulls-of r < 2 ^ 31
 
--- a row that is no object array has its references alone; an object array has no more references than its true length
+-- A row that is not an object array has no nulls.
 other-refs-and-nulls : (r : Row) → (r .kind ≡ 3 → ⊥) → RefsAndNulls r
 unfolding nulls-of
 other-refs-and-nulls r k =
     let e = ne-eqb (r .kind) 3 k in
     record { whole = rw e (omega arith); few = rw e (omega arith) }
 
+-- An object array with at most as many references as its true length.
 array-refs-and-nulls : (r : Row) → r .kind ≡ 3 → r .len < 2 ^ 31 → r .count ≤ r .len → RefsAndNulls r
 unfolding nulls-of
 array-refs-and-nulls r k l m =
@@ -78,13 +79,13 @@ nulls-le (r ∷ rows) a =
     let t = nulls-le rows (a .1) in
     omega arith
 
--- an object array that is whole
+-- In each object array, references and nulls add up to the true length.
 arrays-exact : (rows : List Row) → All RefsAndNulls rows → All (λ r. r .kind ≡ 3 → r .count + nulls-of r ≡ r .len) rows
 arrays-exact [] a = tt
 arrays-exact (r ∷ rows) a = (λ e. rw (eq-eqb (r .kind) 3 e) at (a .0 .whole), arrays-exact rows (a .1))
 
 module _ (h : Header) (names refs : List ℕ) where
-  -- the references of rows, beginning at an index, are no more than the table has after it
+  -- The references of good rows, from an index on, lie within the table.
   refs-in-bounds-from : (rows : List Row) (i index : ℕ) → first-bad-from h names refs i index rows ≡ NotFound → index ≤ length refs → index + sum row-ref-count rows ≤ length refs
   unfolding sum rec-of without-place
   refs-in-bounds-from [] i index e l = omega arith
@@ -99,7 +100,7 @@ module _ (h : Header) (names refs : List ℕ) where
   unfolding rec-of
   good-refs-and-nulls index r g = kind-refs-and-nulls r _ (good-rec h names refs index r g .kind-good)
 
-  -- So it is where the header is good and no row is bad.
+  -- If the header is good and no row is bad, the counts are exact.
   pub exact-counts : (rows : List Row) → TablesGood h names refs rows → ExactCounts refs rows
   unfolding nulls
   exact-counts rows a =

@@ -1,5 +1,5 @@
--- In reading order: Counts (what is counted of a row and of rows, nulls among them), Exact (what holds of the counts of good
--- rows: nothing is cut off, and all fits) and Cases (the nulls of some tables). Counting is for proofs: the counts, row after row.
+-- In reading order: `Counts` (the counts of rows), `ExactCounts` (the counts of good rows are exact, and fit 64 bits) and
+-- `NullsCases` (the nulls of some tables). `CountLoop` is for proofs: counting row after row.
 pub mod Counts
 pub mod ExactCounts
 pub mod NullsCases

@@ -1,4 +1,4 @@
-// What is counted of a table's rows: how many are of each kind, their references, and the nulls of object arrays.
+// Counts the rows of a table by kind, their references, and the nulls of object arrays (docs/FORMAT.md 7.4).
 // Each function's contract is an equation with a definition of specs/Counts.antt.
 ghost use mathlib.Core.Path.{_≡_};
 ghost use Rattle.phd_counts.specs.Counts.{nulls-of, tally-of, add-row};
@@ -7,7 +7,7 @@ ghost use Rattle.table.specs.Rows.{rows-of};
 use decode::choice;
 use table::Row;
 
-// How many rows are of each kind, and how many rows, references and nulls there are in all.
+// The numbers of rows of each kind, of all rows, and of their references and nulls.
 pub struct Tally {
     pub classes: u64,
     pub objects: u64,
@@ -18,7 +18,7 @@ pub struct Tally {
     pub nulls: u64,
 }
 
-// A row's nulls: of an object array its true length less its count of references, of any other row none.
+// Returns the number of nulls of a row: an object array's true length minus its reference count; 0 for any other row.
 pub fn row_nulls(row: Row) -> u64
     ensures { λ r. ⌜ r ≡ nulls-of row ⌝ }
 {
@@ -31,7 +31,7 @@ pub fn row_nulls(row: Row) -> u64
     row.len - row.count
 }
 
-// The counts with a row more.
+// Returns the tally with one more row.
 pub fn add_row(t: Tally, row: Row) -> Tally
     requires { ⌜ NoOverflow t row ⌝ }
     ensures { λ r. ⌜ r ≡ add-row t row ⌝ }
@@ -56,7 +56,7 @@ pub fn add_row(t: Tally, row: Row) -> Tally
     }
 }
 
-// The counts of all rows.
+// Returns the tally of all rows of a table.
 pub fn count_all(rows: &[u64]) -> Tally
     requires { ⌜ CountBounds (rows-of (now rows)) ⌝ }
     ensures { λ r. ⌜ r ≡ tally-of (rows-of (now (rows .entry))) ⌝ }

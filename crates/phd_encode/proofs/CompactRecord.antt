@@ -1,4 +1,4 @@
--- The bytes of a lean record: its tests, and the fields that are left.
+-- The bytes of a compact record are those of its five fields, and `is_compact` recognizes one.
 use mathlib.Core.Path.{_≡_, sym, ap, _∙_}
 use Prim.Native.Nat.{ℕ, _≤_}
 use mathlib.Core.Bool.{Bool, true, cond}
@@ -15,9 +15,9 @@ use Rattle.table.specs.declared.Row.{Row}
 use Rattle.phd_check.proofs.CheckLaws.{all-of, all-of-all-true}
 use Rattle.phd_encode.specs.EncodeRecord.{encode-tag, encode-front, encode-middle, encode-name, encode-refs, encode-tail, encode-fields, encode-planned, Compact}
 
--- ---- a lean plan
+-- ---- compact plans
 
--- the tests after that of its tag
+-- The tests of `is_compact` after that of the tag.
 abbrev pub compact-tests : Plan → ℕ → List Bool
 compact-tests p n =
     let sh = p .shape in
@@ -31,6 +31,7 @@ compact-tests p n =
     ∷ eqb (sh .truelen) 0
     ∷ []
 
+-- A plan that passes the tests is compact.
 pub compact-of-tests : (p : Plan) (n : ℕ) → all-of (leb 0x20 (p .tag)) (compact-tests p n) ≡ true → Compact p n
 compact-of-tests p n e =
     let t = all-true-at _ (sym (all-of-all-true (leb 0x20 (p .tag)) (compact-tests p n)) ∙ e) in
@@ -46,20 +47,22 @@ compact-of-tests p n e =
       truelen = eqb-true _ _ (t 8);
     }
 
--- fields of no bytes
+-- A field of width 0 has no bytes.
 be-zero-width : (n v : ℕ) → n ≡ 0 → be n v ≡ []
 unfolding be
 be-zero-width n v e = ap (λ (k : ℕ). be k v) e
 
+-- A record with a tag of 0x20 or more has no flag byte.
 no-flag-byte : (p : Plan) → 0x20 ≤ p .tag → be (cond (ltb (p .tag) 0x20) 1 0) (p .flags) ≡ []
 unfolding be
 no-flag-byte p h = rw (le-ltb (p .tag) 0x20 h)
 
+-- A name of length 0 has no bytes.
 no-name-bytes : (names : List ℕ) (r : Row) → r .namelen ≡ 0 → name-of names r ≡ []
 unfolding name-of
 no-name-bytes names r e = ap (λ (k : ℕ). take k (drop (r .place) names)) e
 
--- the fields that are left, the hash with b bytes
+-- The tag and the fields of a compact record; the hash has b bytes.
 abbrev pub compact-parts : ℕ → Plan → Row → List ℕ → ℕ → List (List ℕ)
 compact-parts before p r refs b =
     let sh = p .shape in
@@ -70,6 +73,7 @@ compact-parts before p r refs b =
     ∷ encode-ref-list (sh .refwidth) (r .address) refs
     ∷ []
 
+-- A compact record consists of these parts.
 pub encode-compact-parts : (before : ℕ) (p : Plan) (r : Row) (refs names : List ℕ) → Compact p (r .namelen) → (b : ℕ) → b ≡ hash-bytes (r .hashkind)
     → encode-planned before p r refs (name-of names r) ≡ join (compact-parts before p r refs b)
 unfolding encode-planned encode-tag encode-fields encode-front encode-middle encode-name encode-refs encode-tail

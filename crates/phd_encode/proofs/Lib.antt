@@ -1,2 +1,2 @@
--- Laws (the bytes of a lean record).
+-- CompactRecord (the bytes of a compact record).
 mod CompactRecord

@@ -1,6 +1,6 @@
--- The bytes of a record: the tag, the flag byte and the fields in file order, each as wide as the reader's own table of
--- shapes says. A field that a form lacks has no bytes. A reader must believe these definitions; that a reader takes the
--- bytes for the record that was put is proved.
+-- The bytes of a record: the tag, the flag byte and the fields in file order (docs/FORMAT.md 3.3). The widths come from `Shape`,
+-- as in the reader. A field that a form lacks has no bytes.
+-- A reader must believe these definitions; that decoding the bytes gives the encoded record is proved in phd_round_trip.
 use mathlib.Core.Path.{_≡_}
 use Prim.Native.Nat.{ℕ, _+_, _/_, _≤_}
 use mathlib.Core.List.{List, [], _∷_, _++_}
@@ -18,41 +18,41 @@ use Rattle.phd_plan.specs.FormChoice.{plan-input, make-plan}
 use Rattle.phd_plan.specs.declared.Plan.{Plan}
 use Rattle.phd_encode.specs.declared.sizes.EncodedSize.{EncodedSize}
 
--- the tag, and the flag byte where the form has one
+-- The tag, and the flag byte if the form has one.
 unfoldable pub encode-tag : Plan → List ℕ
 encode-tag p = be 1 (p .tag) ++ be (cond (ltb (p .tag) 0x20) 1 0) (p .flags)
 
--- gap, class word and array length of a row, after a record at the address `before`
+-- The gap, the class word and the array length, after a record at the address `before`.
 unfoldable pub encode-front : ℕ → Shape → Row → List ℕ
 encode-front before sh r = join (be (sh .gap) (twos-complement (gap before (r .address))) ∷ be (sh .class) (r .class) ∷ be (sh .len) (r .len) ∷ [])
 
--- a class's instance size, the hash and the superclass word
+-- The instance size of a class, the hash and the superclass word.
 unfoldable pub encode-middle : Shape → Row → List ℕ
 encode-middle sh r = join (be (sh .inst) (r .size) ∷ be (hash-bytes (r .hashkind)) (r .hash) ∷ be (sh .superclass) (r .class) ∷ [])
 
--- a class's name behind its length
+-- The length and the bytes of a class name.
 unfoldable pub encode-name : Shape → Row → List ℕ → List ℕ
 encode-name sh r name = be (sh .name) (r .namelen) ++ name
 
--- the references, behind their count where it is not in the tag
+-- The reference count, if it is not in the tag, and the references.
 unfoldable pub encode-refs : Shape → Row → List ℕ → List ℕ
 encode-refs sh r refs = be (sh .countwidth) (r .count) ++ encode-ref-list (sh .refwidth) (r .address) refs
 
--- an array's size and true length
+-- The size of an array and the true length of an object array.
 unfoldable pub encode-tail : Shape → Row → List ℕ
 encode-tail sh r = be (sh .size) (r .size) ++ be (sh .truelen) (r .len)
 
--- the fields after the tag and the flag byte
+-- All fields after the tag and the flag byte.
 unfoldable pub encode-fields : ℕ → Shape → Row → List ℕ → List ℕ → List ℕ
 encode-fields before sh r refs name =
     join (encode-front before sh r ∷ encode-middle sh r ∷ encode-name sh r name ∷ encode-refs sh r refs ∷ encode-tail sh r ∷ [])
 
--- a row with its references and its name, as it is planned
+-- The record of a row with its references and its name, encoded by a plan.
 unfoldable pub encode-planned : ℕ → Plan → Row → List ℕ → List ℕ → List ℕ
 encode-planned before p r refs name = encode-tag p ++ encode-fields before (p .shape) r refs name
 
--- A plan with no flag byte and no field but the gap, the class word, the hash and the references, of a row whose name has
--- `namelen` bytes.
+-- A plan without a flag byte and without fields but the gap, the class word, the hash and the references, for a row without a
+-- name; `namelen` is the length of the row's name.
 pub record Compact (p : Plan) (namelen : ℕ) : Type 0 where
   pub tag : 0x20 ≤ p .tag
   pub len : p .shape .len ≡ 0
@@ -64,21 +64,22 @@ pub record Compact (p : Plan) (namelen : ℕ) : Type 0 where
   pub size : p .shape .size ≡ 0
   pub truelen : p .shape .truelen ≡ 0
 
--- how a record is written under the header h, after one at the address `before`, with the cache c
+-- The plan of a record under the header h, after a record at the address `before`, with the cache c.
 unfoldable pub plan-record : Header → ℕ → Cache → Rec → Plan
 plan-record h before c r = make-plan (h .bits / 8) (plan-input c before (r .row) (r .refs))
 
+-- The bytes of that record.
 unfoldable pub encode-record : Header → ℕ → Cache → Rec → List ℕ
 encode-record h before c r = encode-planned before (plan-record h before c r) (r .row) (r .refs) (r .name)
 
--- the cache after it
+-- The cache after that record.
 unfoldable pub cache-after : Header → ℕ → Cache → Rec → Cache
 cache-after h before c r = cond (plan-record h before c r .shape .cached) (push c (r .row .class)) c
 
--- how many bytes a plan has for a row
+-- The size in bytes of a row's record by its plan.
 abbrev pub plan-size : Plan → Row → ℕ
 plan-size p r = record-bytes (p .tag) (p .shape) r
 
--- that, and whether the class word goes to the cache
+-- That size, and whether the class word is pushed into the cache.
 unfoldable pub record-size : Plan → Row → EncodedSize
 record-size p r = record { size = plan-size p r; cached = p .shape .cached }

@@ -1,4 +1,4 @@
--- How many bytes a record has: part by part, and whole.
+-- The size of an encoded record: each part has as many bytes as its fields' widths add up to, and the record `plan-size`.
 -- Assumes nothing.
 use mathlib.Core.Path.{_≡_}
 use Prim.Native.Nat.{ℕ, _+_, _*_, _≤_}
@@ -42,7 +42,7 @@ length-tail : (sh : Shape) (r : Row) → length (encode-tail sh r) ≡ sh .size 
 unfolding encode-tail
 length-tail sh r = simp (length-append, length-be)
 
--- a record whole, with as many references and bytes of its name as its row says
+-- A record has `plan-size` bytes if its references and name bytes are as many as the row states.
 pub length-encode-planned : (before : ℕ) (p : Plan) (r : Row) (refs name : List ℕ) → length refs ≡ r .count → length name ≡ r .namelen
     → length (encode-planned before p r refs name) ≡ plan-size p r
 unfolding encode-planned encode-fields record-bytes
@@ -50,11 +50,13 @@ length-encode-planned before p r refs name e f =
     let sh : Shape = p .shape in
     simp (length-append, length-tag p, length-front before sh r, length-middle sh r, length-name sh r name, length-refs sh r refs, length-tail sh r, e, f) (omega arith)
 
--- ---- no sum of these leaves 64 bits
+-- ---- bounds, by which no sum exceeds 64 bits
 
+-- n references take at most 8 n bytes.
 pub ref-bytes-most : (sh : Shape) (n : ℕ) → sh .refwidth ≤ 8 → n * sh .refwidth ≤ n * 8
 ref-bytes-most sh n h = mul-le-mul-left n h
 
+-- A record takes at most 128 bytes, those of its name, and 8 for each reference.
 pub plan-size-most : (p : Plan) (r : Row) → WidthsLe8 (p .shape) → plan-size p r ≤ 128 + r .namelen + r .count * 8
 unfolding record-bytes
 plan-size-most p r n =

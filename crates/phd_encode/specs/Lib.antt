@@ -1,5 +1,5 @@
--- Record (the bytes of a record, and the cache after it), Sizes (how many they are), Sized (how many, by the row alone), Bits (the
--- bits of tags and flag bytes) and Bounds (the measures of a good record are bounded).
+-- EncodeRecord (the bytes of a record, and the cache after it), EncodedLengths (their number), TagBits (the bits of tags and flag
+-- bytes), SizeFromRow (the size from the row alone) and PlanBounds (the plan input of a good record is bounded).
 pub mod EncodeRecord
 pub mod EncodedLengths
 pub mod TagBits

@@ -1,4 +1,4 @@
--- The measures of a good record are bounded, so that no sum of the writer's leaves 64 bits.
+-- The plan input of a good record is bounded, so no sum that the writer computes exceeds 64 bits.
 -- Assumes nothing.
 use mathlib.Core.Path.{_≡_}
 use mathlib.Core.Logic.{inl, inr}
@@ -18,7 +18,7 @@ use Rattle.phd_check.specs.WellFormed.{GoodKind, a-class, an-object, an-array, 
 use Rattle.phd_plan.specs.FormChoice.{Bounded, plan-input}
 use Rattle.phd_encode.specs.TagBits.{find-slot-le}
 
--- what holds of both W: an address has W / 8 bytes, which are 4 to 8
+-- For both values of W, here w: an address takes W / 8 bytes, 4 to 8, and the highest address fits them.
 pub record AddressSize (w : ℕ) : Type 0 where
   pub max-address-fits : max-address w < 256 ^ (w / 8)
   pub some : 1 ≤ w / 8
@@ -26,18 +26,20 @@ pub record AddressSize (w : ℕ) : Type 0 where
   pub most : w / 8 ≤ 8
   pub max-address-fits-8 : max-address w < 256 ^ 8
 
+-- `AddressSize` holds for W 32 and W 64.
 pub address-size-of : (w : ℕ) → ValidBits w → AddressSize w
 unfolding max-address
 address-size-of w (inl e) = rw e (record { max-address-fits = lit< tt; some = lit≤ tt; least = lit≤ tt; most = lit≤ tt; max-address-fits-8 = lit< tt })
 address-size-of w (inr e) = rw e (record { max-address-fits = lit< tt; some = lit≤ tt; least = lit≤ tt; most = lit≤ tt; max-address-fits-8 = lit< tt })
 
+-- The type of a good row is below 8.
 pub prim-lt : (r : Row) (name : List ℕ) → GoodKind r name → r .prim < 8
 prim-lt r name (a-class _ _ _ _ e _ _ _) = omega arith
 prim-lt r name (an-object _ _ _ e _) = omega arith
 prim-lt r name (an-array _ _ _ _ e _) = omega arith
 prim-lt r name (a-primitive _ _ _ _ _ l _) = l
 
--- no sum of the writer's leaves 64 bits
+-- The plan input of a good record, after a record at a good address, is `Bounded`.
 pub good-plan-input-bounded : (h : Header) (c : Cache) (before index : ℕ) (r : Rec)
     → ValidBits (h .bits) → GoodRec h index r → before % 4 ≡ 0 → before ≤ max-address (h .bits)
     → Bounded (plan-input c before (r .row) (r .refs))

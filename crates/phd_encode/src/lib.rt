@@ -1,5 +1,5 @@
-// Writing a record: its tag, its flag byte and its fields in file order, as wide as the reader's own table of shapes says.
-// The bytes that each function writes are a definition of specs/Record.antt.
+// Encodes a record: its tag, its flag byte and its fields in file order (docs/FORMAT.md 3.3). The widths come from `Shape`, as in
+// the reader. The bytes that each function writes are a definition of specs/EncodeRecord.antt.
 ghost use mathlib.Core.Path.{_≡_};
 ghost use mathlib.Core.Bool.{true};
 ghost use Prim.Native.Nat.{_+_, _≤_};
@@ -13,7 +13,8 @@ use table::Row;
 mod parts;
 pub mod sizes;
 
-// Whether a record is planned with no flag byte, and has no field but its gap, class word, hash and references.
+// Checks whether the plan has no flag byte and no fields but the gap, the class word, the hash and the references. The result
+// false guarantees nothing; the general path can encode any record.
 fn is_compact(p: Plan, namelen: u64) -> bool
     ensures { λ r. ⌜ (r ≡ true → Compact p namelen) ⌝ }
 {
@@ -29,7 +30,7 @@ fn is_compact(p: Plan, namelen: u64) -> bool
         & (sh.truelen == 0)
 }
 
-// Writes such a record at an offset, and returns the offset after it.
+// Encodes a compact record at offset `at`, after a record at the address `before`, and returns the offset after it.
 fn encode_compact(
     out: &mut [u8],
     at: usize,
@@ -54,7 +55,7 @@ fn encode_compact(
     encode::encode_ref_list(out, list, sh.refwidth, row.address, refs, first, n)
 }
 
-// Writes a record at an offset, after one at the address `before`, and returns the offset after it.
+// Encodes a record at offset `at`, after a record at the address `before`, and returns the offset after it.
 pub fn encode_record(
     out: &mut [u8],
     at: usize,

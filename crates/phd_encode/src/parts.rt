@@ -1,4 +1,4 @@
-// The parts of a record: each function writes one at an offset, and returns the offset after it.
+// The parts of a record: each function encodes one at offset `at` and returns the offset after it.
 ghost use Prim.Native.Nat.{_+_, _≤_};
 ghost use lib.ListN.{length};
 ghost use Rattle.encode.specs.Writes.{Writes, HasCapacity};
@@ -8,7 +8,7 @@ use phd::Shape;
 use phd_plan::Plan;
 use table::Row;
 
-// The tag, and the flag byte where the form has one.
+// Encodes the tag, and the flag byte if the form has one.
 pub fn encode_tag(out: &mut [u8], at: usize, p: Plan) -> usize
     requires { ⌜ HasCapacity (now out) at (encode-tag p) ⌝ }
     ensures { λ r. ⌜ Writes (now (out .entry)) at (encode-tag p) (now (out .exit)) r ⌝ }
@@ -20,7 +20,7 @@ pub fn encode_tag(out: &mut [u8], at: usize, p: Plan) -> usize
     next
 }
 
-// The gap from the address before, the class word and the array length.
+// Encodes the gap from the address `before`, the class word and the array length.
 pub fn encode_front(out: &mut [u8], at: usize, before: u64, sh: Shape, row: Row) -> usize
     requires { ⌜ HasCapacity (now out) at (encode-front before sh row) ⌝ }
     ensures { λ r. ⌜ Writes (now (out .entry)) at (encode-front before sh row) (now (out .exit)) r ⌝ }
@@ -30,7 +30,7 @@ pub fn encode_front(out: &mut [u8], at: usize, before: u64, sh: Shape, row: Row)
     encode::encode_be(out, len, sh.len, row.len)
 }
 
-// A class's instance size, the hash and the superclass word.
+// Encodes the instance size of a class, the hash and the superclass word.
 pub fn encode_middle(out: &mut [u8], at: usize, sh: Shape, row: Row) -> usize
     requires { ⌜ HasCapacity (now out) at (encode-middle sh row) ⌝ }
     ensures { λ r. ⌜ Writes (now (out .entry)) at (encode-middle sh row) (now (out .exit)) r ⌝ }
@@ -41,7 +41,7 @@ pub fn encode_middle(out: &mut [u8], at: usize, sh: Shape, row: Row) -> usize
     encode::encode_be(out, superclass, sh.superclass, row.class)
 }
 
-// A class's name after its length.
+// Encodes the length and the bytes of a class name.
 pub fn encode_name(out: &mut [u8], at: usize, sh: Shape, row: Row, names: &[u8]) -> usize
     requires { ⌜ row .place + row .namelen ≤ length (now names) ⌝ }
     requires { ⌜ HasCapacity (now out) at (encode-name sh row (name-of (now names) row)) ⌝ }
@@ -53,7 +53,7 @@ pub fn encode_name(out: &mut [u8], at: usize, sh: Shape, row: Row, names: &[u8])
     encode::encode_slice(out, name, names, place, n)
 }
 
-// The references, after their count where it is not in the tag.
+// Encodes the reference count, if it is not in the tag, and the references.
 pub fn encode_refs(out: &mut [u8], at: usize, sh: Shape, row: Row, refs: &[u64]) -> usize
     requires { ⌜ row .first + row .count ≤ length (now refs) ⌝ }
     requires { ⌜ HasCapacity (now out) at (encode-refs sh row (refs-of (now refs) row)) ⌝ }
@@ -65,7 +65,7 @@ pub fn encode_refs(out: &mut [u8], at: usize, sh: Shape, row: Row, refs: &[u64])
     encode::encode_ref_list(out, list, sh.refwidth, row.address, refs, first, n)
 }
 
-// An array's size and true length.
+// Encodes the size of an array and the true length of an object array.
 pub fn encode_tail(out: &mut [u8], at: usize, sh: Shape, row: Row) -> usize
     requires { ⌜ HasCapacity (now out) at (encode-tail sh row) ⌝ }
     ensures { λ r. ⌜ Writes (now (out .entry)) at (encode-tail sh row) (now (out .exit)) r ⌝ }

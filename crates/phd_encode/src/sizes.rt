@@ -1,4 +1,4 @@
-// How many bytes a record has, by its row alone: its tag, its flag byte and its plan are not made for that.
+// The encoded size of a record, computed from its row without making its plan, tag or flag byte.
 ghost use mathlib.Core.Path.{_≡_};
 ghost use Prim.Native.Nat.{_+_, _^_, _≤_, _<_};
 ghost use lib.ListN.{length};
@@ -11,13 +11,13 @@ ghost use Rattle.phd_encode.specs.SizeFromRow.{object-size, primitive-si
 use phd::Cache;
 use table::Row;
 
-// The bytes of a record, and whether its class word goes to the cache.
+// The size of a record in bytes, and whether its class word is pushed into the cache.
 pub struct EncodedSize {
     pub size: usize,
     pub cached: bool,
 }
 
-// The two, in one.
+// Returns an `EncodedSize` with these fields.
 fn make_size(size: usize, cached: bool) -> EncodedSize
     ensures { λ r. ⌜ (r .size ≡ size) × (r .cached ≡ cached) ⌝ }
 {
@@ -27,7 +27,8 @@ fn make_size(size: usize, cached: bool) -> EncodedSize
     }
 }
 
-// An object: `rest` is the bytes of its gap, hash, references and name.
+// Returns the size of an object: `w` is W / 8, `gap` the width code of its gap, and `payload` the bytes of its gap, hash, name
+// and references.
 fn object_size(w: usize, cache: Cache, row: Row, gap: u64, payload: usize) -> EncodedSize
     requires { ⌜ (w ≤ 8) × (payload < 2 ^ 40) ⌝ }
     ensures { λ r. ⌜ r ≡ object-size w (row .hashkind) (find-slot cache (row .class)) (row .count) gap payload ⌝ }
@@ -41,7 +42,8 @@ fn object_size(w: usize, cache: Cache, row: Row, gap: u64, payload: usize) -> En
     make_size(1 + w + payload, true)
 }
 
-// A primitive array: `rest` is the bytes of its hash and name.
+// Returns the size of a primitive array: `w` is W / 8, `gap` the width code of its gap, and `payload` the bytes of its hash and
+// name.
 fn primitive_size(w: usize, row: Row, gap: u64, payload: usize) -> EncodedSize
     requires { ⌜ (w ≤ 8) × (gap < 4) × (payload < 2 ^ 40) ⌝ }
     ensures { λ r. ⌜ r ≡ primitive-size w (row .hashkind) (max gap (width-code (pos (row .len)))) payload ⌝ }
@@ -56,7 +58,7 @@ fn primitive_size(w: usize, row: Row, gap: u64, payload: usize) -> EncodedSize
     make_size(5 + 2 * phd::forms::width_of(paircode) + payload, false)
 }
 
-// A record after one at the address `before`, with the cache; W is w bytes.
+// Returns the size of a record after one at the address `before`, with the cache; `w` is W / 8.
 pub fn record_size(w: usize, cache: Cache, before: u64, row: Row, refs: &[u64]) -> EncodedSize
     requires { ⌜ (row .first + row .count ≤ length (now refs)) × Bounded (plan-input cache before row (refs-of (now refs) row)) ⌝ }
     requires { ⌜ (w ≤ 8) × (row .namelen < 2 ^ 16) ⌝ }
@@ -79,6 +81,6 @@ pub fn record_size(w: usize, cache: Cache, before: u64, row: Row, refs: &[u64]) 
     if row.kind == 3 {
         return make_size(14 + w + payload, false);
     }
-    // the form of a row of no kind is that of a primitive array
+    // Kind 0, which is no valid kind, has the form of a primitive array, as in `form-of`.
     primitive_size(w, row, gap, fixed)
 }

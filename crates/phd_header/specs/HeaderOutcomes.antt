@@ -1,4 +1,4 @@
--- What the answers of this crate's functions say, as outcomes of a layout, and a law of every header that is read whole.
+-- The answers of this crate's functions as outcomes of layouts, and a law: a header that is read whole has W 32 or 64.
 -- A reader must believe `header-outcome`, which the contract of `read_header` cites. Assumes nothing.
 use mathlib.Core.Path.{_≡_, refl, subst}
 use mathlib.Core.Bool.{Bool, true, false, cond}
@@ -15,17 +15,17 @@ use Rattle.phd_header.specs.declared.HeaderRead.the-variants.{Is, Stops}
 use Rattle.phd_header.specs.declared.UnitRead.{UnitRead}
 use Rattle.phd_header.specs.declared.UnitRead.the-variants.{Is as IsUnit, Stops as StopsUnit}
 
--- the facts with the place after the header, or why reading stops
+-- The outcome of an answer of `read_header`: the header and the offset after it, or why reading stops.
 abbrev pub header-outcome : HeaderRead → Outcome Header
 header-outcome (Is h next) = whole h next
 header-outcome (Stops w) = stops w
 
--- a part that hands on no value
+-- The outcome of an answer without a value.
 abbrev pub unit-outcome : UnitRead → Outcome (Unit {0})
 unit-outcome (IsUnit next) = whole tt next
 unit-outcome (StopsUnit w) = stops w
 
--- ---- W is 32 or 64
+-- ---- values of W
 
 bits-32-or-64 : (b : Bool) → ValidBits (cond b 64 32)
 bits-32-or-64 true = inr refl
@@ -35,6 +35,7 @@ make-header-bits : (flags : ℕ) (vm : StringSpan) → ValidBits (make-header fl
 unfolding make-header
 make-header-bits flags vm = bits-32-or-64 (bit 1 flags)
 
+-- A header that is read whole has W 32 or 64.
 pub header-bits : (s : List ℕ) (h : Header) (n : ℕ) → run header s 0 ≡ whole h n → ValidBits (h .bits)
 unfolding header
 header-bits s h n r =

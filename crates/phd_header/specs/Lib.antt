@@ -1,2 +1,2 @@
--- Header says what the functions' answers mean, and what holds of every header that is read whole.
+-- The functions' answers as outcomes of layouts, and a law of every header that is read whole (HeaderOutcomes).
 pub mod HeaderOutcomes

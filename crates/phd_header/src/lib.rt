@@ -1,4 +1,4 @@
-// Reading the header of a portable heap dump.
+// Reads the header of a portable heap dump (docs/FORMAT.md 2).
 // Each function's contract is an equation with a definition of the format (crates/phd/specs/Phd.antt).
 ghost use mathlib.Core.Path.{_≡_};
 ghost use mathlib.Core.Bool.{cond};
@@ -16,19 +16,19 @@ use phd::Header;
 use phd::forms::bit;
 use phd::magic::magic_byte;
 
-// What the header says, with the place after it; or why reading stops in it.
+// The answer of `read_header`: the header and the offset after it, or why reading stops in it.
 pub enum HeaderRead {
     Is(Header, usize),
     Stops(Stop),
 }
 
-// A part of the header that hands on no value: the place after it, or why reading stops in it.
+// The answer for a part of the header that has no value: the offset after it, or why reading stops in it.
 enum UnitRead {
     Is(usize),
     Stops(Stop),
 }
 
-// Whether the 18 bytes at a place are the opening string.
+// Checks whether the 18 bytes at an offset are the opening string.
 fn magic_matches(s: &[u8], at: usize) -> bool
     requires { ⌜ at + 18 ≤ length (now s) ⌝ }
     ensures { λ r. ⌜ r ≡ bytes-equal (take 18 (drop at (now (s .entry)))) magic ⌝ }
@@ -43,7 +43,7 @@ fn magic_matches(s: &[u8], at: usize) -> bool
     true
 }
 
-// The bytes of the opening string, behind its length.
+// Decodes the bytes of the opening string, after its length.
 pub fn magic_bytes(s: &[u8], at: usize) -> UnitRead
     requires { ⌜ at ≤ length (now s) ⌝ }
     ensures { λ r. ⌜ unit-outcome r ≡ run magic-bytes (now (s .entry)) at ⌝ }
@@ -58,7 +58,7 @@ pub fn magic_bytes(s: &[u8], at: usize) -> UnitRead
     UnitRead::Stops(Stop::Refused(3))
 }
 
-// The opening string, the version, the flags and the byte 1: the flags.
+// Decodes the opening string, the version, the flags and the start byte 1; returns the flags.
 fn preamble(s: &[u8]) -> NumberRead
     ensures { λ r. ⌜ outcome r ≡ run preambleOf (now (s .entry)) 0 ⌝ }
 {
@@ -89,7 +89,7 @@ fn preamble(s: &[u8]) -> NumberRead
     }
 }
 
-// The byte after the VM string: 2, which ends the header records.
+// Decodes the tag after the VM string, which must be 2, the end of the header records.
 fn after_vm(s: &[u8], at: usize) -> UnitRead
     requires { ⌜ at ≤ length (now s) ⌝ }
     ensures { λ r. ⌜ unit-outcome r ≡ run after-vm (now (s .entry)) at ⌝ }
@@ -108,7 +108,7 @@ fn after_vm(s: &[u8], at: usize) -> UnitRead
     }
 }
 
-// The header records and the byte 2 that ends them: the VM string, if there is one.
+// Decodes the header records and the tag 2 that ends them; returns the VM string, if there is one.
 fn header_records(s: &[u8], at: usize) -> StringRead
     requires { ⌜ at ≤ length (now s) ⌝ }
     ensures { λ r. ⌜ string-outcome r ≡ run header-records (now (s .entry)) at ⌝ }
@@ -147,7 +147,7 @@ fn header_records(s: &[u8], at: usize) -> StringRead
     }
 }
 
-// W, by the flags.
+// Returns W (32 or 64), by the flags.
 fn bits_of(flags: u64) -> u64
     ensures { λ r. ⌜ r ≡ cond (bitOf 1 flags) 64 32 ⌝ }
 {
@@ -157,7 +157,7 @@ fn bits_of(flags: u64) -> u64
     32
 }
 
-// What the flags and the VM string say.
+// Returns the header for the flags and the VM string.
 fn make_header(flags: u64, vm: StringSpan) -> Header
     ensures { λ r. ⌜ r ≡ make-header flags vm ⌝ }
 {
@@ -169,7 +169,7 @@ fn make_header(flags: u64, vm: StringSpan) -> Header
     }
 }
 
-// The header, both bytes 2 included.
+// Decodes the whole header, up to the byte 2 that starts the body.
 pub fn read_header(s: &[u8]) -> HeaderRead
     ensures { λ r. ⌜ header-outcome r ≡ run header (now (s .entry)) 0 ⌝ }
 {

@@ -1,4 +1,4 @@
--- Which form a record is written in, with its tag and its flag byte: 01's "Writing", second paragraph.
+-- The form in which a record is written, with its tag and its flag byte (docs/FORMAT.md 6.2).
 -- A reader must believe these definitions.
 use Prim.Native.Nat.{ℕ, _+_, _*_, _^_, _≤_, _<_}
 use mathlib.Core.Bool.{Bool, cond, _&&_, _||_}
@@ -15,16 +15,16 @@ use Rattle.table.specs.declared.Row.{Row}
 use Rattle.phd_plan.specs.declared.PlanInput.{PlanInput}
 use Rattle.phd_plan.specs.declared.Plan.{Plan}
 
--- whether the slot i is filled and holds the class word w
+-- Whether slot i is filled and holds the class word w.
 unfoldable pub slot-holds : Cache → ℕ → ℕ → Bool
 slot-holds c w i = ltb i (c .pushes) && eqb (getD (c .classes) i 0) w
 
--- the lowest filled slot that holds the class word w, and 4 where none does
+-- The lowest filled slot that holds the class word w, 4 if none does.
 unfoldable pub find-slot : Cache → ℕ → ℕ
 find-slot c w = cond (slot-holds c w 0) 0 (cond (slot-holds c w 1) 1 (cond (slot-holds c w 2) 2 (cond (slot-holds c w 3) 3 4)))
 
--- All that the form, the tag and the flag byte of a row and its references go by: after a record at the address `before`,
--- with the cache c.
+-- Everything that determines the form, the tag and the flag byte of a row with its references, after a record at the address
+-- `before`, with the cache c.
 unfoldable pub plan-input : Cache → ℕ → Row → List ℕ → PlanInput
 plan-input c before r refs = record {
   kind = r .kind;
@@ -37,7 +37,7 @@ plan-input c before r refs = record {
   paircode = max (width-code (gap before (r .address))) (width-code (pos (r .len)));
 }
 
--- What holds of the measures of every good record: no sum below leaves 64 bits.
+-- Bounds on the plan input of every good row, so that no sum below exceeds 64 bits.
 pub record Bounded (m : PlanInput) : Type 0 where
   pub slot-le : m .slot ≤ 4
   pub count-lt : m .count < 2 ^ 31
@@ -46,23 +46,25 @@ pub record Bounded (m : PlanInput) : Type 0 where
   pub pair-lt : m .paircode < 4
   pub prim-lt : m .prim < 8
 
--- Hash kinds 1 and 2 need a flag byte.
+-- Whether the hash kind needs a flag byte: kinds 1 and 2 do.
 unfoldable pub needs-flag-byte : ℕ → Bool
 needs-flag-byte k = eqb k 1 || eqb k 2
 
--- a gap fits a short where its width code is below 2
+-- The form of an object. A gap fits a short if its width code is below 2.
 unfoldable pub object-form : PlanInput → Form
 object-form m =
     cond (needs-flag-byte (m .hashkind)) Long
     (cond (leb (m .count) 3 && (ltb (m .slot) 4 && ltb (m .gap) 2)) Short
     (cond (leb (m .count) 7 && ltb (m .gap) 2) Medium Long))
 
+-- The form of a record, by its kind: 1 class, 2 object, 3 object array, else primitive array.
 unfoldable pub form-of : PlanInput → Form
 form-of m =
     cond (eqb (m .kind) 1) Class
     (cond (eqb (m .kind) 2) (object-form m)
     (cond (eqb (m .kind) 3) ObjectArray (cond (needs-flag-byte (m .hashkind)) LongPrimitive Primitive)))
 
+-- The tag of a record, with the bits of docs/FORMAT.md 3.1.
 unfoldable pub tag-of : Form → PlanInput → ℕ
 tag-of Short m = 0x80 + 0x20 * m .slot + 0x08 * m .count + 0x04 * m .gap + m .refcode
 tag-of Medium m = 0x40 + 0x08 * m .count + 0x04 * m .gap + m .refcode
@@ -72,14 +74,16 @@ tag-of Class m = 6
 tag-of LongPrimitive m = 7
 tag-of ObjectArray m = 8
 
--- Hash kind 2 sets 0x02 and 0x01, kind 1 sets 0x01. In a class record kind 2 sets 0x08.
+-- The flag bits for a hash kind, of every record but a class: kind 2 sets moved (0x02) and hashed (0x01), kind 1 sets hashed.
 unfoldable pub hash-flags : ℕ → ℕ
 hash-flags k = cond (eqb k 2) 0x03 (cond (eqb k 1) 0x01 0)
 
+-- The flag bits for a hash kind, of a class: kind 2 sets moved (0x08).
 unfoldable pub class-flags : ℕ → ℕ
 class-flags k = cond (eqb k 2) 0x08 0
 
--- A long primitive array's gap and length are bytes where both fit, else words.
+-- The flag byte of a record, 0 if its form has none. The gap and the length of a long primitive array are bytes if both fit, else
+-- words.
 unfoldable pub flags-of : Form → PlanInput → ℕ
 flags-of Short m = 0
 flags-of Medium m = 0
@@ -89,7 +93,7 @@ flags-of ObjectArray m = 0x40 * m .gap + 0x10 * m .refcode + hash-flags (m .hash
 flags-of Class m = 0x40 * m .gap + 0x10 * m .refcode + class-flags (m .hashkind)
 flags-of LongPrimitive m = 0x20 * m .prim + 0x10 * cond (eqb (m .paircode) 0) 0 1 + hash-flags (m .hashkind)
 
--- The tag, the flag byte and the shape that they name, by the reader's own table; W is w bytes.
+-- The tag, the flag byte, and the shape that the reader's `shape` gives for them; w is W / 8.
 unfoldable pub make-plan : ℕ → PlanInput → Plan
 make-plan w m =
     let fm = form-of m in

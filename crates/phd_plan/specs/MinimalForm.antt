@@ -1,5 +1,5 @@
--- The writer's choice is the least: each width code is the least that holds what it is for, and an object goes in the shortest of the
--- forms that can hold it.
+-- The writer's choice is minimal: each width code is the least that holds its values, and an object is written in the shortest of
+-- the forms that can hold it.
 -- A reader must believe `CanHold` and `overhead`.
 use mathlib.Core.Path.{_≡_, refl}
 use Prim.Native.Nat.{ℕ, _+_, _^_, _≤_, _<_}
@@ -21,16 +21,19 @@ use Rattle.phd_plan.specs.declared.PlanInput.{PlanInput}
 
 -- ---- widths
 
--- Of the measures of a row, after a record at the address `before`, with the cache c.
+-- The plan input of a row, after a record at the address `before`, with the cache c.
 module _ (c : Cache) (before : ℕ) (r : Row) (refs : List ℕ) where
+  -- If the gap fits 2^k bytes, its width code is at most k.
   pub gap-least : (k : ℕ) → fits (2 ^ k) (gap before (r .address)) ≡ true → plan-input c before r refs .gap ≤ k
   unfolding plan-input
   gap-least k p = omega (arith, code-least (gap before (r .address)) k p)
 
+  -- If all references fit 2^k bytes each, their width code is at most k.
   pub ref-least : (k : ℕ) → AllFit (2 ^ k) (r .address) refs → plan-input c before r refs .refcode ≤ k
   unfolding plan-input
   ref-least k p = omega (arith, refs-code-least k 0 (r .address) refs (omega arith) p)
 
+  -- If the gap and the length fit 2^k bytes each, their common width code is at most k.
   pub pair-least : (k : ℕ) → fits (2 ^ k) (gap before (r .address)) ≡ true → fits (2 ^ k) (pos (r .len)) ≡ true → plan-input c before r refs .paircode ≤ k
   unfolding plan-input
   pair-least k p q =
@@ -38,8 +41,8 @@ module _ (c : Cache) (before : ℕ) (r : Row) (refs : List ℕ) where
 
 -- ---- the form of an object
 
--- Whether a form can hold an object of these measures. A short or medium record has no hash bits, a byte or a short for its gap, and
--- two or three bits for its count; a short one has two for a slot.
+-- The form can hold an object with this plan input. A short or medium object has no hash bits, a byte or a short for its gap, and
+-- for its count two bits (short) or three (medium); a short object has two bits for a slot.
 abbrev pub CanHold : Form → PlanInput → Type 0
 CanHold Short m = (needs-flag-byte (m .hashkind) ≡ false) × (m .gap < 2) × (m .count ≤ 3) × (m .slot < 4)
 CanHold Medium m = (needs-flag-byte (m .hashkind) ≡ false) × (m .gap < 2) × (m .count ≤ 7)
@@ -49,7 +52,8 @@ CanHold ObjectArray m = ⊥
 CanHold Primitive m = ⊥
 CanHold LongPrimitive m = ⊥
 
--- the bytes of an object's form beside its gap, its hash and its references: the tag; a class word of w bytes; a flag byte and a count
+-- The bytes of an object's form besides its gap, its hash and its references: the tag; if medium or long, a class word of w
+-- bytes; if long, a flag byte and a count of 4 bytes.
 abbrev pub overhead : ℕ → Form → ℕ
 overhead w Short = 1
 overhead w Medium = 1 + w
@@ -72,7 +76,7 @@ at-most-long w ObjectArray = omega arith
 at-most-long w Primitive = omega arith
 at-most-long w LongPrimitive = omega arith
 
--- No form that can hold an object is shorter than the one chosen.
+-- No form that can hold an object is shorter than the chosen one.
 pub object-form-shortest : (w : ℕ) (fm : Form) (m : PlanInput) → CanHold fm m → overhead w (object-form m) ≤ overhead w fm
 unfolding object-form
 object-form-shortest w Short m x = rw (x .0, lt-ltb _ _ (x .1), le-leb _ _ (x .2), lt-ltb _ _ (x .3)) (omega arith)
@@ -83,7 +87,7 @@ object-form-shortest w ObjectArray m x = absurd x
 object-form-shortest w Primitive m x = absurd x
 object-form-shortest w LongPrimitive m x = absurd x
 
--- And the one chosen can hold it.
+-- The chosen form can hold the object.
 pub object-form-can-hold : (m : PlanInput) → CanHold (object-form m) m
 unfolding object-form
 object-form-can-hold m = by (needs-flag-byte (m .hashkind)) (n3 && (s4 && g2)) (n7 && g2) refl refl refl

@@ -1,5 +1,5 @@
-// Which form a record is written in, with its tag and its flag byte: 01's "Writing", second paragraph.
-// Each function's contract is an equation with a definition of specs/Form.antt.
+// Chooses the form in which a record is written, with its tag and its flag byte (docs/FORMAT.md 6.2).
+// Each function's contract is an equation with a definition of specs/FormChoice.antt.
 ghost use mathlib.Core.Path.{_≡_};
 ghost use Prim.Native.Nat.{_+_, _≤_, _<_};
 ghost use lib.ListN.{length};
@@ -11,29 +11,29 @@ use phd::Form;
 use phd::Shape;
 use table::Row;
 
-// All that the form, the tag and the flag byte of a record go by.
+// Everything that determines the form, the tag and the flag byte of a record.
 pub struct PlanInput {
     pub kind: u64,
     pub hashkind: u64,
     pub prim: u64,
-    // the lowest filled slot of the cache that holds its class, 4 for none
+    // The lowest filled slot of the cache that holds its class word, 4 if none does.
     pub slot: u64,
-    // how many references it has
+    // How many references it has.
     pub count: u64,
-    // the width codes of its gap, of its references, and of its gap and length together
+    // The width codes of its gap, of its references, and of its gap and length together.
     pub gap: u64,
     pub refcode: u64,
     pub paircode: u64,
 }
 
-// How a record is written: its tag, its flag byte (0 where it has none), and the bytes of its fields.
+// How a record is written: its tag, its flag byte (0 if it has none), and its shape, the widths of its fields.
 pub struct Plan {
     pub tag: u64,
     pub flags: u64,
     pub shape: Shape,
 }
 
-// Whether a slot of the cache is filled and holds the class word.
+// Checks whether slot i of the cache is filled and holds the class word.
 fn slot_holds(cache: Cache, class: u64, i: usize) -> bool
     requires { ⌜ i < 4 ⌝ }
     ensures { λ r. ⌜ r ≡ slot-holds cache class i ⌝ }
@@ -42,7 +42,7 @@ fn slot_holds(cache: Cache, class: u64, i: usize) -> bool
     (i < cache.pushes) & (classes[i] == class)
 }
 
-// The lowest slot that does, 4 for none.
+// Returns the lowest filled slot that holds the class word, 4 if none does.
 pub fn find_slot(cache: Cache, class: u64) -> u64
     ensures { λ r. ⌜ r ≡ find-slot cache class ⌝ }
 {
@@ -52,7 +52,7 @@ pub fn find_slot(cache: Cache, class: u64) -> u64
     choice(slot_holds(cache, class, 0), 0, one)
 }
 
-// What the form of a row goes by, after a record at the address `before`, with the cache.
+// Returns the plan input of a row that follows a record at the address `before`, with the cache before it.
 pub fn plan_input_of(cache: Cache, before: u64, row: Row, refs: &[u64]) -> PlanInput
     requires { ⌜ row .first + row .count ≤ length (now refs) ⌝ }
     ensures { λ r. ⌜ r ≡ plan-input cache before row (refs-of (now (refs .entry)) row) ⌝ }
@@ -70,13 +70,14 @@ pub fn plan_input_of(cache: Cache, before: u64, row: Row, refs: &[u64]) -> PlanI
     }
 }
 
-// Whether the hash kind needs a flag byte.
+// Checks whether the hash kind needs a flag byte.
 pub fn needs_flag_byte(kind: u64) -> bool
     ensures { λ r. ⌜ r ≡ needs-flag-byte kind ⌝ }
 {
     (kind == 1) | (kind == 2)
 }
 
+// Returns the form of an object.
 fn object_form(m: PlanInput) -> Form
     ensures { λ r. ⌜ r ≡ object-form m ⌝ }
 {
@@ -92,7 +93,7 @@ fn object_form(m: PlanInput) -> Form
     Form::Long
 }
 
-// The form of a record.
+// Returns the form of a record.
 fn form_of(m: PlanInput) -> Form
     ensures { λ r. ⌜ r ≡ form-of m ⌝ }
 {
@@ -111,7 +112,7 @@ fn form_of(m: PlanInput) -> Form
     Form::Primitive
 }
 
-// The tag of a record.
+// Returns the tag of a record.
 fn tag_of(form: Form, m: PlanInput) -> u64
     requires { ⌜ Bounded m ⌝ }
     ensures { λ r. ⌜ r ≡ tag-of form m ⌝ }
@@ -127,7 +128,7 @@ fn tag_of(form: Form, m: PlanInput) -> u64
     }
 }
 
-// The bits of a flag byte that say the hash kind.
+// Returns the flag bits for the hash kind, of every record but a class.
 fn hash_flags(kind: u64) -> u64
     ensures { λ r. ⌜ r ≡ hash-flags kind ⌝ }
 {
@@ -140,7 +141,7 @@ fn hash_flags(kind: u64) -> u64
     0
 }
 
-// Those of a class record.
+// Returns the flag bits for the hash kind, of a class.
 fn class_flags(kind: u64) -> u64
     ensures { λ r. ⌜ r ≡ class-flags kind ⌝ }
 {
@@ -150,7 +151,7 @@ fn class_flags(kind: u64) -> u64
     0
 }
 
-// The flag byte of a record.
+// Returns the flag byte of a record, 0 if its form has none.
 fn flags_of(form: Form, m: PlanInput) -> u64
     requires { ⌜ Bounded m ⌝ }
     ensures { λ r. ⌜ r ≡ flags-of form m ⌝ }
@@ -173,7 +174,7 @@ fn flags_of(form: Form, m: PlanInput) -> u64
     }
 }
 
-// The tag, the flag byte and the shape of a record; W is w bytes.
+// Returns the tag, the flag byte and the shape of a record; w is W / 8.
 pub fn make_plan(w: usize, m: PlanInput) -> Plan
     requires { ⌜ Bounded m ⌝ }
     ensures { λ r. ⌜ r ≡ make-plan w m ⌝ }

@@ -1,4 +1,5 @@
--- The references of a record that is clear of both ends of the memory: they are all in order, and each is its target.
+-- If a record's address is so far from 0 and from the highest address that no reference can leave the range, all its references
+-- are valid, and each is its `target`.
 use mathlib.Core.Path.{_≡_, ap, _∙_}
 use mathlib.Core.Bool.{Bool, true, _&&_, and-eq-true-iff}
 use mathlib.Core.List.{List, _∷_}
@@ -16,18 +17,18 @@ use Rattle.phd.specs.RefList.{prepend, ref-list-none, ref-list-next}
 use Rattle.phd_read.specs.StoredRefs.{RefsAllRead, values-of, values-next}
 use Rattle.decode_fast.specs.RefsInRange.{run-ref-in-range}
 
--- what the tests of the quick way tell
+-- The tests of the fast path as inequalities.
 pub fast-path-tests : (w count : ℕ) (b : Bool) → leb 1 w && ltb count 0x10000000 && b ≡ true → (1 ≤ w) × (count < 0x10000000) × (b ≡ true)
 fast-path-tests w count b e =
     let h = and-eq-true-iff (leb 1 w && ltb count 0x10000000) b .0 e in
     let l = and-eq-true-iff (leb 1 w) (ltb count 0x10000000) .0 (h .0) in
     (leb-true _ _ (l .0), ltb-true _ _ (l .1), h .1)
 
--- so few fields of at most eight bytes are few bytes
+-- Fewer than 2^28 fields of at most 8 bytes have at most 2^31 bytes.
 pub refs-bytes-le : (w count : ℕ) → w ≤ 8 → count < 0x10000000 → count * w ≤ 0x80000000
 refs-bytes-le w count h l = let m : count ≤ 0x10000000 = omega arith in mul-le-mul m h
 
--- one of n fields, and the others
+-- The bytes of n fields are those of n - 1 fields and of one.
 pub mul-pred : (n w : ℕ) → 0 < n → n * w ≡ (n - 1) * w + w
 mul-pred n w h = let e : n ≡ suc (n - 1) = omega arith in ap (λ (k : ℕ). k * w) e ∙ suc-mul (n - 1) w
 
@@ -36,6 +37,7 @@ prepend-all-read a (whole rs n) h = tt
 prepend-all-read a (stops x) h = absurd h
 
 module _ (w base top : ℕ) (s : List ℕ) (is : refs-in-range w base top ≡ true) where
+  -- All references that lie within the dump are valid.
   pub in-range-all-read : (n at : ℕ) → at + n * w ≤ length s → RefsAllRead (run (ref-list w base top n) s at)
   in-range-all-read zero at h = rw (ref-list-none w base top s at) tt
   in-range-all-read (suc n) at h =
@@ -47,7 +49,7 @@ module _ (w base top : ℕ) (s : List ℕ) (is : refs-in-range w base top ≡ tr
       rw (ref-list-next w base top s (suc n) at l, run-ref-in-range w base top s at is e, d)
       (prepend-all-read (target w base (value (take w (drop at s)))) (run (ref-list w base top n) s (at + w)) (in-range-all-read n (at + w) f))
 
-  -- the first value, and those that are left
+  -- The first value is the target of the first reference, and the others follow.
   pub in-range-next : (n at : ℕ) → 0 < n → at + n * w ≤ length s
       → values-of (run (ref-list w base top n) s at)
       ≡ target w base (value (take w (drop at s))) ∷ values-of (run (ref-list w base top (n - 1)) s (at + w))

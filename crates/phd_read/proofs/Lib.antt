@@ -1,5 +1,5 @@
--- Laws that the proofs of this crate's functions cite: ClearLaws of references that need no range check, StepLaws of what a step
--- does, and LoopLaws of step after step.
+-- Laws for the proofs of this crate's functions: InRangeLaws (references that need no range check), StepLaws (the contract of a
+-- step) and LoopLaws (the answer at the end of the loop).
 pub mod InRangeLaws
 pub mod StepLaws
 pub mod LoopLaws

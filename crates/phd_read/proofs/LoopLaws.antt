@@ -1,4 +1,4 @@
--- Step after step: where a reading begins, goes on and ends, by the laws of any format.
+-- When a step ends the loop, its reply and the counts of the cursor are the answer of the whole reading.
 use mathlib.Core.Path.{_≡_}
 use mathlib.Core.List.{List}
 use Prim.Native.Nat.{ℕ, suc}
@@ -11,7 +11,7 @@ use Rattle.phd_read.specs.PhdLaws.{phd-lawful}
 use Rattle.phd_read.specs.PhdSteps.{StepEnds, LoopInvariant}
 use Rattle.phd_read.specs.declared.records.Cursor.{Cursor}
 
--- the answer, where a step ended the reading
+-- The answer after a step that ends the reading is that of the definition.
 pub end-answer : {h : Header} {s : List ℕ} {at : ℕ} {rows₀ refs₀ rows refs rows′ refs′ : List ℕ} {k k′ : Cursor} {reply place missing : ℕ}
     → LoopInvariant h s at rows₀ refs₀ rows refs k → StepEnds h s k rows refs rows′ refs′ k′ reply place missing
     → record { reply = reply; place = place; missing = missing; rows = k′ .rows; refs = k′ .refs; header = h }

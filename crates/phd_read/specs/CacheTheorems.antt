@@ -1,6 +1,6 @@
--- The class cache in a reading: after any records its slots hold, in turn, the class words of the medium and long objects among them, and a
--- short object's class is out of the slot that its tag names.
--- A reader must believe `tag-at`, `pushes-class`, `classes-pushed` and `CacheFilled`.
+-- The class cache in a reading (docs/FORMAT.md 3.5): after any records its slots hold the class words of the medium and long
+-- objects among them, push number k in slot k modulo 4, and a short object has the class word of the slot that its tag names.
+-- A reader must believe `tag-at`, `pushes-class`, `classes-pushed`, `CacheAtRow` and `EmptySlot`.
 use mathlib.Core.Path.{_≡_, refl, sym, ap, subst, _∙_}
 use Prim.Native.Nat.{ℕ, zero, suc, _+_, _-_, _*_, _/_, _%_, _<_}
 use native.Mathlib.Decide.{decLe}
@@ -39,11 +39,11 @@ use Rattle.phd_read.specs.RowTags.{phd-row-origins}
 use Rattle.phd_read.specs.ReadReplies.{FieldReply, header-refuses, record-body-refuses}
 use Rattle.phd_header.specs.HeaderOutcomes.{header-bits}
 
--- the tag at a place of a dump
+-- The tag at a place of a dump.
 abbrev pub tag-at : List ℕ → ℕ → ℕ
 tag-at s place = value (take 1 (drop place s))
 
--- Each medium and long object record puts its class word in the next slot. No other record does.
+-- Whether a record with such a tag pushes its class word: medium and long objects do, no other record does.
 unfoldable pub pushes-class : TagForm → Bool
 pushes-class (Begins Medium) = true
 pushes-class (Begins Long) = true
@@ -54,7 +54,7 @@ pushes-class (Begins Primitive) = false
 pushes-class (Begins LongPrimitive) = false
 pushes-class Other = false
 
--- The class words that the records of the first n rows put, the last of them first. (A row's number 2 is its class word.)
+-- The class words that the records of the first n rows pushed, the last one first. (Number 2 of a row is its class word.)
 unfoldable pub classes-pushed : List ℕ → List ℕ → ℕ → List ℕ
 classes-pushed s rows zero = []
 classes-pushed s rows (suc i) =
@@ -62,17 +62,19 @@ classes-pushed s rows (suc i) =
 
 -- ---- one record
 
--- What a record with the tag t does with the cache: the class word goes there or not, and that of a short object is out of its slot.
+-- A record with the tag t pushes its class word or leaves the cache c unchanged, and a short object has the class word of the
+-- slot that its tag names.
 abbrev CacheStep : Cache → ℕ → Item → Type 0
 CacheStep c t end-item = Unit {0}
 CacheStep c t (item r rs sp k) =
     (k .cache ≡ cond (pushes-class (tag-form t)) (push c (getD r 2 0)) c) × (tag-form t ≡ Begins Short → slot c (t / 0x20 % 4) ≡ Just (getD r 2 0))
 
--- what the shape of a form says of it, where W has a byte at least
+-- The shape of a form pushes a class word exactly if `pushes-class` holds, and then it has a field for one.
 record ShapeCaches (fm : Form) (sh : Shape) : Type 0 where
   pub cached : sh .cached ≡ pushes-class (Begins fm)
   pub has-class : sh .cached ≡ true → eqb (sh .class) 0 ≡ false
 
+-- Every shape satisfies `ShapeCaches`, if a class word has at least one byte.
 shape-caches : (w : ℕ) → eqb w 0 ≡ false → (fm : Form) (t f : ℕ) → ShapeCaches fm (shape w fm t f)
 unfolding shape pushes-class
 shape-caches w n Short t f = record { cached = refl; has-class = λ e. absurd (true-not-false (sym e)) }
@@ -83,14 +85,14 @@ shape-caches w n ObjectArray t f = record { cached = refl; has-class = λ e. abs
 shape-caches w n Primitive t f = record { cached = refl; has-class = λ e. absurd (true-not-false (sym e)) }
 shape-caches w n LongPrimitive t f = record { cached = refl; has-class = λ e. absurd (true-not-false (sym e)) }
 
--- a short object has no field for a class
+-- A short object has no field for a class word.
 short-no-class : (w : ℕ) (fm : Form) (t f : ℕ) → Begins fm ≡ Begins Short → (shape w fm t f .class ≡ 0) × (shape w fm t f .superclass ≡ 0)
 unfolding shape
 short-no-class w fm t f e =
     let z : Short ≡ fm = cc in
     subst (λ (x : Form). (shape w x t f .class ≡ 0) × (shape w x t f .superclass ≡ 0)) z (refl, refl)
 
--- by the shape
+-- `CacheStep` by the shape of the record; `known` is the class word of a short object, from its slot.
 abbrev CacheStepByShape : Cache → ℕ → Shape → Item → Type 0
 CacheStepByShape c known sh end-item = Unit {0}
 CacheStepByShape c known sh (item r rs sp k) =
@@ -107,6 +109,7 @@ gives-fields top before c origin known hk sh has-class =
     gives-then-any _ _ (λ v. gives-then-any _ _ (λ m. gives-then-any _ _ (λ name. gives-then-any _ _ (λ n. gives-then-any _ _ (λ ls. gives-then-any _ _ (λ t.
     gives-yield _ (push-if-same-class c (sh .cached) (eqb (sh .class) 0) (v .class) _ has-class, λ z y. rw (z, y))))))))
 
+-- The form that `need-form` gives is that of the tag.
 pub gives-need-form : {s : List ℕ} (g : TagForm) → Gives s (λ fm. g ≡ Begins fm) (need-form g)
 unfolding need-form
 gives-need-form (Begins fm) = gives-yield fm refl
@@ -130,7 +133,7 @@ module _ (h : Header) (before : ℕ) (c : Cache) (w : eqb (h .bits / 8) 0 ≡ fa
                 rw (x .1 (q .0) (q .1)) (rw (tag-matches t Short l) at d),
           )
 
--- The cache after a record, and a short object's class.
+-- Every record that was read satisfies `CacheStep`.
 pub entry-cache-step : (h : Header) (s : List ℕ) (before : ℕ) (c : Cache) (index at : ℕ) (r rs : List ℕ) (sp : Span) (k : RecordContext) (n : ℕ) → ValidBits (h .bits)
     → run (entry h before c index) s at ≡ whole (item r rs sp k) n → CacheStep c (tag-at s at) (item r rs sp k)
 unfolding from-tag
@@ -139,16 +142,16 @@ entry-cache-step h s before c index at r rs sp k n w e =
     gives-cond (eqb (tag-at s at) 3) _ _ (gives-yield end-item tt) (gives-record-body h before c (bits-bytes-nonzero (h .bits) w) (origin-at at index) (tag-at s at))
     .each (at + 1) (item r rs sp k) n (omega arith) (rw (entry-from-tag, run-then, run-field 1 s at (omega arith)) at e)
 
--- ---- record after record
+-- ---- a sequence of records
 
--- rows that are alike up to a number put the same words
+-- Tables with the same first n rows give the same class words.
 classes-pushed-cong : (s rows rows′ : List ℕ) (n : ℕ) → ((i k : ℕ) → i < n → k < row-width → number rows i k ≡ number rows′ i k) → classes-pushed s rows n ≡ classes-pushed s rows′ n
 unfolding classes-pushed
 classes-pushed-cong s rows rows′ zero e = refl
 classes-pushed-cong s rows rows′ (suc n) e =
     rw (e n offset-number (omega arith) (omega arith), e n 2 (omega arith) (omega arith), classes-pushed-cong s rows rows′ n (λ i k l b. e i k (omega arith) b))
 
--- What holds of the cache between records.
+-- The invariant between records: the cache is the one after pushing the class words of all records so far.
 pub record CacheFilled (s : List ℕ) (st : State) : Type 0 where
   pub whole-rows : length (st .rows) % row-width ≡ 0
   pub cache : st .context .cache ≡ push-all (classes-pushed s (st .rows) (row-count (st .rows)))
@@ -175,7 +178,7 @@ module _ (h : Header) (s : List ℕ) (R F : ℕ) (w : ValidBits (h .bits)) where
   AfterStep (go st) = CacheFilled s st
   AfterStep (halt r) = Unit {0}
 
-  -- after any number of records
+  -- The invariant holds after any number of records.
   pub cache-filled-after : (n i : ℕ) (st : State) → StateAfter phd h s (capacity R F) n i st → CacheFilled s st
   unfolding classes-pushed row-count initial-state
   cache-filled-after n zero st a = subst (CacheFilled s) (sym a) (record { whole-rows = refl; cache = refl })
@@ -185,13 +188,14 @@ module _ (h : Header) (s : List ℕ) (R F : ℕ) (w : ValidBits (h .bits)) where
 
 -- ---- the rows of a reading
 
--- What holds of the row number i of those that a reading of the dump s stored, and of the cache c before its record.
+-- Properties of row i of the rows that a reading of the dump s stored, and of the cache c before its record.
 pub record CacheAtRow (s rows : List ℕ) (i : ℕ) (c : Cache) : Type 0 where
-  -- each slot holds, in turn, the class words that the records before it put
+  -- Each slot holds the last class word pushed into it by the records before, push number k going into slot k modulo 4.
   pub slots : (j : ℕ) → j < 4 → slot c j ≡ slot-after (classes-pushed s rows i) j
-  -- and a short object has the class of the slot that its tag names
+  -- A short object has the class word of the slot that its tag names.
   pub short : tag-form (tag-at s (offset-of rows i)) ≡ Begins Short → slot-after (classes-pushed s rows i) (tag-at s (offset-of rows i) / 0x20 % 4) ≡ Just (number rows i 2)
 
+-- Every stored row satisfies `CacheAtRow`.
 pub read-cache-at-row : (s : List ℕ) (R F i : ℕ) (l : i < row-count (read-result s R F .rows))
     → CacheAtRow s (read-result s R F .rows) i (phd-row-origins s R F .each i l .before .context .cache)
 unfolding row-count
@@ -215,7 +219,7 @@ read-cache-at-row s R F i l = record {
     w : ValidBits (h .bits)
     w = header-bits s h (x .start) (x .header-whole)
 
-    -- as many rows before it as its number
+    -- There are i rows before row i.
     counted : row-count (st .rows) ≡ i
     counted = let k : length (st .rows) ≡ i * row-width = ap length (x .rows-before) ∙ length-take-le (i * row-width) rows (omega arith) in omega arith
 
@@ -232,16 +236,17 @@ read-cache-at-row s R F i l = record {
 
 -- ---- an empty slot
 
--- What holds where a reading of the dump s stops with 10, after these rows: the tag there is a short object's, and no class word that was put
--- is in the slot that it names.
+-- The reason for reply 10 at a place of the dump s, after these rows: the tag there is a short object's, and no class word has
+-- been pushed into the slot that it names.
 pub record EmptySlot (s rows : List ℕ) (place : ℕ) : Type 0 where
   pub short : tag-form (tag-at s place) ≡ Begins Short
   pub never-filled : slot-after (classes-pushed s rows (row-count rows)) (tag-at s place / 0x20 % 4) ≡ Nothing
 
--- a reply to a field is not 10
+-- A reply that refuses a field is not 10.
 field-reply-not-10 : {Q : Type 0} (r : ℕ) → FieldReply r → r ≡ 10 → Q
 field-reply-not-10 r k e = absurd (true-not-false (sym (rw e at k)))
 
+-- A record is refused with 10 only if it is a short object whose slot is empty.
 slot-empty : (h : Header) (s : List ℕ) (before : ℕ) (c : Cache) (index at : ℕ) → run (entry h before c index) s at ≡ stops (Refused 10)
     → (tag-form (tag-at s at) ≡ Begins Short) × (slot c (tag-at s at / 0x20 % 4) ≡ Nothing)
 unfolding from-tag slot-class tag-form
@@ -272,7 +277,7 @@ module _ (s : List ℕ) (R F : ℕ) where
   abbrev BitsAndCache : Header → State → Type 0
   BitsAndCache h st = ValidBits (h .bits) × CacheFilled s st
 
-  -- a stop between records
+  -- A record that ends the reading with 10 names an empty slot.
   stop-empty-slot : (h : Header) (st : State) → BitsAndCache h st → (w : Stop) → next-item phd h s st ≡ stops w → EmptySlotAt10 (ended h st (reply-of w) (st .at) (missing-of w))
   unfolding ended reply-of
   stop-empty-slot h st g (Cut n) e z = absurd (omega arith)
@@ -286,6 +291,7 @@ module _ (s : List ℕ) (R F : ℕ) where
   header-empty-slot (Cut n) e z = absurd (omega arith)
   header-empty-slot (Refused r) e z = header-refuses (λ r. r ≡ 10 → EmptySlot s [] 0) field-reply-not-10 .each s 0 r e z
 
+  -- A reading that ends with 10 satisfies `EmptySlot` at its place.
   pub read-empty-slot : read-result s R F .reply ≡ 10 → EmptySlot s (read-result s R F .rows) (read-result s R F .place)
   unfolding no-records ended initial-state classes-pushed row-count
   read-empty-slot =

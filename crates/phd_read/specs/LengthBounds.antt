@@ -23,7 +23,7 @@ use Rattle.phd.specs.declared.Tail.{Tail}
 use Rattle.phd_read.specs.RecordProperties.{entry-advances}
 use Rattle.phd_read.specs.RowTags.{phd-row-origins}
 
--- What holds of a row's kind, count of references and length.
+-- Bounds on the length of a row, given its kind and its count of references.
 pub record LengthInBounds (kind refs len : ℕ) : Type 0 where
   pub short : len < 2 ^ 31
   pub array : kind ≡ 3 → refs ≤ len
@@ -35,10 +35,11 @@ unfolding front
 gives-front top before sh =
     gives-then-any _ _ (λ a. gives-then-any _ _ (λ class. gives-then _ _ _ (gives-count (sh .len)) (λ len l. gives-yield _ l)))
 
--- a true length of w bytes is at least the count n
+-- A true length t, read from w bytes, is below 2^31, and at least the count n unless w is 0.
 abbrev pub AtLeastCount : ℕ → ℕ → ℕ → Type 0
 AtLeastCount w n t = (t < 2 ^ 31) × (eqb w 0 ≡ false → n ≤ t)
 
+-- Every true length that is read satisfies `AtLeastCount`.
 pub gives-true-length : {s : List ℕ} (w n : ℕ) → Gives s (AtLeastCount w n) (true-length w n)
 unfolding true-length
 gives-true-length w n =
@@ -49,7 +50,7 @@ gives-tail : {s : List ℕ} (size truelen n : ℕ) → Gives s (λ (t : Tail). A
 unfolding tail
 gives-tail size truelen n = gives-then-any _ _ (λ z. gives-then _ _ _ (gives-true-length truelen n) (λ t l. gives-yield _ l))
 
--- so it is of a record's row
+-- The row of a record satisfies `LengthInBounds`.
 abbrev ItemLengthInBounds : Item → Type 0
 ItemLengthInBounds end-item = Unit {0}
 ItemLengthInBounds (item r rs sp k) = LengthInBounds (getD r 0 0) (getD r 6 0) (getD r 8 0)
@@ -65,7 +66,7 @@ gives-fields top before c origin known hk sh k =
       array = λ e. rw (k e) (p .1 (k e));
     })))))))
 
--- only an object array has the kind 3, and it has a true length
+-- Only an object array has kind 3, and it has a true length.
 array-has-true-length : (w : ℕ) (fm : Form) (t f : ℕ) → shape w fm t f .kind ≡ 3 → eqb (shape w fm t f .truelen) 0 ≡ false
 unfolding shape
 array-has-true-length w Short t f e = absurd (omega arith)
@@ -84,11 +85,11 @@ gives-entry h before c index = entry-gives h before c index (λ origin.
 
 -- ---- the tables of a reading
 
--- of whole rows: a row's number 0 is its kind, 6 its count of references, 8 its length
+-- Every whole row satisfies `LengthInBounds`: number 0 of a row is its kind, 6 its count of references, 8 its length.
 abbrev pub LengthsInBounds : List ℕ → Type 0
 LengthsInBounds rows = (i : ℕ) → i < row-count rows → LengthInBounds (number rows i 0) (number rows i 6) (number rows i 8)
 
--- So it is of any bytes, and any tables.
+-- The rows that a reading of any bytes stores satisfy `LengthsInBounds`.
 pub read-lengths-in-bounds : (s : List ℕ) (R F : ℕ) → LengthsInBounds (read-result s R F .rows)
 read-lengths-in-bounds s R F i l =
     let rows : List ℕ = read-result s R F .rows in

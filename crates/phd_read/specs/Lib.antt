@@ -1,9 +1,10 @@
--- In reading order: Answer (what a caller gets of a reading) and Promises (what holds of it).
--- The rest are the proofs on the way: Links (a record that was read, and where its references and its tag are), LaidOut (it takes
--- exactly the bytes of its shape), Replies (which replies a layout refuses with), Lawful (so this is a format as `reader` asks),
--- Counts (the counts that are returned), Offsets (a row's tag), ClassesRead (the class cache), Ranges (addresses and references),
--- Lengths (a row's length), RecordBytes (the bytes of a record, and how much a dump of a given length can fill); Stored (a record's
--- references as they are stored) and Stepping (what a step does to the caller's tables), for the functions' contracts.
+-- Read first: ReadContract (the contract of `read`) and ReadTheorems (the theorems about it).
+-- The proofs of these theorems: RecordProperties (the row of a record that was read, and where its references and its tag are),
+-- RecordLayout (a record takes exactly the bytes of its shape), ReadReplies (the replies that a layout refuses with), PhdLaws
+-- (PHD is a lawful format of `reader`), StoredCounts (the counts returned), RowTags (the tag of a row's record), CacheTheorems
+-- (the class cache), Ranges (addresses and references), LengthBounds (the length of a row), RecordBytes (the bytes of a record,
+-- and the most rows and references that a dump of a given length can give).
+-- For the contracts of functions: StoredRefs (a record's references as they are stored) and PhdSteps (the effect of a step).
 pub mod ReadContract
 pub mod StoredRefs
 pub mod PhdSteps

@@ -1,5 +1,5 @@
--- Every stored reference lies in 1 to 2^W - 1, and every stored row's address in 0 to 2^W - 1. W is that of the header facts that the
--- reading hands out.
+-- Every stored reference lies in 1 to 2^W - 1, and the address of every stored row in 0 to 2^W - 1, where W is that of the header
+-- that the reading returns.
 -- Assumes nothing.
 use mathlib.Core.Path.{_≡_, refl, _∙_}
 use Prim.Native.Nat.{ℕ, _≤_, _<_}
@@ -26,6 +26,7 @@ unfolding all-within
 within-append low high [] ys = refl
 within-append low high (x ∷ xs) ys = rw (within-append low high xs ys) (both-assoc (leb low x && leb x high) (all-within low high xs) (all-within low high ys))
 
+-- Every stored reference lies in 1 to 2^W - 1.
 pub refs-within : (s : List ℕ) (R F : ℕ) → all-within 1 (max-address (read-result s R F .header .bits)) (read-result s R F .refs) ≡ true
 unfolding all-within
 refs-within s R F =
@@ -34,8 +35,9 @@ refs-within s R F =
     rw (within-append, t) (entry-read-from h s (c .address) (c .cache) (length refs) at r rs sp k n e .refs .in-bounds .range))
     (λ h. refl)
 
--- ---- addresses: a row's number 1
+-- ---- addresses
 
+-- The address of every stored row, its number 1, is at most 2^W - 1.
 pub addresses-within : (s : List ℕ) (R F i : ℕ) → i < row-count (read-result s R F .rows) → number (read-result s R F .rows) i 1 ≤ max-address (read-result s R F .header .bits)
 addresses-within s R F i l =
     let x = phd-row-origins s R F .each i l in

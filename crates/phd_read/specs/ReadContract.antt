@@ -1,5 +1,5 @@
--- What a caller gets of a reading: the answer, and what a call leaves in the tables.
--- A reader must believe these lines.
+-- The answer of a reading, and the caller's tables after it.
+-- A reader must believe these definitions.
 use mathlib.Core.Path.{_≡_}
 use mathlib.Core.List.{List}
 use Prim.Native.Nat.{ℕ}
@@ -9,11 +9,12 @@ use Rattle.table.specs.Table.{row-count}
 use Rattle.table.specs.Buffer.{overwrite}
 use Rattle.phd_read.specs.declared.ReadAnswer.{ReadAnswer}
 
--- the answer: reply, place, missing bytes, how many rows and references were stored, header facts
+-- The answer: reply, place, missing bytes, how many rows and references were stored, and the header.
 unfoldable pub read-answer : Result → ReadAnswer
 read-answer r = record { reply = r .reply; place = r .place; missing = r .missing; rows = row-count (r .rows); refs = length (r .refs); header = r .header }
 
--- What the contract of `read` says of a call: its answer a, and the tables rows and refs, which are rows′ and refs′ afterwards.
+-- The contract of `read` for one call: its answer is a, and the tables rows and refs are rows′ and refs′ afterwards, each with
+-- its part of the result at the start and otherwise unchanged.
 pub record AfterRead (dump rows refs : List ℕ) (a : ReadAnswer) (rows′ refs′ : List ℕ) : Type 0 where
   pub is : a ≡ read-answer (read-result dump (length rows) (length refs))
   pub row-table : rows′ ≡ overwrite rows (read-result dump (length rows) (length refs) .rows)

@@ -1,4 +1,5 @@
--- What a layout refuses has one of 01's replies 3 to 12; so a reading gives one of the replies 0 to 14, and 1 for a cut alone.
+-- The header and the records are refused with the replies 3 to 12 only (docs/FORMAT.md 8), so a reading gives one of the replies
+-- 0 to 14, and reply 1 only for a cut.
 -- Assumes nothing.
 use mathlib.Core.Path.{_≡_, refl}
 use Prim.Native.Nat.{ℕ, zero, suc, _≤_}
@@ -21,14 +22,15 @@ use Rattle.phd.specs.declared.TagForm.{TagForm}
 use Rattle.phd.specs.declared.TagForm.the-variants.{Begins, Other}
 use Rattle.reader.specs.WithinCapacity.{read-replies}
 
--- a reply to what was read and is refused, and one to a field
+-- A reply that refuses bytes that are present: 3 to 12.
 abbrev PhdRefusal : ℕ → Type 0
 PhdRefusal r = leb 3 r && leb r 12 ≡ true
 
+-- A reply that refuses a field: 3 to 12, but not 10, which is for an empty slot.
 abbrev pub FieldReply : ℕ → Type 0
 FieldReply r = (leb 3 r && leb r 12) && not (eqb r 10) ≡ true
 
--- What holds of every reply to a field holds of those that a header is refused with, and a record's fields.
+-- If P holds for every reply that refuses a field, then P holds for every reply that refuses a header or the fields of a record.
 module _ (P : ℕ → Type 0) (p : (r : ℕ) → FieldReply r → P r) where
   -- ---- the header
 
@@ -54,6 +56,7 @@ module _ (P : ℕ → Type 0) (p : (r : ℕ) → FieldReply r → P r) where
       (refuses-then _ _ (refuses-string 0x20 0 (p 7 refl)) (λ vm. refuses-then _ _ after-vm-refuses (λ _. refuses-yield vm)))
       (refuses-refuse 6 (p 6 refl))))
 
+  -- Every reply that refuses a header satisfies P.
   pub header-refuses : Refuses P header
   unfolding header
   header-refuses =
@@ -118,23 +121,25 @@ module _ (P : ℕ → Type 0) (p : (r : ℕ) → FieldReply r → P r) where
       refuses-then _ _ (ref-count-refuses (sh .countwidth) (sh .count)) (λ n. refuses-then _ _ (spanned-refs-refuses (sh .refwidth) (v .address) top n) (λ ls.
       refuses-then _ _ (tail-refuses (sh .size) (sh .truelen) n) (λ t. refuses-yield _))))))
 
-  -- a record, of which an empty slot is one more refusal
+  -- Every reply that refuses a record satisfies P, if 10 does when the slot is empty.
   pub record-body-refuses : (h : Header) (before : ℕ) (c : Cache) (origin : Origin) (t : ℕ) → (slot-class c t ≡ Nothing → P 10) → Refuses P (record-body h before c origin t)
   unfolding record-body
   record-body-refuses h before c origin t ten =
       refuses-then _ _ (need-form-refuses _) (λ fm. refuses-then _ _ (refuses-need-nothing 10 _ ten) (λ known.
       refuses-then _ _ (flag-byte-refuses h t) (λ f. fields-refuses _ before c origin known _ _)))
 
--- a layout that refuses with such a reply only
+-- The layout refuses only with the replies 3 to 12.
 abbrev pub RefusalsOnly : {A : Type 0} → Layout A → Type 0
 RefusalsOnly l = Refuses PhdRefusal l
 
 field-is-refusal : (r : ℕ) → FieldReply r → PhdRefusal r
 field-is-refusal r k = and-left (leb 3 r && leb r 12) (not (eqb r 10)) k
 
+-- A header is refused only with the replies 3 to 12.
 pub header-refusals : RefusalsOnly header
 header-refusals = header-refuses PhdRefusal field-is-refusal
 
+-- A record is refused only with the replies 3 to 12.
 pub entry-refusals : (h : Header) (before : ℕ) (c : Cache) (index : ℕ) → RefusalsOnly (entry h before c index)
 unfolding from-tag
 entry-refusals h before c index = entry-refuses h before c index (λ origin.
@@ -142,11 +147,11 @@ entry-refusals h before c index = entry-refuses h before c index (λ origin.
 
 -- ---- the reading
 
--- what holds of a number of the replies 3 to 12
+-- `PhdRefusal` as two inequalities.
 pub refusal-bounds : (r : ℕ) → PhdRefusal r → (3 ≤ r) × (r ≤ 12)
 refusal-bounds r k = (leb-true _ _ (and-left (leb 3 r) (leb r 12) k), leb-true _ _ (and-right (leb 3 r) (leb r 12) k))
 
--- Any bytes and any room give one of the replies 0 to 14.
+-- Any bytes and any capacity give one of the replies 0 to 14.
 pub read-reply-le-14 : (s : List ℕ) (R F : ℕ) → read-result s R F .reply ≤ 14
 read-reply-le-14 s R F =
     read-replies phd (λ r. r ≤ 14) (record { done = lit≤ tt; cut = lit≤ tt; long = lit≤ tt; no-row = lit≤ tt; no-refs = lit≤ tt })

@@ -1,4 +1,4 @@
--- How many bytes a record takes at least and at most, and so how many rows and references a dump of a given length can give.
+-- The minimum and maximum size of a record, and the most rows and references that a dump of a given length can give.
 -- A reader must believe the numbers of "the bounds", `RowBytesBounds` and the statements.
 use mathlib.Core.Path.{_≡_, refl}
 use Prim.Native.Nat.{ℕ, _+_, _-_, _*_, _/_, _≤_, _<_}
@@ -30,22 +30,23 @@ use Rattle.phd_read.specs.ReadReplies.{RefusalsOnly, refusal-bounds, hea
 
 -- ---- the bounds
 
--- the fewest bytes of a header
+-- The minimum size of a header, in bytes.
 abbrev pub header-min : ℕ
 header-min = 31
 
--- the fewest of a record with so many references: its tag, a byte of gap, and one for each
+-- The minimum size of a record with `refs` references: its tag, a gap of one byte, and one byte for each reference.
 abbrev pub record-min : ℕ → ℕ
 record-min refs = 2 + refs
 
--- the most of a record, with a name of so many bytes and so many references
+-- The maximum size of a record with a name of `namelen` bytes and `refs` references.
 abbrev pub record-max : (namelen refs : ℕ) → ℕ
 record-max namelen refs = 34 + namelen + refs * 8
 
--- How many rows, and how many references, a dump of n bytes gives at most.
+-- The maximum number of rows that a dump of n bytes gives.
 abbrev pub max-rows : ℕ → ℕ
 max-rows n = (n - header-min) / record-min 0
 
+-- The maximum number of references that a dump of n bytes gives.
 abbrev pub max-refs : ℕ → ℕ
 max-refs n = n - header-min
 
@@ -70,7 +71,7 @@ takes-header-records =
     (λ _. takes-then-any _ _ (λ vm n₁. takes-then-any _ _ (λ _ n₂. takes-yield vm (omega (arith, e .0)))))
     (λ _. takes-refuse 6)))
 
--- A header has 31 bytes at least.
+-- A header has at least 31 bytes.
 takes-header : Takes (λ (_ : Header) n. header-min ≤ n) header
 unfolding header
 takes-header =
@@ -79,8 +80,8 @@ takes-header =
 
 -- ---- a record
 
--- The bytes of a record with the row number i, from one offset up to another. (A row's number 6 is its count of references, 10 the length
--- of its name.)
+-- The bytes from `offset` to `end`, those of the record of row i, lie within the bounds. (Number 6 of a row is its count of
+-- references, 10 the length of its name.)
 pub record RowBytesBounds (rows : List ℕ) (i : ℕ) (offset end : ℕ) : Type 0 where
   pub least : offset + record-min (number rows i 6) ≤ end
   pub most : end ≤ offset + record-max (number rows i 10) (number rows i 6)
@@ -120,11 +121,11 @@ phd-min-bytes = record {
   entry = λ h c index s at r rs m k e g. entry-ge-stored h (c .address) (c .cache) index s at r rs m k e g;
 }
 
--- What a reading stores has its bytes after the header: two for each row, and one for each reference.
+-- A dump has at least two bytes after the header for each stored row, and one for each stored reference.
 pub stored-fits-dump : (s : List ℕ) (R F : ℕ) → row-count (read-result s R F .rows) * record-min 0 + length (read-result s R F .refs) ≤ length s - header-min
 stored-fits-dump s R F = Any.stored-bound phd phd-lawful header-min (record-min 0) phd-min-bytes s (capacity R F)
 
--- A reply above 12 comes for want of capacity alone.
+-- Replies above 12 occur only if the tables are smaller than the bounds.
 module _ (s : List ℕ) (R F n : ℕ) (above : 12 < n) where
   not-refused : {A : Type 0} {l : Layout A} → RefusalsOnly l → Refuses (λ r. r ≡ n → ⊥) l
   not-refused g = record { each = λ s at r e z. omega (arith, refusal-bounds r (g .each s at r e) .1) }
@@ -134,14 +135,15 @@ module _ (s : List ℕ) (R F n : ℕ) (above : 12 < n) where
       Any.reply-when-enough phd phd-lawful header-min (record-min 0) phd-min-bytes s (capacity R F) (lit< tt) (λ r. r ≡ n → ⊥) (λ e. omega arith) (λ e. omega arith) (λ e. omega arith)
       (not-refused header-refusals) (λ h c index. not-refused (entry-refusals h (c .address) (c .cache) index)) p q
 
--- A table with a row for so many, or a number for so many references, is never too small.
+-- With capacity for `max-rows` rows, reply 13 does not occur.
 pub max-rows-enough : (s : List ℕ) (R F : ℕ) → max-rows (length s) * row-width ≤ R → read-result s R F .reply ≡ 13 → ⊥
 max-rows-enough s R F l = never-reply s R F 13 (lit< tt) (inl l) (inr (λ e. omega arith))
 
+-- With capacity for `max-refs` references, reply 14 does not occur.
 pub max-refs-enough : (s : List ℕ) (R F : ℕ) → max-refs (length s) ≤ F → read-result s R F .reply ≡ 14 → ⊥
 max-refs-enough s R F l = never-reply s R F 14 (lit< tt) (inr (λ e. omega arith)) (inl l)
 
--- The bytes of each stored row's record, from its offset to its end.
+-- The bytes of each stored row's record, from its offset to its end, lie within the bounds.
 pub row-bytes : (s : List ℕ) (R F i : ℕ) (l : i < row-count (read-result s R F .rows))
     → let x = phd-row-origins s R F .each i l in RowBytesBounds (read-result s R F .rows) i (x .before .at) (x .end)
 row-bytes s R F i l =
@@ -155,25 +157,27 @@ row-bytes s R F i l =
       most = rw (number-row-slice rows i 6 (omega arith), number-row-slice rows i 10 (omega arith)) (b .most);
     }
 
--- ---- the bounds are met
+-- ---- examples that reach the bounds
 
--- the end of what was read
+-- The offset after the bytes that were read; 0 if reading stops.
 abbrev end-of : {A : Type 0} → Outcome A → ℕ
 end-of (whole a e) = e
 end-of (stops w) = 0
 
--- A header without a VM string.
+-- A header of 31 bytes, without a VM string.
 abbrev small-header : List ℕ
 small-header = 0x00 ∷ 0x12 ∷ magic ++ 0x00 ∷ 0x00 ∷ 0x00 ∷ 0x06 ∷ 0x00 ∷ 0x00 ∷ 0x00 ∷ 0x01 ∷ 0x01 ∷ 0x02 ∷ 0x02 ∷ []
 
--- A short object with no reference, and with one, of a byte.
+-- A short object without references.
 abbrev small-object : List ℕ
 small-object = 0x80 ∷ 0x04 ∷ []
 
+-- A short object with one reference of one byte.
 abbrev small-with-ref : List ℕ
 small-with-ref = 0x88 ∷ 0x04 ∷ 0x01 ∷ []
 
--- An object array with a long gap, a class word of 64 bits and an int hash, of so many references, a long each, with these bytes.
+-- An object array with a gap of 8 bytes, a class word of 8, a hash of 4, and `count` references of 8 bytes each, with the bytes
+-- `refs`.
 abbrev large-array : ℕ → List ℕ → List ℕ
 large-array count refs =
     0x08 ∷ 0xF2 ∷ 0x00 ∷ 0x00 ∷ 0x00 ∷ 0x00 ∷ 0x00 ∷ 0x00 ∷ 0x04 ∷ 0x00 ∷ 0x00 ∷ 0x00 ∷ 0x00 ∷ 0x00 ∷ 0x00 ∷ 0x00 ∷ 0x10 ∷ 0x00
@@ -183,10 +187,11 @@ large-array count refs =
 abbrev header-64 : Header
 header-64 = record { bits = 64; hashed = false; openj9 = false; vm = no-string }
 
--- where a record ends that is read at 0, after one at 0x1000, with the class 0x1000 in a slot
+-- The offset after a record that is read at 0, after a record at the address 0x1000, with the class word 0x1000 in slot 0.
 abbrev entry-end : List ℕ → ℕ
 entry-end s = end-of (run (entry header-64 0x1000 (push empty-cache 0x1000) 0) s 0)
 
+-- The bounds of headers and records are exact: these examples reach them.
 pub bounds-met : (end-of (run header small-header 0) ≡ header-min)
     × (entry-end small-object ≡ record-min 0) × (entry-end small-with-ref ≡ record-min 1)
     × (entry-end (large-array 0 []) ≡ record-max 0 0) × (entry-end (large-array 1 (0x00 ∷ 0x00 ∷ 0x00 ∷ 0x00 ∷ 0x00 ∷ 0x00 ∷ 0x00 ∷ 0x01 ∷ [])) ≡ record-max 0 1)

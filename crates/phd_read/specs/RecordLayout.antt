@@ -1,4 +1,4 @@
--- A record that was read takes exactly the bytes of its shape, and its row is what its tag, its flag byte and its shape say.
+-- A record that was read takes exactly the bytes of its shape, and its row agrees with its tag, its flag byte and its shape.
 -- A reader must believe `FitsShape` and `HasLayout`.
 use mathlib.Core.Path.{_≡_, refl, ap}
 use Prim.Native.Nat.{ℕ, zero, suc, _+_, _*_, _/_, _≤_}
@@ -32,13 +32,13 @@ use Rattle.phd.specs.declared.TagForm.{TagForm}
 use Rattle.phd.specs.declared.TagForm.the-variants.{Begins, Other}
 use Rattle.phd.specs.declared.Tail.{Tail}
 
--- references, each away from the address a by a signed number of w bytes
+-- Every reference is the address a plus 4 times a signed number of w bytes, and at most top.
 abbrev pub AllRelative : (w a top : ℕ) → List ℕ → Type 0
 AllRelative w a top [] = Unit {0}
 AllRelative w a top (r ∷ rs) = AddressIn w a top r × AllRelative w a top rs
 
--- What a shape says of the row and the references that were read by it, after a record at the address `before`; `known` is the class
--- of a short record, top the highest address.
+-- The row r and the references rs agree with the shape by which they were read, after a record at the address `before`. `known`
+-- is the class word of a short object, from its slot; top is the highest address.
 pub record FitsShape (top before known : ℕ) (sh : Shape) (r : Row) (rs : List ℕ) : Type 0 where
   pub kind : r .kind ≡ sh .kind
   pub gap : AddressIn (sh .gap) before top (r .address)
@@ -48,8 +48,9 @@ pub record FitsShape (top before known : ℕ) (sh : Shape) (r : Row) (rs : List 
   pub refs : AllRelative (sh .refwidth) (r .address) top rs
   pub refs-count : length rs ≡ r .count
 
--- A record of n bytes with the row r and the references rs, read under the header h after one at the address `before`, with the cache
--- c: its tag and its flag byte name its form and its hash kind, the row fits its shape, and n are the bytes of its shape.
+-- The layout of a record of n bytes with the row r and the references rs, read under the header h after a record at the address
+-- `before`, with the cache c: its tag and its flag byte give its form and its hash kind, the row fits its shape, and n is the
+-- number of bytes of its shape.
 pub record HasLayout (h : Header) (before : ℕ) (c : Cache) (r : Row) (rs : List ℕ) (n : ℕ) : Type 0 where
   pub form : Form
   pub tag : ℕ
@@ -77,7 +78,7 @@ takes-middle sh hb =
     takes-then _ _ _ (takes-count (sh .inst)) (λ inst n e. takes-then _ _ _ (takes-field hb) (λ hash n₁ e₁.
     takes-then _ _ _ (takes-field (sh .superclass)) (λ superclass n₂ e₂. takes-yield _ (omega (arith, e .0, e₁ .0, e₂ .0)))))
 
--- a name's length has two bytes, where the form has a name
+-- The length of a name has two bytes, if the form has a name.
 abbrev NameWidth : ℕ → Type 0
 NameWidth w = (w ≡ 0 → ⊥) → w ≡ 2
 
@@ -120,18 +121,20 @@ takes-tail size truelen k =
 
 -- ---- the fields of a record
 
--- the bytes of the fields from the count on, and of all fields
+-- The bytes of the fields from the reference count on.
 abbrev bytes-from-ref-count : Shape → Row → ℕ
 bytes-from-ref-count sh r = sh .countwidth + r .count * sh .refwidth + (sh .size + sh .truelen)
 
+-- The bytes of all fields.
 abbrev fields-bytes : Shape → Row → ℕ
 fields-bytes sh r =
     sh .gap + sh .class + sh .len + (sh .inst + hash-bytes (r .hashkind) + sh .superclass) + (sh .name + r .namelen) + bytes-from-ref-count sh r
 
--- the row that was read, without its name's place
+-- The row that was read, without its name place.
 abbrev pub bare-row : List ℕ → Row
 bare-row row = without-place (row-at row 0)
 
+-- The fields of a record take n bytes, its hash kind is hk, and its row fits the shape.
 abbrev FieldsFit : (top before known hk : ℕ) → Shape → Item → ℕ → Type 0
 FieldsFit top before known hk sh end-item n = Unit {0}
 FieldsFit top before known hk sh (item r rs sp k) n =
@@ -169,7 +172,7 @@ module _ (top before : ℕ) (c : Cache) (origin : Origin) (known hk : ℕ) (sh :
       takes-weaken (takes-from-ref-count v m name (n + (n₁ + n₂)) (omega (arith, e .0, e₁, e₂)) (e .1) (e .2))
       (λ i k t. let z : n + (n₁ + (n₂ + k)) ≡ n + (n₁ + n₂) + k = omega arith in rw z t))))
 
--- ---- a record after its tag, and whole
+-- ---- a record after its tag, and a whole record
 
 shape-name-width : (w : ℕ) (fm : Form) (t f : ℕ) → NameWidth (shape w fm t f .name)
 unfolding shape
@@ -193,6 +196,7 @@ takes-flag-byte h t =
     takes-yield f (omega (arith, e .0, e₁ .0), λ l. e .1 (rw (le-ltb t 0x20 l)))))
 
 module _ (h : Header) (before : ℕ) (c : Cache) where
+  -- A record has a layout of n bytes.
   abbrev ItemHasLayout : Item → ℕ → Type 0
   ItemHasLayout end-item n = Unit {0}
   ItemHasLayout (item r rs sp k) n = HasLayout h before c (bare-row r) rs n
@@ -231,7 +235,7 @@ module _ (h : Header) (before : ℕ) (c : Cache) where
       one : (i : Item) (k n : ℕ) → n ≡ 1 → ItemHasLayout i (1 + k) → ItemHasLayout i (n + k)
       one i k n e x = rw e x
 
--- A record that is read at a place reaches as far from there as its tag, its flag byte and its shape say.
+-- A record that was read at `at` ends n bytes after it and has a layout of n bytes.
 pub entry-has-layout : (h : Header) (before : ℕ) (c : Cache) (index : ℕ) (s : List ℕ) (at : ℕ) (r rs : List ℕ) (sp : Span) (k : RecordContext) (e : ℕ)
     → run (entry h before c index) s at ≡ whole (item r rs sp k) e → (n : ℕ) × (e ≡ at + n) × HasLayout h before c (bare-row r) rs n
 entry-has-layout h before c index s at r rs sp k e g = takes-from-tag h before c (origin-at at index) .each s at (item r rs sp k) e (rw entry-from-tag at g)

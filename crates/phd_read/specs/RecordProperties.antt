@@ -1,4 +1,4 @@
--- What holds of a record that was read from a dump: its row's numbers, its address, and where its references are.
+-- Properties of a record that was read from a dump: the numbers of its row, its address, its tag, and where its references are.
 -- Assumes nothing.
 use mathlib.Core.Path.{_≡_, refl, subst}
 use Prim.Native.Nat.{ℕ, zero, suc, _+_, _≤_, _<_}
@@ -27,9 +27,9 @@ use Rattle.phd.specs.declared.TagForm.the-variants.{Begins, Other}
 use Rattle.phd.specs.declared.Span.{Span}
 use Rattle.reader.specs.Steps.{byte-advances}
 
--- ---- a record goes forth
+-- ---- progress
 
--- what is read takes a byte at least, its tag
+-- A record or an end tag takes at least one byte, its tag, and ends within the dump.
 pub entry-advances : (h : Header) (before : ℕ) (c : Cache) (index : ℕ) (s : List ℕ) (at : ℕ) (i : Item) (e : ℕ)
     → run (entry h before c index) s at ≡ whole i e → (at < e) × (e ≤ length s)
 unfolding from-tag field _>>=_
@@ -37,11 +37,12 @@ entry-advances h before c index s at i e r = byte-advances _ s at i e (rw entry-
 
 -- ---- references
 
--- n references, each in 1 to top
+-- The list has n references, each in 1 to top.
 pub record RefsInBounds (n top : ℕ) (rs : List ℕ) : Type 0 where
   pub many : length rs ≡ n
   pub range : all-within 1 top rs ≡ true
 
+-- Every list of n references that is read satisfies `RefsInBounds`.
 pub gives-ref-list : {s : List ℕ} (w a top n : ℕ) → Gives s (RefsInBounds n top) (ref-list w a top n)
 unfolding ref-list all-within
 gives-ref-list w a top zero = gives-yield [] (record { many = refl; range = refl })
@@ -49,7 +50,7 @@ gives-ref-list w a top (suc n) =
     gives-then _ _ _ (gives-ref w a top) (λ r p. gives-then _ _ _ (gives-ref-list w a top n) (λ rs q.
     gives-yield (r ∷ rs) (record { many = rw (q .many); range = rw (le-leb _ _ (p .0), le-leb _ _ (p .1), q .range) })))
 
--- The references of a record at the address a stand where their span says, and are as many.
+-- The references of a record at the address a are at the place that their span gives, with its width and count.
 pub record RefsAtSpan (s : List ℕ) (a top : ℕ) (ls : SpannedRefs) : Type 0 where
   pub end : ℕ
   pub read : run (ref-list (ls .span .width) a top (ls .span .count)) s (ls .span .place) ≡ whole (ls .list) end
@@ -75,7 +76,7 @@ gives-spanned-refs {s} w a top n small = record {
 
 -- ---- the record
 
--- What holds of a record with the row r, the references ls and the address a, read from s under the header facts h.
+-- Properties of a record with the row r, the references ls and the address a, read from s under the header h.
 pub record ReadFrom (h : Header) (s : List ℕ) (origin : Origin) (r : List ℕ) (ls : SpannedRefs) (a : ℕ) : Type 0 where
   pub numbers : length r ≡ row-width
   pub address : getD r 1 0 ≡ a
@@ -83,6 +84,7 @@ pub record ReadFrom (h : Header) (s : List ℕ) (origin : Origin) (r : List ℕ)
   pub most : a ≤ max-address (h .bits)
   pub refs : RefsAtSpan s a (max-address (h .bits)) ls
 
+-- A record satisfies `ReadFrom`; the end tag has no properties.
 abbrev ItemReadFrom : Header → List ℕ → Origin → Item → Type 0
 ItemReadFrom h s origin end-item = Unit {0}
 ItemReadFrom h s origin (item r rs sp k) = ReadFrom h s origin r (record { span = sp; list = rs }) (k .address)
@@ -106,9 +108,9 @@ gives-from-tag h s before c origin =
     gives-then-any _ _ (λ t. gives-cond (eqb t 3) _ _ (gives-yield end-item tt) (gives-then-any _ _ (λ fm. gives-then-any _ _ (λ known. gives-then-any _ _ (λ f.
     gives-fields h s before c origin known _ _ (ref-width-le-8 _ fm t f))))))
 
--- ---- its tag
+-- ---- the tag
 
--- a tag behind which a record was read begins one
+-- If a record was read after the byte t, then t is a record's tag.
 tag-has-form : (h : Header) (s : List ℕ) (before : ℕ) (c : Cache) (origin : Origin) (t m : ℕ) (r rs : List ℕ) (sp : Span) (k : RecordContext) (n : ℕ)
     → run (cond (eqb t 3) (yield end-item) (record-body h before c origin t)) s m ≡ whole (item r rs sp k) n → (fm : Form) × (tag-form t ≡ Begins fm)
 unfolding record-body need-form
@@ -125,7 +127,7 @@ tag-has-form h s before c origin t m r rs sp k n e = by (eqb t 3) (tag-form t) r
         let z : _≡_ {A = ℕ} 0 1 = cc in
         absurd (omega arith)
 
--- The byte where a record was read is a record's tag.
+-- The byte at which a record was read is a record's tag.
 pub entry-tag-form : (h : Header) (s : List ℕ) (before : ℕ) (c : Cache) (index at : ℕ) (r rs : List ℕ) (sp : Span) (k : RecordContext) (n : ℕ)
     → run (entry h before c index) s at ≡ whole (item r rs sp k) n → (fm : Form) × (tag-form (value (take 1 (drop at s))) ≡ Begins fm)
 unfolding from-tag
@@ -134,8 +136,9 @@ entry-tag-form h s before c index at r rs sp k n e =
     tag-has-form h s before c (origin-at at index) (value (take 1 (drop at s))) (at + 1) r rs sp k n
     (rw (entry-from-tag, run-then, run-field 1 s at (omega arith)) at e)
 
--- ---- a record that was read stands in the dump
+-- ---- a record of the dump
 
+-- Every record that was read satisfies `ReadFrom`.
 pub entry-read-from : (h : Header) (s : List ℕ) (before : ℕ) (c : Cache) (index at : ℕ) (r rs : List ℕ) (sp : Span) (k : RecordContext) (n : ℕ)
     → run (entry h before c index) s at ≡ whole (item r rs sp k) n → ReadFrom h s (origin-at at index) r (record { span = sp; list = rs }) (k .address)
 entry-read-from h s before c index at r rs sp k n e =

@@ -1,4 +1,4 @@
--- The counts that are returned.
+-- The counts that a reading returns are those of the rows and references stored.
 -- Assumes nothing.
 use mathlib.Core.Path.{_≡_, refl}
 use Prim.Native.Nat.{ℕ, _*_}
@@ -11,7 +11,8 @@ use Rattle.reader.specs.WithinCapacity.{read-within-capacity}
 use Rattle.phd_read.specs.ReadContract.{read-answer}
 use Rattle.phd_read.specs.PhdLaws.{phd-lawful}
 
--- The counts that are returned are those of what is stored.
+-- The row count returned times the row width is the length of the stored rows; the reference count is that of the stored
+-- references.
 pub stored-counts : (s : List ℕ) (R F : ℕ) → (read-answer (read-result s R F) .rows * row-width ≡ length (read-result s R F .rows)) × (read-answer (read-result s R F) .refs ≡ length (read-result s R F .refs))
 unfolding read-answer row-count
 stored-counts s R F = let k = read-within-capacity phd phd-lawful s (capacity R F) in (omega arith, refl)

@@ -1,5 +1,5 @@
-// Reading a portable heap dump into lent tables: the public operation `read`.
-// Its contract is one equation with the definition for the answer, and one for each table.
+// Reads a portable heap dump into the caller's tables: the public operation `read`.
+// Its contract is three equations with the definition: one for the answer and one for each table.
 ghost use mathlib.Core.Path.{_≡_};
 ghost use lib.ListN.{length};
 ghost use Rattle.phd.specs.Phd.{read-result, no-records};
@@ -12,8 +12,8 @@ use phd_header::HeaderRead;
 mod records;
 mod tables;
 
-// What a reading answers: the reply and its place, how many bytes the field lacked where the dump is cut, how many rows and
-// references were stored, and the header facts.
+// The answer of a reading: the reply and its place, the missing bytes of a cut dump, how many rows and references were stored,
+// and the header. Reply, place and missing bytes are the scope paper's terms (docs/FORMAT.md 8 and 5.2).
 pub struct ReadAnswer {
     pub reply: u64,
     pub place: usize,
@@ -23,7 +23,7 @@ pub struct ReadAnswer {
     pub header: Header,
 }
 
-// The answer of a reading that stops before the records.
+// Returns the answer of a reading that ends before the first record: place 0, nothing stored, an empty header.
 fn no_records(reply: u64, missing: usize) -> ReadAnswer
     ensures { λ r. ⌜ r ≡ read-answer (no-records reply missing) ⌝ }
 {
@@ -46,8 +46,8 @@ fn no_records(reply: u64, missing: usize) -> ReadAnswer
     }
 }
 
-// Reads a dump: its rows go to the start of `rows`, as many numbers to each as `table::ROW` says, and its references to the
-// start of `refs`. What a table holds behind them stays as it was.
+// Reads a dump. Stores its rows at the start of `rows`, `table::ROW_WIDTH` numbers each, and its references at the start of
+// `refs`; the rest of both tables is unchanged.
 pub fn read(dump: &[u8], rows: &mut [u64], refs: &mut [u64]) -> ReadAnswer
     ensures is { λ r. ⌜ r ≡ read-answer (read-result (now (dump .entry)) (length (now (rows .entry))) (length (now (refs .entry)))) ⌝ }
     ensures rows { λ _. ⌜ now (rows .exit) ≡ overwrite (now (rows .entry)) (read-result (now (dump .entry)) (length (now (rows .entry))) (length (now (refs .entry))) .rows) ⌝ }

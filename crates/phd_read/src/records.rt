@@ -1,4 +1,4 @@
-// Record after record: one step, and the loop over steps.
+// Reads the records of a dump: one step, and the loop over steps.
 ghost use mathlib.Core.Path.{_≡_};
 ghost use Prim.Native.Nat.{suc, _+_, _*_, _^_, _<_, _≤_};
 ghost use lib.ListN.{length};
@@ -19,7 +19,7 @@ use phd_record::Next;
 use phd_record::RecordRead;
 use reader::StepResult;
 
-// Where a reading stands between records: the place of the next tag, the address of the record before, the cache, and how
+// The state of a reading between two records: the offset of the next tag, the address of the record before, the cache, and how
 // many rows and references are stored.
 pub struct Cursor {
     pub at: usize,
@@ -29,13 +29,13 @@ pub struct Cursor {
     pub refs: usize,
 }
 
-// What a step returns: its result, and the cursor after it.
+// The answer of a step: its result, and the cursor after it.
 pub struct Stepped {
     pub result: StepResult,
     pub cursor: Cursor,
 }
 
-// The cursor after a record that was found.
+// Returns the cursor after the record `found`; the next tag is at `next`.
 fn advance(k: Cursor, next: usize, found: RecordRead) -> Cursor
     requires { ⌜ (k .rows + 1 < 2 ^ 64) × (k .refs + found .span .count < 2 ^ 64) ⌝ }
     ensures { λ r. ⌜ r ≡ advanced k next found ⌝ }
@@ -51,7 +51,7 @@ fn advance(k: Cursor, next: usize, found: RecordRead) -> Cursor
     }
 }
 
-// Stores a record that was found and has room, and moves on.
+// Stores the row and the references of a record, within the tables' capacity, and returns the cursor after it.
 fn store(
     s: &[u8],
     header: Header,
@@ -83,7 +83,7 @@ fn store(
     advance(k, next, found)
 }
 
-// Asks for room, for the row and then for the references, and stores the record.
+// Checks capacity, for the row (13) and then for the references (14), and stores the record.
 fn store_checked(
     s: &[u8],
     header: Header,
@@ -117,7 +117,7 @@ fn store_checked(
     }
 }
 
-// One record: the end of the reading, or the record stored.
+// Reads one record and stores it, or ends the reading and leaves the tables unchanged.
 pub fn step(s: &[u8], header: Header, rows: &mut [u64], refs: &mut [u64], k: Cursor) -> Stepped
     requires { ⌜ CursorInBounds (now s) (now rows) (now refs) k × ValidBits (header .bits) ⌝ }
     ensures { λ r. ⌜ StepContract header (now (s .entry)) k (now (rows .entry)) (now (refs .entry)) (now (rows .exit)) (now (refs .exit)) (r .cursor) (r .result) ⌝ }
@@ -138,7 +138,7 @@ pub fn step(s: &[u8], header: Header, rows: &mut [u64], refs: &mut [u64], k: Cur
     }
 }
 
-// The records of a dump, from the place of the first tag on.
+// Reads the records of a dump; the first tag is at `at`.
 pub fn read_records(
     s: &[u8],
     header: Header,

@@ -1,4 +1,4 @@
-// Storing the references of a record that has room.
+// Stores the references of a record, within the table's capacity.
 ghost use mathlib.Core.Path.{_≡_};
 ghost use mathlib.Core.Bool.{true};
 ghost use Prim.Native.Nat.{_+_, _*_, _^_, _≤_, _<_};
@@ -10,7 +10,8 @@ ghost use Rattle.phd.specs.Phd.{ref-list};
 ghost use Rattle.phd_read.specs.StoredRefs.{RefsAllRead, values-of};
 use decode::NumberRead;
 
-// Stores count references of a record whose address is clear of both ends, where four bytes more follow.
+// Stores `count` references without range checks: `base` is so far from 0 and from `top` that every value of w bytes gives a
+// valid reference. Each read takes four bytes at once, so four more bytes are required after the last reference.
 fn store_refs_in_range(
     s: &[u8],
     at: usize,
@@ -35,7 +36,8 @@ fn store_refs_in_range(
     }
 }
 
-// Stores count references that were judged, w bytes each and from a place of the dump on, from a place of the table on.
+// Stores `count` references of w bytes each, from offset `at` of the dump, to the table from index `to`. All of them have been
+// checked before.
 pub fn store_refs(
     s: &[u8],
     at: usize,

@@ -1,4 +1,4 @@
--- What the layout of an array finds where its bytes are there, part by part.
+-- If the bytes of an array are present, its layout gives the record that the fast path makes, part by part.
 use mathlib.Core.Path.{_≡_, refl, ap, _∙_}
 use mathlib.Core.Bool.{Bool, true, false, not, _&&_, _||_}
 use mathlib.Core.List.{List, []}
@@ -28,7 +28,7 @@ use Rattle.phd_record.specs.RecordOutcomes.{record-read-of, make-record}
 use Rattle.phd_record.specs.Arrays.{ArrayShape, after-front}
 use Rattle.phd_record.proofs.FastRecordLaws.{run-field-value, run-address, run-count, absent-field, absent-count, absent-name, absent-ref-count, absent-true-length, ref-list-in-range, front-whole, middle-whole, tail-whole, fields-whole, record-body-no-flags, slot-class-none}
 
--- ---- parts of 4 bytes, and a hash
+-- ---- fields of 4 bytes, and the hash
 
 module _ (s : List ℕ) (at w v : ℕ) (four : w ≡ 4) (in-bounds : at + 4 ≤ length s) where
   field-of-4 : v ≡ value (take 4 (drop at s)) → run (field w) s at ≡ whole v (at + 4)
@@ -38,7 +38,7 @@ module _ (s : List ℕ) (at w v : ℕ) (four : w ≡ 4) (in-bounds : at + 4 ≤ 
   unfolding ref-count
   ref-count-of-4 k e = rw four (run-count s at 4 v in-bounds e)
 
-  -- a true length, which is at least n
+  -- A true length of at least the reference count n is accepted.
   true-length-of-4 : (n : ℕ) → to-count (signed 4 (value (take 4 (drop at s)))) ≡ Just v → n ≤ v → run (true-length w n) s at ≡ whole v (at + 4)
   unfolding true-length
   true-length-of-4 n e l = rw (four, run-then, run-count s at 4 v in-bounds e, run-then, run-check, le-leb n v l, run-yield)
@@ -53,9 +53,9 @@ hash-whole s sh hk hb hash at i u eb eh h =
     (run-field-value s at hb hash (at + hb) h refl eh)
     (absent-field s (at + hb) (sh .superclass) u h))
 
--- ---- an object array
+-- ---- object arrays
 
--- its flag byte is one byte
+-- The flag byte of an object array takes one byte.
 pub flag-byte-end : (h : Header) (s : List ℕ) (at f p : ℕ) → at + 1 ≤ length s → run (flag-byte h 8) s at ≡ whole f p → p ≡ at + 1
 unfolding flag-byte
 flag-byte-end h s at f p l e = by (not (h .hashed && (moved-bit 8 x || hashed-bit 8 x))) refl
@@ -73,6 +73,7 @@ flag-byte-end h s at f p l e = by (not (h .hashed && (moved-bit 8 x || hashed-bi
         absurd (omega arith)
 
 module _ (w t f : ℕ) where
+  -- An object array has the shape `ArrayShape`, a class word of w bytes, and no array length field.
   pub array-shape : ArrayShape (shape w ObjectArray t f)
   unfolding shape
   array-shape = record { inst = refl; superclass = refl; name = refl; countwidth = refl; size = refl; truelen = refl }
@@ -85,7 +86,7 @@ module _ (w t f : ℕ) where
   unfolding shape
   array-len = refl
 
--- from behind its front on
+-- The fields after the front part.
 module _ (top : ℕ) (c : Cache) (origin : Origin) (hk : ℕ) (sh : Shape) (v : Front) (s : List ℕ) (at : ℕ) where
   after-front-whole : (m : Middle) (name : StringSpan) (n : ℕ) (rs : List ℕ) (t : Tail) (p1 p2 p3 p4 p5 : ℕ)
       → run (middle sh (hash-bytes hk)) s at ≡ whole m p1
@@ -98,6 +99,8 @@ module _ (top : ℕ) (c : Cache) (origin : Origin) (hk : ℕ) (sh : Shape) (v : 
   after-front-whole m name n rs t p1 p2 p3 p4 p5 f g h i j =
       rw (run-then, f, run-then, g, run-then, h, run-then, run-then, run-position, run-then, i, run-yield, run-then, j, run-yield)
 
+  -- If all bytes are present, the references are in range and the true length is at least the count n, the layout gives the
+  -- object array with these numbers.
   pub array-after-front : (hb hash n size truelen : ℕ) (name : StringSpan) → ArrayShape sh → hb ≡ hash-bytes hk → refs-in-range (sh .refwidth) (v .address) top ≡ true
       → hash ≡ value (take hb (drop at s)) → to-count (signed 4 (value (take 4 (drop (at + hb) s)))) ≡ Just n
       → at + hb + 4 + n * sh .refwidth + 8 ≤ length s
@@ -133,7 +136,7 @@ module _ (h : Header) (before : ℕ) (c : Cache) (origin : Origin) (s : List ℕ
   unfolding fields after-front
   fields-after-front v p q e = rw (run-then, e)
 
-  -- up to its hash
+  -- After flag byte, gap and class word, `after-front` is left.
   pub array-front : (f p a w : ℕ) → run (flag-byte h 8) s at ≡ whole f p
       → top ≡ max-address (h .bits) → hk ≡ hash-kind h 8 f → sh ≡ shape (h .bits / 8) ObjectArray 8 f
       → p + sh .gap + sh .class ≤ length s
@@ -152,8 +155,9 @@ module _ (h : Header) (before : ℕ) (c : Cache) (origin : Origin) (s : List ℕ
       (run-field-value s (p + sh .gap) (sh .class) w q in-bounds refl ew)
       (absent-count s q (sh .len) n in-bounds))
 
--- ---- a primitive array
+-- ---- primitive arrays
 
+-- The shape of a primitive array: the fields that it lacks, one width for gap and length, and a size of 4 bytes.
 pub record PrimitiveShape (sh : Shape) : Type 0 where
   pub class : sh .class ≡ 0
   pub len : sh .len ≡ sh .gap
@@ -183,6 +187,7 @@ tag-form-primitive : (t : ℕ) → 0x20 ≤ t → t < 0x40 → tag-form t ≡ Be
 unfolding tag-form
 tag-form-primitive t low high = rw (lt-leb 0x80 t (omega arith), lt-leb 0x40 t high, le-leb 0x20 t low)
 
+-- If all bytes are present and address and length are in range, the layout gives the primitive array with these numbers.
 pub primitive-whole : (h : Header) (before : ℕ) (c : Cache) (origin : Origin) (s : List ℕ) (at top hk : ℕ) (sh : Shape) (t hb a n hash size : ℕ) (name : StringSpan)
     → 0x20 ≤ t → t < 0x40
     → top ≡ max-address (h .bits) → hk ≡ hash-kind h t 0 → sh ≡ shape (h .bits / 8) Primitive t 0 → hb ≡ hash-bytes hk

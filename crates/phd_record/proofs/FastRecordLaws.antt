@@ -1,4 +1,5 @@
--- What the layout of a record finds where its bytes are there and its references need no judging, part by part.
+-- If the bytes of a record are present and its references are in range by its address alone, its layout gives the record that the
+-- fast path makes, part by part.
 use mathlib.Core.Path.{_≡_, refl, sym, ap, _∙_}
 use mathlib.Core.Bool.{Bool, true, false, not, cond, _&&_, _||_}
 use mathlib.Core.List.{List, [], _∷_}
@@ -33,8 +34,9 @@ use Rattle.phd_record.specs.RecordOutcomes.{record-read-of, make-record}
 use Rattle.phd_record.specs.FastPath.{HitAgrees, ClassWidth}
 use Rattle.phd_record.specs.declared.RecordRead.{RecordRead}
 
--- ---- one field
+-- ---- fields
 
+-- A field whose bytes are present gives their value; as an address or a count, if it is in range.
 module _ (s : List ℕ) (at n : ℕ) where
   pub run-field-value : (v e : ℕ) → e ≤ length s → e ≡ at + n → v ≡ value (take n (drop at s)) → run (field n) s at ≡ whole v e
   run-field-value v e h p q = rw (p, q, run-field n s at (omega arith))
@@ -48,12 +50,12 @@ module _ (s : List ℕ) (at n : ℕ) where
   unfolding count
   run-count k h e = rw (run-then, run-field n s at h, run-need, e)
 
--- no bytes are 0
+-- The value of no bytes is 0.
 pub value-no-bytes : (s : List ℕ) (n : ℕ) → n ≡ 0 → 0 ≡ value (take n s)
 unfolding value-after
 value-no-bytes s n e = sym (ap (λ (k : ℕ). value (take k s)) e)
 
--- a field that a form lacks
+-- A field that a form lacks (n is 0) takes no bytes.
 module _ (s : List ℕ) (at n : ℕ) (no : n ≡ 0) where
   pub absent-field : at ≤ length s → run (field n) s at ≡ whole 0 at
   absent-field h = rw (no, run-field-empty s at h)
@@ -74,8 +76,9 @@ module _ (s : List ℕ) (at n : ℕ) (no : n ≡ 0) where
   unfolding true-length
   absent-true-length k = rw (no, run-yield)
 
--- ---- references that need no judging
+-- ---- references in range
 
+-- n references are read whole if their bytes are present and every value of w bytes gives an address in range.
 module _ (w a top : ℕ) (s : List ℕ) (c : refs-in-range w a top ≡ true) where
   pub ref-list-in-range : (n at : ℕ) → at + n * w ≤ length s → (rs : List ℕ) × (run (ref-list w a top n) s at ≡ whole rs (at + n * w))
   ref-list-in-range zero at h =
@@ -97,8 +100,9 @@ module _ (w a top : ℕ) (s : List ℕ) (c : refs-in-range w a top ≡ true) whe
             ∙ ap (whole (v ∷ more .0)) f,
       )
 
--- ---- the parts of a record
+-- ---- parts of a record
 
+-- Each part is read whole if its fields are.
 module _ (s : List ℕ) (at : ℕ) where
   pub front-whole : (top before : ℕ) (sh : Shape) (a class len p q e : ℕ)
       → run (address (sh .gap) before top) s at ≡ whole a p
@@ -123,7 +127,7 @@ module _ (s : List ℕ) (at : ℕ) where
   unfolding tail
   tail-whole size truelen n z t p e f g = rw (run-then, f, run-then, g, run-yield)
 
--- the fields after the tag and the flag byte, from their parts
+-- The fields after the tag and the flag byte give the whole record if each part is read whole.
 module _ (top before : ℕ) (c : Cache) (origin : Origin) (known hk : ℕ) (sh : Shape) (s : List ℕ) (at : ℕ) where
   pub fields-whole : (v : Front) (m : Middle) (name : StringSpan) (n : ℕ) (rs : List ℕ) (t : Tail) (p1 p2 p3 p4 p5 p6 : ℕ)
       → run (front top before sh) s at ≡ whole v p1
@@ -137,8 +141,9 @@ module _ (top before : ℕ) (c : Cache) (origin : Origin) (known hk : ℕ) (sh :
   fields-whole v m name n rs t p1 p2 p3 p4 p5 p6 f g h i j k =
       rw (run-then, f, run-then, g, run-then, h, run-then, i, run-then, run-then, run-position, run-then, j, run-yield, run-then, k, run-yield)
 
--- ---- a record behind a tag that has no flag byte
+-- ---- records without a flag byte
 
+-- Without a flag byte no hash bit is set.
 no-hash-bits : (h : Bool) (t : ℕ) → 0x20 ≤ t → not (h && (moved-bit t 0 || hashed-bit t 0)) ≡ true
 unfolding moved-bit hashed-bit bit
 no-hash-bits true t l = rw (ne-eqb t 6 (λ e. omega arith))
@@ -149,24 +154,27 @@ module _ (h : Header) (before : ℕ) (c : Cache) (origin : Origin) (t : ℕ) (s 
   unfolding flag-byte
   flag-byte-absent l i = rw (le-ltb t 0x20 l, run-then, run-field-empty s at i, run-then, run-check, no-hash-bits (h .hashed) t l, run-yield)
 
+  -- After a tag from 0x20 on, the fields follow directly.
   pub record-body-no-flags : (fm : Form) (known : ℕ) → 0x20 ≤ t → at ≤ length s → tag-form t ≡ Begins fm → slot-class c t ≡ Just known
       → run (record-body h before c origin t) s at
       ≡ run (fields (max-address (h .bits)) before c origin known (hash-kind h t 0) (shape (h .bits / 8) fm t 0)) s at
   unfolding record-body need-form
   record-body-no-flags fm known l i f k = rw (run-then, f, run-yield, run-then, run-need, k, run-then, flag-byte-absent l i)
 
--- the tag, and then the record behind it
+-- An entry whose tag is not the end tag is the tag and the record after it.
 pub entry-body : (h : Header) (before : ℕ) (c : Cache) (index t : ℕ) (s : List ℕ) (at : ℕ) → at + 1 ≤ length s → t ≡ value (take 1 (drop at s)) → (t ≡ 3 → ⊥)
     → run (entry h before c index) s at ≡ run (record-body h before c (origin-at at index) t) s (at + 1)
 unfolding from-tag
 entry-body h before c index t s at l e n = rw (entry-from-tag, run-then, run-field 1 s at l, ← e, ne-eqb t 3 n)
 
--- where nothing is taken, nothing is said
+-- A miss satisfies the contract of the fast path.
 pub miss-agrees : (c : Cache) (o : Outcome Item) (hit : Bool) (f : RecordRead) → hit ≡ false → HitAgrees c o hit f
 miss-agrees c o hit f e x = let z : _≡_ {A = ℕ} 0 1 = cc in absurd (omega arith)
 
--- ---- objects: a gap, a class word, a hash, and references that the tag counts
+-- ---- short and medium objects
 
+-- The shape of a short or medium object: the fields that it lacks, and the most bytes of its gap, its class word and all its
+-- references (7 of 8 bytes); the tag counts the references.
 pub record ObjectShape (sh : Shape) : Type 0 where
   pub len : sh .len ≡ 0
   pub inst : sh .inst ≡ 0
@@ -202,7 +210,7 @@ module _ (w t : ℕ) where
       let r : t / 0x08 % 8 * width (t % 4) ≤ 56 = refs-le-56 _ (omega arith) in
       omega arith
 
--- W in bytes
+-- W in bytes is a width of a class word.
 pub bits-class-width : (w : ℕ) → ValidBits w → ClassWidth (w / 8)
 bits-class-width w h = inr (⊎-elim (λ e. inl (omega arith)) (λ e. inr (omega arith)) h)
 
@@ -213,7 +221,7 @@ tag-short-or-medium : (b : Bool) (fm : Form) → cond b (Begins Short) (Begins M
 tag-short-or-medium true fm e = inl cc
 tag-short-or-medium false fm e = inr cc
 
--- the form that a tag from 0x40 on begins
+-- A tag from 0x40 on begins a short or a medium object.
 module _ (w t : ℕ) (fm : Form) (l : 0x40 ≤ t) (g : tag-form t ≡ Begins fm) (h : ClassWidth w) where
   object-forms : (fm ≡ Short) ⊎ (fm ≡ Medium)
   unfolding tag-form
@@ -231,15 +239,17 @@ pick-few true b = omega arith
 pick-few false true = omega arith
 pick-few false false = omega arith
 
+-- A hash has at most 4 bytes.
 pub hash-width-le-4 : (k : ℕ) → hash-bytes k ≤ 4
 unfolding hash-bytes
 hash-width-le-4 k = pick-few (eqb k 2) (eqb k 3)
 
+-- A tag below 0x80 names no slot.
 pub slot-class-none : (c : Cache) (t : ℕ) → t < 0x80 → slot-class c t ≡ Just 0
 unfolding slot-class
 slot-class-none c t l = rw (lt-leb 0x80 t l)
 
--- What is found of an object, where the code's numbers are what the layout says of them.
+-- If the numbers in the code are those of the layout, the layout gives the object that the code makes.
 module _ (top before : ℕ) (c : Cache) (origin : Origin) (known hk hb : ℕ) (sh : Shape) (s : List ℕ) (at a class from hash place end : ℕ) (ob : ObjectShape sh)
     (hbs : hb ≡ hash-bytes hk)
     (gap : add-gap top before (signed (sh .gap) (value (take (sh .gap) (drop at s)))) ≡ Just a)

@@ -1,4 +1,4 @@
--- What is left of a record behind its front part, and the shape of an object array. Assumes nothing.
+-- The layout of a record after its front part, and the shape of an object array. Assumes nothing.
 use mathlib.Core.Path.{_≡_}
 use Prim.Native.Nat.{ℕ}
 use Rattle.decode.specs.Layout.{Layout, _>>=_}
@@ -8,7 +8,7 @@ use Rattle.phd.specs.declared.Shape.{Shape}
 use Rattle.phd.specs.declared.Front.{Front}
 use Rattle.phd.specs.declared.cache.Cache.{Cache}
 
--- the fields that an object array lacks, and the bytes of its count, size and true length
+-- The shape of an object array: the fields that it lacks, and the bytes of its reference count, size and true length.
 pub record ArrayShape (sh : Shape) : Type 0 where
   pub inst : sh .inst ≡ 0
   pub superclass : sh .superclass ≡ 0
@@ -17,7 +17,7 @@ pub record ArrayShape (sh : Shape) : Type 0 where
   pub size : sh .size ≡ 4
   pub truelen : sh .truelen ≡ 4
 
--- the fields of a record, as `fields` of phd has them, from behind the front v on
+-- The fields of a record after its front part v, as in `Phd.fields`, for forms that use no slot (`known` is 0).
 unfoldable pub after-front : ℕ → Cache → Origin → ℕ → Shape → Front → Layout Item
 after-front top c origin hk sh v = do
   m ← middle sh (hash-bytes hk)

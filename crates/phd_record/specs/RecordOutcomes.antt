@@ -1,4 +1,4 @@
--- The functions' answers, as outcomes of layouts.
+-- The functions' answers and the outcomes of layouts: how each follows from the other.
 -- Assumes nothing.
 use mathlib.Core.Path.{_≡_, refl, sym, ap, _∙_}
 use Prim.Native.Nat.{ℕ}
@@ -29,6 +29,7 @@ use Rattle.phd_record.specs.declared.Next.{Next}
 use Rattle.phd_record.specs.declared.Next.the-variants.{Over, Record, Stops}
 use Rattle.phd_record.specs.declared.RecordRead.{RecordRead}
 
+-- The outcomes of the answers for the three parts.
 abbrev pub front-outcome : FrontRead → Outcome Front
 front-outcome (IsFront v next) = whole v next
 front-outcome (StopsFront w) = stops w
@@ -41,22 +42,22 @@ abbrev pub tail-outcome : TailRead → Outcome Tail
 tail-outcome (IsTail v next) = whole v next
 tail-outcome (StopsTail w) = stops w
 
--- references that were judged, by what reading them finds
+-- The answer of `check_refs` for the outcome of reading the references; their values are dropped.
 abbrev pub refs-read-of : Outcome (List ℕ) → RefsRead
 refs-read-of (whole rs next) = IsRefs next
 refs-read-of (stops w) = StopsRefs w
 
--- no record: the cache stays as it is
+-- The answer without a record: its numbers are 0, the cache is unchanged.
 unfoldable pub no-record : Next → Cache → RecordRead
 no-record w c = record { next = w; row = replicate row-width 0; span = record { place = 0; width = 0; count = 0 }; address = 0; cache = c }
 
--- what stands at a tag, by what reading it with the cache c finds
+-- The answer of `read_record` for the outcome of reading at a tag, with the cache c before it.
 unfoldable pub record-read-of : Cache → Outcome Item → RecordRead
 record-read-of c (whole end-item n) = no-record (Over n) c
 record-read-of c (whole (item r rs sp k) n) = record { next = Record n; row = r; span = sp; address = k .address; cache = k .cache }
 record-read-of c (stops w) = no-record (Stops w) c
 
--- a record whole, whose n references stand at a place
+-- The answer for a whole record whose n references begin at offset `place`; `next` is the offset after the record.
 unfoldable pub make-record : ℕ → ℕ → ℕ → Tail → Cache → Origin → ℕ → ℕ → Shape → Front → Middle → StringSpan → RecordRead
 make-record next place n t c origin known hk sh v m name = record {
   next = Record next;
@@ -66,9 +67,9 @@ make-record next place n t c origin known hk sh v m name = record {
   cache = cond (sh .cached) (push c (v .class)) c;
 }
 
--- ---- what was found, by what the answer says
+-- ---- outcomes from answers
 
--- what an answer says stands at the tag
+-- What is at the tag, by the outcome.
 abbrev next-of : Outcome Item → Next
 next-of (whole end-item n) = Over n
 next-of (whole (item r rs sp k) n) = Record n
@@ -84,6 +85,7 @@ module _ (c : Cache) (o : Outcome Item) (f : RecordRead) (is : f ≡ record-read
   next-is : (w : Next) → f .next ≡ w → next-of o ≡ w
   next-is w e = sym (record-read-next c o) ∙ ap (λ (g : RecordRead). g .next) (sym is) ∙ e
 
+  -- If the answer is the end, a stop or a record, so is the outcome.
   pub record-read-over : (n : ℕ) → f .next ≡ Over n → o ≡ whole end-item n
   record-read-over n e = by o (next-is (Over n) e)
     where

@@ -1,5 +1,6 @@
-// Objects and arrays of the common forms, read at once where enough bytes follow and their references need no judging. What
-// a function here does not take is read field by field, as any record can be.
+// The fast path: reads objects and arrays of the common forms at once if enough bytes follow and all references are in range by
+// the record's address alone. If it declines, the general path (`read_body`) reads the record field by field. The record of a
+// hit is proved equal to the layout's; whether there is a hit affects speed only.
 ghost use mathlib.Core.Path.{_≡_};
 ghost use mathlib.Core.Bool.{true, false};
 ghost use Prim.Native.Nat.{_+_, _≤_, _<_};
@@ -30,12 +31,13 @@ use phd::Origin;
 use phd::Shape;
 use phd::Tail;
 
-// A record that was taken; or none, and then `found` says nothing.
+// The answer of the fast path: a record if there was a hit; else `found` has no meaning.
 pub struct FastRead {
     pub hit: bool,
     pub found: RecordRead,
 }
 
+// Returns a hit with its record.
 fn hit(found: RecordRead) -> FastRead
     ensures { λ r. ⌜ (r .hit ≡ true) × (r .found ≡ found) ⌝ }
 {
@@ -45,7 +47,7 @@ fn hit(found: RecordRead) -> FastRead
     }
 }
 
-// Nothing is taken.
+// Returns a miss: the fast path declines.
 fn miss(cache: Cache) -> FastRead
     ensures { λ r. ⌜ r .hit ≡ false ⌝ }
 {
@@ -55,6 +57,7 @@ fn miss(cache: Cache) -> FastRead
     }
 }
 
+// Returns the name of a record that has none.
 fn no_name() -> StringSpan
     ensures { λ r. ⌜ r ≡ no-string ⌝ }
 {
@@ -65,7 +68,7 @@ fn no_name() -> StringSpan
     }
 }
 
-// The address that a gap of a byte or a short gives.
+// Returns the address by a gap of at most 2 bytes, if it is in range.
 fn address_by_gap2(s: &[u8], at: usize, n: usize, base: u64, top: u64) -> Maybe
     requires { ⌜ (n ≤ 2) × (at + 2 ≤ length (now s)) ⌝ }
     ensures { λ r. ⌜ r ≡ add-gap top base (signedOf n (value (take n (drop at (now (s .entry)))))) ⌝ }
@@ -75,7 +78,7 @@ fn address_by_gap2(s: &[u8], at: usize, n: usize, base: u64, top: u64) -> Maybe
     decode::add_gap(base, gap, top)
 }
 
-// The address that a gap of at most four bytes gives.
+// Returns the address by a gap of at most 4 bytes, if it is in range.
 fn address_by_gap4(s: &[u8], at: usize, n: usize, base: u64, top: u64) -> Maybe
     requires { ⌜ (n ≤ 4) × (at + 4 ≤ length (now s)) ⌝ }
     ensures { λ r. ⌜ r ≡ add-gap top base (signedOf n (value (take n (drop at (now (s .entry)))))) ⌝ }
@@ -85,7 +88,7 @@ fn address_by_gap4(s: &[u8], at: usize, n: usize, base: u64, top: u64) -> Maybe
     decode::add_gap(base, gap, top)
 }
 
-// A count of at most four bytes.
+// Returns a count of at most 4 bytes, if it is in range.
 fn count_of4(s: &[u8], at: usize, n: usize) -> Maybe
     requires { ⌜ (n ≤ 4) × (at + 4 ≤ length (now s)) ⌝ }
     ensures { λ r. ⌜ r ≡ to-count (signedOf n (value (take n (drop at (now (s .entry)))))) ⌝ }
@@ -94,7 +97,7 @@ fn count_of4(s: &[u8], at: usize, n: usize) -> Maybe
     decode::to_count(decode::signed(raw, n))
 }
 
-// A hash of n bytes, or 0 where there is none.
+// Returns a hash of n bytes, or 0 if there is none (n is 0).
 fn hash_at(s: &[u8], at: usize, n: usize) -> u64
     requires { ⌜ (n ≤ 4) × (at + 4 ≤ length (now s)) ⌝ }
     ensures { λ r. ⌜ r ≡ value (take n (drop at (now (s .entry)))) ⌝ }
@@ -105,7 +108,7 @@ fn hash_at(s: &[u8], at: usize, n: usize) -> u64
     decode_fast::be_upto4(s, at, n)
 }
 
-// A class word of w bytes, 4 or 8, or 0 where there is none.
+// Returns a class word of w bytes (4 or 8), or 0 if there is none (w is 0).
 fn class_word(s: &[u8], at: usize, w: usize) -> u64
     requires { ⌜ (at + 8 ≤ length (now s)) × ClassWidth w ⌝ }
     ensures { λ r. ⌜ r ≡ value (take w (drop at (now (s .entry)))) ⌝ }
@@ -119,7 +122,7 @@ fn class_word(s: &[u8], at: usize, w: usize) -> u64
     decode_fast::be_u32(s, at)
 }
 
-// The form of an object with no flag byte, by its tag.
+// Returns the form of an object without a flag byte, by its tag.
 fn object_form(tag: u64) -> Form
     requires { ⌜ 0x40 ≤ tag ⌝ }
     ensures { λ r. ⌜ tag-form tag ≡ Begins r ⌝ }
@@ -130,7 +133,7 @@ fn object_form(tag: u64) -> Form
     Form::Medium
 }
 
-// A short or medium object behind its tag.
+// Decodes a short or medium object after its tag.
 fn read_object(
     s: &[u8],
     at: usize,
@@ -191,7 +194,7 @@ fn read_object(
     ))
 }
 
-// A primitive array behind its tag.
+// Decodes a primitive array after its tag.
 fn read_primitive(
     s: &[u8],
     at: usize,
@@ -248,7 +251,7 @@ fn read_primitive(
     ))
 }
 
-// An object array behind its tag.
+// Decodes an object array after its tag.
 fn read_array(
     s: &[u8],
     at: usize,
@@ -292,7 +295,7 @@ fn read_array(
     )
 }
 
-// The fields of an object array from the hash on.
+// Decodes the fields of an object array from the hash on.
 fn read_array_from_hash(
     s: &[u8],
     at: usize,
@@ -346,7 +349,7 @@ fn read_array_from_hash(
     ))
 }
 
-// A record of a common form, its tag included, where a hundred bytes follow.
+// Decodes a record of a common form from its tag on, if at least 100 bytes are left.
 pub fn read_fast(
     s: &[u8],
     at: usize,

@@ -1,4 +1,4 @@
-// The fields of a record behind its tag and flag byte, in file order.
+// Reads the fields of a record after its tag and flag byte, in file order.
 ghost use mathlib.Core.Path.{_≡_};
 ghost use Prim.Native.Nat.{_≤_};
 ghost use lib.ListN.{length};
@@ -24,7 +24,7 @@ use phd::Shape;
 use phd::Span;
 use phd::Tail;
 
-// A record whole: its references stand at a place, n of them, and the record ends before the next place.
+// Returns the answer for a whole record: its n references begin at offset `place`, and `next` is the offset after the record.
 pub fn make_record(
     next: usize,
     place: usize,
@@ -56,7 +56,7 @@ pub fn make_record(
     }
 }
 
-// The fields from the reference count on, and the record whole.
+// Decodes the fields from the reference count on and returns the whole record.
 fn read_from_ref_count(
     s: &[u8],
     at: usize,
@@ -93,7 +93,7 @@ fn read_from_ref_count(
     }
 }
 
-// The fields after the tag and the flag byte.
+// Decodes the fields after the tag and the flag byte.
 pub fn read_fields(
     s: &[u8],
     at: usize,

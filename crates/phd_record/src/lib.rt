@@ -1,5 +1,6 @@
-// One record of a dump: its fields, judged in file order, and the row that they make. Nothing is stored here.
-// Each function's contract is an equation with a layout of the format's definition, phd's specs/Phd.antt.
+// Reads one record of a dump: checks its fields in file order and returns the row that they make. Nothing is stored here.
+// Each function's contract is an equation with a layout of the format's definition (crates/phd/specs/Phd.antt); for the fast
+// path the equation holds if there is a hit.
 ghost use mathlib.Core.Path.{_≡_};
 ghost use Prim.Native.Nat.{_≤_};
 ghost use lib.ListN.{length};
@@ -21,14 +22,15 @@ mod fields;
 mod parts;
 mod refs;
 
-// What stands at a tag: the end, a record with the place after it, or why reading stops there.
+// What is at a tag: the end or a record, each with the offset after it, or why reading stops there.
 pub enum Next {
     Over(usize),
     Record(usize),
     Stops(Stop),
 }
 
-// What stands at a tag, with the record's row, its references' place, its address and the cache after it.
+// The answer of `read_record`: what is at the tag and, for a record, its row, the span of its references, its address and the
+// cache after it.
 pub struct RecordRead {
     pub next: Next,
     pub row: [u64; table::ROW_WIDTH],
@@ -37,7 +39,7 @@ pub struct RecordRead {
     pub cache: Cache,
 }
 
-// No record: the cache stays as it is.
+// Returns the answer without a record: its numbers are 0, the cache is unchanged.
 pub fn no_record(next: Next, cache: Cache) -> RecordRead
     ensures { λ r. ⌜ r ≡ no-record next cache ⌝ }
 {
@@ -54,7 +56,7 @@ pub fn no_record(next: Next, cache: Cache) -> RecordRead
     }
 }
 
-// A record behind its tag.
+// Decodes a record after its tag, on the general path.
 fn read_body(
     s: &[u8],
     at: usize,
@@ -85,7 +87,7 @@ fn read_body(
     }
 }
 
-// The end tag, or a record whole. `before` is the address of the record before, `index` the count of references so far.
+// Decodes the end tag or a whole record. `before` is the address of the record before, `index` the number of references so far.
 pub fn read_record(
     s: &[u8],
     at: usize,

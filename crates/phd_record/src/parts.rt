@@ -1,4 +1,4 @@
-// The parts of a record before and behind its references, and the row that they make.
+// Reads the parts of a record before and after its references, and makes the row.
 ghost use mathlib.Core.Path.{_≡_};
 ghost use Prim.Native.Nat.{_≤_};
 ghost use lib.ListN.{length};
@@ -17,7 +17,7 @@ use phd::Origin;
 use phd::Shape;
 use phd::Tail;
 
-// Each part, with the place after it, or why it stops.
+// The answers for the three parts: the part and the offset after it, or why reading stops in it.
 pub enum FrontRead {
     Is(Front, usize),
     Stops(Stop),
@@ -33,7 +33,7 @@ pub enum TailRead {
     Stops(Stop),
 }
 
-// Gap, class word and array length.
+// Decodes gap, class word and array length.
 pub fn read_front(s: &[u8], at: usize, top: u64, before: u64, sh: Shape) -> FrontRead
     requires { ⌜ (at ≤ length (now s)) × WidthsLe8 sh ⌝ }
     ensures { λ r. ⌜ front-outcome r ≡ run (front top before sh) (now (s .entry)) at ⌝ }
@@ -66,7 +66,7 @@ pub fn read_front(s: &[u8], at: usize, top: u64, before: u64, sh: Shape) -> Fron
     }
 }
 
-// A class's instance size, the hash of hb bytes and the superclass word.
+// Decodes the instance size of a class, the hash of hb bytes and the superclass word.
 pub fn read_middle(s: &[u8], at: usize, sh: Shape, hb: usize) -> MiddleRead
     requires { ⌜ (at ≤ length (now s)) × WidthsLe8 sh × (hb ≤ 8) ⌝ }
     ensures { λ r. ⌜ middle-outcome r ≡ run (middle sh hb) (now (s .entry)) at ⌝ }
@@ -99,7 +99,7 @@ pub fn read_middle(s: &[u8], at: usize, sh: Shape, hb: usize) -> MiddleRead
     }
 }
 
-// A class's name, where the record has one: n is the bytes of its length.
+// Decodes the name of a class, if the record has one: n is the number of bytes of its length field.
 pub fn class_name(s: &[u8], at: usize, n: usize) -> StringRead
     requires { ⌜ at ≤ length (now s) ⌝ }
     ensures { λ r. ⌜ string-outcome r ≡ run (classNameOf n) (now (s .entry)) at ⌝ }
@@ -117,7 +117,7 @@ pub fn class_name(s: &[u8], at: usize, n: usize) -> StringRead
     decode::string(s, at, 0x21, 1)
 }
 
-// How many references: known from the tag, or counted in a field of n bytes.
+// Decodes the number of references from a field of n bytes, or returns the count in the tag if n is 0.
 pub fn ref_count(s: &[u8], at: usize, n: usize, tagcount: u64) -> NumberRead
     requires { ⌜ (at ≤ length (now s)) × (n ≤ 8) ⌝ }
     ensures { λ r. ⌜ outcome r ≡ run (ref-count n tagcount) (now (s .entry)) at ⌝ }
@@ -128,7 +128,7 @@ pub fn ref_count(s: &[u8], at: usize, n: usize, tagcount: u64) -> NumberRead
     decode::count(s, at, n)
 }
 
-// A true length of w bytes, at least the count of references.
+// Decodes a true length of w bytes, which must be at least the reference count; returns 0 if w is 0.
 fn true_length(s: &[u8], at: usize, w: usize, count: u64) -> NumberRead
     requires { ⌜ (at ≤ length (now s)) × (w ≤ 8) ⌝ }
     ensures { λ r. ⌜ outcome r ≡ run (trueLengthOf w count) (now (s .entry)) at ⌝ }
@@ -147,7 +147,7 @@ fn true_length(s: &[u8], at: usize, w: usize, count: u64) -> NumberRead
     }
 }
 
-// An array's size and true length.
+// Decodes the size and the true length of an array.
 pub fn read_tail(s: &[u8], at: usize, size: usize, truelen: usize, count: u64) -> TailRead
     requires { ⌜ (at ≤ length (now s)) × (size ≤ 8) × (truelen ≤ 8) ⌝ }
     ensures { λ r. ⌜ tail-outcome r ≡ run (tail size truelen count) (now (s .entry)) at ⌝ }
@@ -172,7 +172,7 @@ pub fn read_tail(s: &[u8], at: usize, size: usize, truelen: usize, count: u64) -
     }
 }
 
-// The row of a record: `known` is the class of a short one.
+// Returns the row of a record; `known` is the class word of a short object, from its slot.
 pub fn make_row(
     origin: Origin,
     hk: u64,

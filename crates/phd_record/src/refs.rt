@@ -1,4 +1,4 @@
-// The references of a record, judged one at a time.
+// Checks the references of a record, one at a time.
 ghost use mathlib.Core.Path.{_≡_};
 ghost use Prim.Native.Nat.{_≤_};
 ghost use lib.ListN.{length};
@@ -8,13 +8,13 @@ ghost use Rattle.phd_record.specs.RecordOutcomes.{refs-read-of};
 use decode::NumberRead;
 use decode::Stop;
 
-// References that were judged: the place after them, or why they stop.
+// The answer of `check_refs`: the offset after the references, or why reading stops in them.
 pub enum RefsRead {
     Is(usize),
     Stops(Stop),
 }
 
-// Judges count references of w bytes each, of a record at the address base.
+// Checks `count` references of w bytes each, of a record at address `base`.
 pub fn check_refs(s: &[u8], at: usize, w: usize, base: u64, top: u64, count: u64) -> RefsRead
     requires { ⌜ (at ≤ length (now s)) × (w ≤ 8) ⌝ }
     ensures { λ r. ⌜ r ≡ refs-read-of (run (ref-list w base top count) (now (s .entry)) at) ⌝ }

@@ -1,4 +1,4 @@
--- A good record in the form that is chosen for it is `Decodable`, and its measures are bounded.
+-- A good record is `Decodable` in the form that is chosen for it.
 -- Assumes nothing.
 use mathlib.Core.Path.{_≡_, refl}
 use Prim.Native.Nat.{ℕ, _%_, _≤_, _<_}
@@ -22,10 +22,10 @@ use Rattle.phd_round_trip.specs.PrimitiveForms.{primitive-decodable, lon
 use Rattle.phd_round_trip.specs.Decodable.{named, Decodable}
 use Rattle.phd_round_trip.specs.FormsWithRefs.{short-decodable, medium-decodable, long-decodable, object-array-decodable, class-decodable}
 
--- A good record r after one at `before`, with the cache c.
+-- A good record r after one at the address `before`, with the cache c.
 module _ (h : Header) (c : Cache) (before index : ℕ) (r : Rec)
     (w : AddressSize (h .bits)) (g : GoodRec h index r) (bf : before % 4 ≡ 0) (bl : before ≤ max-address (h .bits)) where
-  -- the form fm, with its tag and its flag byte, is sound for r
+  -- The record r is `Decodable` in the form fm, with the tag and the flag byte that the writer gives it.
   abbrev DecodableForm : Form → Type 0
   DecodableForm fm =
       let m : PlanInput = plan-input c before (r .row) (r .refs) in
@@ -90,6 +90,7 @@ module _ (h : Header) (c : Cache) (before index : ℕ) (r : Rec)
           rw (ne-eqb (r .row .kind) 1 (omega arith), ne-eqb (r .row .kind) 2 (omega arith), ne-eqb (r .row .kind) 3 (omega arith))
           (array (needs-flag-byte (m .hashkind)) refl k c0 r0 y8 n0)
 
+-- A good record is `Decodable` in the form that is chosen for it.
 pub chosen-form-decodable : (h : Header) (c : Cache) (before index : ℕ) (r : Rec)
     → ValidBits (h .bits) → GoodRec h index r → before % 4 ≡ 0 → before ≤ max-address (h .bits)
     → let m : PlanInput = plan-input c before (r .row) (r .refs) in

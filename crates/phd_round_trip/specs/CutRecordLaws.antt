@@ -1,4 +1,4 @@
--- Laws of the bytes of records, and of those that lie within a cut.
+-- Laws of the bytes of records, and of the records within a cut.
 -- Assumes nothing.
 use mathlib.Core.Path.{_≡_, refl}
 use Prim.Native.Nat.{ℕ, _+_, _≤_, _<_}
@@ -18,23 +18,26 @@ use Rattle.phd_round_trip.specs.CutRecords.{within-cut, stop-in}
 
 -- ---- good records
 
--- a good record as it is taken from a table: without its name's place
+-- A good record without its name's place, as `recs` takes it from a table.
 pub record GoodBareRecord (h : Header) (index : ℕ) (r : Rec) : Type 0 where
   pub good : GoodRec h index r
   pub place-zero : r .row .place ≡ 0
 
--- records of which the references begin at `index`, each where those of the one before end
+-- All records are good, and their references follow one another: those of the first begin at `index`, those of each other record
+-- where those of the one before end.
 abbrev pub AllGood : Header → ℕ → List Rec → Type 0
 AllGood h index [] = Unit {0}
 AllGood h index (r ∷ rs) = GoodBareRecord h index r × AllGood h (index + r .row .count) rs
 
--- ---- the bytes of records
+-- ---- cuts
 
+-- No record lies within a cut that ends before the first.
 pub within-cut-none : (m : ℕ) (h : Header) (p before : ℕ) (c : Cache) (rs : List Rec) → m < p → within-cut m h p before c rs ≡ []
 unfolding within-cut
 within-cut-none m h p before c [] l = refl
 within-cut-none m h p before c (r ∷ rs) l = rw (lt-leb (p + length (encode-record h before c r)) m (omega arith))
 
+-- All records lie within a cut that contains them and the end tag.
 pub within-cut-all : (m : ℕ) (h : Header) (p before : ℕ) (c : Cache) (rs : List Rec) → p + length (encode-records h before c rs) ≤ m
     → within-cut m h p before c rs ≡ rs
 unfolding within-cut encode-records
@@ -44,7 +47,7 @@ within-cut-all m h p before c (r ∷ rs) l =
     let a = length-append (encode-record h before c r) (encode-records h (r .row .address) (cache-after h before c r) rs) in
     rw (le-leb (p + n) m (omega arith), within-cut-all m h (p + n) (r .row .address) (cache-after h before c r) rs (omega arith))
 
--- with all of it in the cut a reading stops after the end tag
+-- A reading stops after the end tag if the cut contains it.
 pub stop-in-all : (m : ℕ) (h : Header) (p before : ℕ) (c : Cache) (rs : List Rec) → p + length (encode-records h before c rs) ≤ m
     → stop-in m h p before c rs ≡ p + length (encode-records h before c rs)
 unfolding stop-in encode-records be
@@ -54,11 +57,12 @@ stop-in-all m h p before c (r ∷ rs) l =
     let a = length-append (encode-record h before c r) (encode-records h (r .row .address) (cache-after h before c r) rs) in
     rw (le-leb (p + n) m (omega arith)) (omega (arith, stop-in-all m h (p + n) (r .row .address) (cache-after h before c r) rs (omega arith)))
 
--- a record has a byte at least, and the end tag is one
+-- A record has at least one byte.
 encode-record-pos : (h : Header) (before : ℕ) (c : Cache) (r : Rec) → 0 < length (encode-record h before c r)
 unfolding encode-record encode-planned encode-tag be
 encode-record-pos h before c r = omega arith
 
+-- There are fewer records than bytes: each record has at least one byte, and the end tag is one.
 pub records-lt-bytes : (h : Header) (before : ℕ) (c : Cache) (rs : List Rec) → length rs < length (encode-records h before c rs)
 unfolding encode-records be
 records-lt-bytes h before c [] = lit< tt
@@ -67,8 +71,9 @@ records-lt-bytes h before c (r ∷ rs) =
     let b = records-lt-bytes h (r .row .address) (cache-after h before c r) rs in
     simp length-append (omega arith)
 
--- ---- of a header, only W and the hashing bear on its records
+-- ---- headers with the same W
 
+-- Of the header, only W affects the bytes of records.
 module _ (h k : Header) (e : h .bits ≡ k .bits) where
   encode-record-same : (before : ℕ) (c : Cache) (r : Rec) → encode-record h before c r ≡ encode-record k before c r
   unfolding encode-record plan-record
@@ -96,6 +101,7 @@ module _ (h k : Header) (e : h .bits ≡ k .bits) where
   within-cut-same m p before c (r ∷ rs) =
       rw (encode-record-same before c r, cache-after-same before c r, within-cut-same m (p + length (encode-record k before c r)) (r .row .address) (cache-after k before c r) rs)
 
+  -- Of the header, only W and the all-hashed flag affect whether records are good.
   module _ (f : h .hashed ≡ k .hashed) where
     good-record-same : (index : ℕ) (r : Rec) → GoodRec h index r → GoodRec k index r
     good-record-same index r g = record {

@@ -1,5 +1,6 @@
--- What a record must be for its tag, its flag byte and its fields to be read as it was: `Decodable`. Reading it is proved from
--- this, whatever the form (Entry); that a good record in the form chosen for it is so is proved form by form (Forms).
+-- `Decodable`: the conditions under which a record is read back from its tag, its flag byte and its fields. EntryRoundTrip proves
+-- that such a record is read back, whatever the form; ChosenForm proves, form by form, that a good record satisfies the
+-- conditions in the form chosen for it.
 -- Assumes nothing.
 use mathlib.Core.Path.{_≡_}
 use Prim.Native.Nat.{ℕ, zero, suc, _+_, _/_, _%_, _^_, _≤_, _<_}
@@ -18,12 +19,12 @@ use Rattle.phd.specs.declared.Shape.{Shape}
 use Rattle.phd.specs.declared.TagForm.the-variants.{Begins}
 use Rattle.table.specs.Rows.{Rec}
 
--- what is read of a field of w bytes into which v was put: 0 if there is no such field
+-- The value read from a field of w bytes into which v was written; 0 if there is no such field.
 unfoldable pub field-value : ℕ → ℕ → ℕ
 field-value zero v = 0
 field-value (suc w) v = v
 
--- a reference, in w bytes, of a record at the address a
+-- A reference r of a record at the address a fits a field of w bytes; top is the highest address.
 pub record RefFits (top a w r : ℕ) : Type 0 where
   pub aligned : r % 4 ≡ 0
   pub some : 1 ≤ r
@@ -31,21 +32,23 @@ pub record RefFits (top a w r : ℕ) : Type 0 where
   pub width-pos : 1 ≤ w
   pub fit : fits w (gap a r) ≡ true
 
+-- Each reference fits a field of w bytes.
 abbrev pub RefsFit : ℕ → ℕ → ℕ → List ℕ → Type 0
 RefsFit top a w [] = Unit {0}
 RefsFit top a w (r ∷ rs) = RefFits top a w r × RefsFit top a w rs
 
--- the name: none where a form has no field for its length, else a good one
+-- The name fits the form: it is empty if the form has no field for its length, else it is a good name.
 pub data NameFits : ℕ → List ℕ → Type 0 where
   unnamed : {l : List ℕ} → l ≡ [] → NameFits 0 l
   named : {l : List ℕ} → 1 ≤ length l → length l < 65536 → all-within 0x21 0x7E l ≡ true → NameFits 2 l
 
--- a signed number of w bytes that counts: below 2^31, and half of what w bytes hold
+-- The number v fits a signed field of w bytes for counts: it is below 2^31 and below half of 256^w. With w = 0 there is no such
+-- field.
 pub record CountFits (w v : ℕ) : Type 0 where
   pub small : field-value w v < 2 ^ 31
   pub fit : field-value w v + field-value w v < 256 ^ w
 
--- the record r fits the fields of a shape, after one at the address `before`
+-- The record r fits the fields of the shape sh, after a record at the address `before`; top is the highest address.
 pub record FieldsFit (top before : ℕ) (sh : Shape) (r : Rec) : Type 0 where
   pub before-aligned : before % 4 ≡ 0
   pub aligned : r .row .address % 4 ≡ 0
@@ -61,7 +64,7 @@ pub record FieldsFit (top before : ℕ) (sh : Shape) (r : Rec) : Type 0 where
   pub name : NameFits (sh .name) (r .name)
   pub namelen : length (r .name) ≡ r .row .namelen
   pub countwidth : CountFits (sh .countwidth) (r .row .count)
-  -- the count is in a field of its own or in the tag
+  -- The count is in a field or in the tag.
   pub count : field-or (sh .countwidth) (field-value (sh .countwidth) (r .row .count)) (sh .count) ≡ r .row .count
   pub refs-count : length (r .refs) ≡ r .row .count
   pub ref-width-le : sh .refwidth ≤ 8
@@ -70,17 +73,18 @@ pub record FieldsFit (top before : ℕ) (sh : Shape) (r : Rec) : Type 0 where
   pub truelen : CountFits (sh .truelen) (r .row .len)
   pub count-le-len : (sh .truelen ≡ 0 → ⊥) → r .row .count ≤ r .row .len
 
--- the shape says the record's numbers: `known` is the class of a short record
+-- The numbers that the shape sh gives are those of the record's row; `known` is the class word of a short object.
 pub record ShapeMatches (known : ℕ) (sh : Shape) (r : Rec) : Type 0 where
   pub kind : sh .kind ≡ r .row .kind
   pub class : field-or (sh .class) (field-value (sh .class) (r .row .class)) (field-or (sh .superclass) (field-value (sh .superclass) (r .row .class)) known) ≡ r .row .class
   pub size : field-or (sh .inst) (field-value (sh .inst) (r .row .size)) (field-value (sh .size) (r .row .size)) ≡ r .row .size
   pub len : field-or (sh .truelen) (field-value (sh .truelen) (r .row .len)) (field-value (sh .len) (r .row .len)) ≡ r .row .len
   pub prim : sh .prim ≡ r .row .prim
-  -- a shape that caches reads the class word whole
+  -- If the class word is pushed, it is read in full from its field.
   pub cached : sh .cached ≡ true → field-value (sh .class) (r .row .class) ≡ r .row .class
 
--- The tag t and the flag byte f name the form again, and the hash kind, and the record fits the shape that they name.
+-- The tag t and the flag byte f decode to the form fm and the hash kind, and the record fits the shape that they determine.
+-- `known` is the class word in the slot that the tag of a short object names, else 0.
 pub record Decodable (h : Header) (c : Cache) (before : ℕ) (r : Rec) (fm : Form) (t f known : ℕ) : Type 0 where
   pub tag-byte : t < 256
   pub not-end-tag : eqb t 3 ≡ false

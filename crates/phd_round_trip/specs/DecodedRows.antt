@@ -1,5 +1,5 @@
--- The rows and references that were read of a written dump, or of a cut of it, are the records that were written: names as
--- bytes, and references as lists.
+-- The rows and references read from a written dump, or from a cut of it, give the records that were written: names are compared
+-- as bytes, references as lists.
 -- Assumes nothing.
 use mathlib.Core.Path.{_≡_, refl, sym}
 use Prim.Native.Nat.{ℕ, suc, _+_, _-_, _%_, _≤_, _<_}
@@ -22,31 +22,33 @@ use Rattle.phd_round_trip.specs.CutRecordLaws.{AllGood}
 use Rattle.phd_round_trip.specs.PrefixReading.{decoded-rows}
 use Rattle.phd_round_trip.specs.RecordRoundTrip.{name-place, decoded-row, length-decoded-row, decoded-name}
 
--- a row made of a record is that record again, if its references and its name are where the row says
+-- The row made of a record's numbers gives that record again, if the references and the name lie at the places that the row
+-- gives.
 rec-of-numbers : (names refs rows : List ℕ) (place offset : ℕ) (r : Rec) → r .row .place ≡ 0 → take (r .row .count) (drop (r .row .first) refs) ≡ r .refs
     → take (r .row .namelen) (drop place names) ≡ r .name → rec-of names refs (row-at (numbers place offset r ++ rows) 0) ≡ r
 unfolding rec-of row-at numbers without-place refs-of name-of
 rec-of-numbers names refs rows place offset r z p q = λ j. record { row = row-at-numbers place offset r rows z j; refs = p j; name = q j }
 
--- so it is of the row that a record is read as
+-- The row that a record is read as gives that record again, under the same conditions.
 rec-of-decoded-row : (h : Header) (p before : ℕ) (c : Cache) (names refs rows : List ℕ) (r : Rec) → r .row .place ≡ 0
     → take (r .row .count) (drop (r .row .first) refs) ≡ r .refs → take (r .row .namelen) (drop (name-place h p before c r) names) ≡ r .name
     → rec-of names refs (row-at (decoded-row h p before c r ++ rows) 0) ≡ r
 unfolding decoded-row
 rec-of-decoded-row h p before c names refs rows r z = rec-of-numbers names refs rows (name-place h p before c r) _ r z
 
--- one row first, and n after it
+-- The records of one row and n rows after it.
 recs-cons : (n : ℕ) (names refs row table : List ℕ) (r : Rec) (rs : List Rec) → length row ≡ row-width → rec-of names refs (row-at (row ++ table) 0) ≡ r
     → first-recs n names refs table ≡ rs → first-recs (suc n) names refs (row ++ table) ≡ r ∷ rs
 unfolding recs
 recs-cons n names refs row table r rs l p q = rw (rows-of-cons row table l, p, q)
 
+-- A prefix that contains xs is xs and a prefix of the rest.
 take-past : (xs ys : List ℕ) (j : ℕ) → length xs ≤ j → take j (xs ++ ys) ≡ xs ++ take (j - length xs) ys
 take-past xs ys j l = let e : length xs + (j - length xs) ≡ j = omega arith in rw e at (take-append-add xs ys (j - length xs))
 
 -- ---- the rows of a written dump
 
--- what is asked of records put after one at the address `before`, their references after `refs`
+-- The conditions on records that are written after one at the address `before`, with their references after `refs`.
 pub record Encodable (h : Header) (before : ℕ) (refs : List ℕ) (rs : List Rec) : Type 0 where
   pub bits : ValidBits (h .bits)
   pub good : AllGood h (length refs) rs
@@ -58,14 +60,15 @@ encodable-step h before refs r rs g =
     let e : length (refs ++ r .refs) ≡ length refs + r .row .count = rw (length-append refs (r .refs), g .good .0 .good .count) in
     record { bits = g .bits; good = rw e (g .good .1); aligned = g .good .0 .good .aligned; most = g .good .0 .good .most }
 
--- Records put from p on, of which j bytes are there: the rows of those that are whole are those records, whatever stands
--- behind their rows and references in the tables.
+-- If j bytes of the records written from offset p on are present, the rows of the whole records among them give those records,
+-- whatever follows their rows and references in the tables.
 abbrev Decodes : Header → ℕ → (more-rows more-refs : List ℕ) → List Rec → Type 0
 Decodes h j more-rows more-refs rs =
     (before : ℕ) (c : Cache) (p : ℕ) (pre refs : List ℕ) → Encodable h before refs rs → length pre ≡ p
     → let decoded = within-cut (p + j) h p before c rs in
     first-recs (length decoded) (pre ++ take j (encode-records h before c rs)) (refs ++ (all-refs decoded ++ more-refs)) (decoded-rows h p before c decoded ++ more-rows) ≡ decoded
 
+-- `Decodes` for a first record that is whole.
 decodes-step : (h : Header) (r : Rec) (rs : List Rec) (j : ℕ) (more-rows more-refs : List ℕ) → Decodes h j more-rows more-refs rs
     → (before : ℕ) (c : Cache) (p : ℕ) (pre refs : List ℕ) → Encodable h before refs (r ∷ rs) → length pre ≡ p
     → let bs = encode-record h before c r in
@@ -92,6 +95,7 @@ decodes-step h r rs j more-rows more-refs ih before c p pre refs g e =
     rw (append-assoc (r .refs) (all-refs decoded) more-refs, append-assoc (decoded-row h p before c r) rows more-rows)
     (recs-cons (length decoded) s ref-table (decoded-row h p before c r) (rows ++ more-rows) r decoded (length-decoded-row h p before c r) this others)
 
+-- `Decodes` for a first record that may be cut.
 decodes-cons : (h : Header) (r : Rec) (rs : List Rec) (j : ℕ) (more-rows more-refs : List ℕ) → ((i : ℕ) → Decodes h i more-rows more-refs rs)
     → Decodes h j more-rows more-refs (r ∷ rs)
 unfolding within-cut recs encode-records
@@ -114,7 +118,7 @@ decodes h more-rows more-refs [] j before c p pre refs g e = refl
 decodes h more-rows more-refs (r ∷ rs) j before c p pre refs g e =
     decodes-cons h r rs j more-rows more-refs (decodes h more-rows more-refs rs) before c p pre refs g e
 
--- The records that lie within a cut at m, of those put after `pre`, are what their rows and references are in the cut.
+-- The rows and references of the records within a cut at m, written after `pre`, give those records.
 pub decoded-cut-recs : (h : Header) (m before : ℕ) (c : Cache) (pre more-rows more-refs : List ℕ) (rs : List Rec) → Encodable h before [] rs → length pre ≤ m
     → let decoded = within-cut m h (length pre) before c rs in
     first-recs (length decoded) (take m (pre ++ encode-records h before c rs)) (all-refs decoded ++ more-refs) (decoded-rows h (length pre) before c decoded ++ more-rows) ≡ decoded

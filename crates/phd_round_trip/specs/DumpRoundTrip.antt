@@ -1,4 +1,4 @@
--- A written dump, whole or cut anywhere, read with room for all of it.
+-- A written dump, whole or cut anywhere, is read back if the tables have capacity for all of it.
 -- Assumes nothing.
 use mathlib.Core.Path.{_≡_, refl}
 use Prim.Native.Nat.{ℕ, suc, _+_, _*_, _≤_, _<_}
@@ -28,14 +28,14 @@ use Rattle.phd_round_trip.specs.HeaderRoundTrip.{written-header, decode-
 use Rattle.phd_round_trip.specs.PrefixReading.{decoded-rows, length-decoded-rows, Remaining, reads-records}
 use Rattle.phd_round_trip.specs.DecodedRows.{decoded-cut-recs}
 
--- a header and records that may be written, as a dump within the size limit
+-- A header and records that can be written, as a dump within the size limit.
 pub record GoodDump (names : List ℕ) (h : Header) (rs : List Rec) : Type 0 where
   pub bits : ValidBits (h .bits)
   pub vm : good-vm names (h .vm) ≡ true
   pub records : AllGood h 0 rs
   pub size : length (encode-dump names h rs) ≤ limit
 
--- what the reading of the first m bytes is
+-- The result rd of reading the first m bytes gives the rows and references of the records within this cut.
 pub record ReadsCut (names : List ℕ) (h : Header) (rs : List Rec) (m : ℕ) (rd : Result) : Type 0 where
   pub rows : rd .rows ≡ decoded-rows (written-header h) (length (encode-header names h)) 0 empty-cache (cut-recs names h rs m)
   pub refs : rd .refs ≡ all-refs (cut-recs names h rs m)
@@ -46,7 +46,7 @@ pub record ReadsCut (names : List ℕ) (h : Header) (rs : List Rec) (m : ℕ) (r
 
 module _ (names : List ℕ) (h : Header) (rs : List Rec) (m R F : ℕ) (g : GoodDump names h rs)
     (p : row-width * length rs ≤ R) (q : length (all-refs rs) ≤ F) where
-  -- the header's bytes, its facts as they are read, and the dump
+  -- The bytes of the header, the header as it is read, the dump, and the rows of the records within the cut.
   abbrev header-bytes : List ℕ
   header-bytes = encode-header names h
 
@@ -59,7 +59,7 @@ module _ (names : List ℕ) (h : Header) (rs : List Rec) (m R F : ℕ) (g : Good
   abbrev decoded-cut-rows : List ℕ
   decoded-cut-rows = decoded-rows read-header (length header-bytes) 0 empty-cache (cut-recs names h rs m)
 
-  -- the bytes, and the records within the cut, by the facts that are read
+  -- The bytes of the dump, and the records within the cut, are the same under the header as it is read.
   pub dump-is : dump ≡ header-bytes ++ encode-records read-header 0 empty-cache rs
   unfolding encode-dump
   dump-is = rw (encode-records-same h read-header refl 0 empty-cache rs)
@@ -70,6 +70,7 @@ module _ (names : List ℕ) (h : Header) (rs : List Rec) (m R F : ℕ) (g : Good
   total : length dump ≡ length header-bytes + length (encode-records read-header 0 empty-cache rs)
   total = rw dump-is (length-append header-bytes (encode-records read-header 0 empty-cache rs))
 
+  -- The header of the dump is read back.
   pub header-decoded : run header dump 0 ≡ whole read-header (length header-bytes)
   unfolding encode-dump
   header-decoded = rw zero-add at (decode-encode-header names h (g .bits) (g .vm) .reads [] (encode-records h 0 empty-cache rs) refl)
@@ -77,6 +78,7 @@ module _ (names : List ℕ) (h : Header) (rs : List Rec) (m R F : ℕ) (g : Good
   short : length (take m dump) ≤ limit
   short = let s = g .size in simp length-take (omega arith)
 
+  -- The records are good under the header as it is read.
   pub dump-records-good : AllGood read-header 0 rs
   dump-records-good = all-good-same h read-header refl refl 0 rs (g .records)
 
@@ -88,6 +90,7 @@ module _ (names : List ℕ) (h : Header) (rs : List Rec) (m R F : ℕ) (g : Good
       let b = records-lt-bytes read-header 0 empty-cache rs in
       record { bits = g .bits; good = dump-records-good; aligned = refl; most = omega arith; count = omega arith; capacity = omega arith; ref-capacity = omega arith }
 
+  -- `ReadsCut` for a cut after the header.
   after-header : length header-bytes ≤ m → ReadsCut names h rs m (read-result (take m dump) R F)
   unfolding initial-state-of
   after-header l =
@@ -95,6 +98,7 @@ module _ (names : List ℕ) (h : Header) (rs : List Rec) (m R F : ℕ) (g : Good
       rw (read-header-whole phd (take m dump) (capacity R F) read-header (length header-bytes) short (run-prefix header dump 0 m read-header (length header-bytes) header-decoded l), dump-is)
       (record { rows = rw cut-recs-same (b .rows); refs = rw cut-recs-same (b .refs); reply = rw total (b .reply); place = rw (le-leb (length header-bytes) m l, stop-in-same h read-header refl m (length header-bytes) 0 empty-cache rs) (b .place); header = λ _. b .header; no-header = λ j. absurd (omega arith) })
 
+  -- `ReadsCut` for a cut within the header.
   in-header : m < length header-bytes → ReadsCut names h rs m (read-result (take m dump) R F)
   unfolding decoded-rows all-refs no-records-of reply-of
   in-header l =
@@ -111,18 +115,18 @@ module _ (names : List ℕ) (h : Header) (rs : List Rec) (m R F : ℕ) (g : Good
         no-header = λ _. refl;
       })
 
-  -- Any cut of a written dump is read so.
+  -- A reading of any cut of a written dump gives `ReadsCut`.
   pub reads-cut : ReadsCut names h rs m (read-result (take m dump) R F)
   reads-cut = elim (decLe (length header-bytes) m) [ yes l ↦ after-header l | no l ↦ in-header (omega arith) ]
 
-  -- It counts as many rows as records lie within the cut.
+  -- A reading of a cut counts as many rows as there are records within the cut.
   pub cut-recs-count : row-count (read-result (take m dump) R F .rows) ≡ length (cut-recs names h rs m)
   unfolding row-count
   cut-recs-count =
       let t = length-decoded-rows read-header (length header-bytes) 0 empty-cache (cut-recs names h rs m) in
       rw (reads-cut .rows, t) (omega arith)
 
-  -- the tables hold those records, whatever stands behind what was stored
+  -- The tables hold the records within the cut, whatever follows the stored numbers.
   abbrev Holds : (more-rows more-refs : List ℕ) → Type 0
   Holds more-rows more-refs =
       first-recs (length (cut-recs names h rs m)) (take m dump) (all-refs (cut-recs names h rs m) ++ more-refs) (decoded-cut-rows ++ more-rows) ≡ cut-recs names h rs m
@@ -137,7 +141,7 @@ module _ (names : List ℕ) (h : Header) (rs : List Rec) (m R F : ℕ) (g : Good
   unfolding recs
   holds-in more-rows more-refs l = rw (within-cut-none m h (length header-bytes) 0 empty-cache rs l)
 
-  -- Its tables hold the records that lie within the cut, whatever stands behind what was stored.
+  -- After a reading of a cut the tables hold the records within it, whatever follows the stored numbers.
   pub cut-recs-decoded : (more-rows more-refs : List ℕ)
       → first-recs (row-count (read-result (take m dump) R F .rows)) (take m dump) (read-result (take m dump) R F .refs ++ more-refs) (read-result (take m dump) R F .rows ++ more-rows)
       ≡ cut-recs names h rs m

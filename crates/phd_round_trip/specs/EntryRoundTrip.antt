@@ -1,5 +1,5 @@
--- A record that is put whole, tag, flag byte and fields, is read as it was (`reads-planned`), and its name stands where its row
--- says (`name-at-place`): given that the tag and the flag byte name the form again and that the record fits it (`Decodable`).
+-- A whole record, with its tag, flag byte and fields, is read back (`reads-planned`), and its name lies at the place in its row
+-- (`name-at-place`), if the record is `Decodable` by that tag and flag byte.
 -- Assumes nothing.
 use mathlib.Core.Path.{_≡_, refl, sym, ap, _∙_}
 use Prim.Native.Nat.{ℕ, _+_, _/_}
@@ -35,31 +35,33 @@ use Rattle.phd_encode.specs.EncodedLengths.{length-front, length-middle, length
 use Rattle.phd_round_trip.specs.FieldsRoundTrip.{name-text, reads-front, reads-middle, reads-class-name, reads-ref-count, reads-refs, reads-tail}
 use Rattle.phd_round_trip.specs.Decodable.{field-value, NameFits, unnamed, named, FieldsFit, ShapeMatches, Decodable}
 
--- ---- places
+-- ---- offsets
 
--- where the fields begin of a record that is put at p, and where the length of a name stands in fields that begin at q
+-- Where the fields of a record begin that is written at p.
 abbrev fields-at : ℕ → Plan → ℕ
 fields-at p pl = p + 1 + cond (ltb (pl .tag) 0x20) 1 0
 
+-- Where the length of the name lies, in fields that begin at q.
 abbrev name-length-at : ℕ → Shape → Row → ℕ
 name-length-at q sh r = q + (sh .gap + sh .class + sh .len) + (sh .inst + hash-bytes (r .hashkind) + sh .superclass)
 
--- the place of the name and of the references, in fields that begin at q
+-- The place of the name, in fields that begin at q; 0 if the form has no name.
 abbrev name-in : ℕ → Shape → Row → ℕ
 name-in q sh r = cond (eqb (sh .name) 0) 0 (name-length-at q sh r + sh .name)
 
+-- Where the references lie, in fields that begin at q.
 abbrev span-in : ℕ → Shape → Row → Span
 span-in q sh r = record { place = name-length-at q sh r + (sh .name + r .namelen) + sh .countwidth; width = sh .refwidth; count = r .count }
 
--- the place of the name of a record that is put at p as planned: 0 where its form has no name
+-- The place of the name of a record that is written at p as planned; 0 if its form has no name.
 unfoldable pub name-at : ℕ → Plan → Row → ℕ
 name-at p pl r = name-in (fields-at p pl) (pl .shape) r
 
--- where its references are
+-- Where the references of that record lie.
 unfoldable pub span-at : ℕ → Plan → Row → Span
 span-at p pl r = span-in (fields-at p pl) (pl .shape) r
 
--- ---- what is read of a record
+-- ---- the parts of a record
 
 text-place : (b : Bool) (w place len : ℕ) → eqb w 0 ≡ b → name-text w place len .place ≡ cond b 0 place
 text-place true w place len e = rw e
@@ -74,6 +76,7 @@ cached-same c true v w e = ap (push c) (e refl)
 cached-same c false v w e = refl
 
 module _ (top before known : ℕ) (origin : Origin) (c : Cache) (sh : Shape) (r : Rec) (t : FieldsFit top before sh r) where
+  -- The parts of the record r, its row and the whole item, as they are read by the shape sh.
   abbrev as-front : Front
   as-front = record { address = r .row .address; class = field-value (sh .class) (r .row .class); len = field-value (sh .len) (r .row .len) }
 
@@ -86,7 +89,7 @@ module _ (top before known : ℕ) (origin : Origin) (c : Cache) (sh : Shape) (r 
   abbrev as-row : StringSpan → List ℕ
   as-row name = row origin (r .row .hashkind) known sh as-front as-middle name (r .row .count) as-tail
 
-  -- with its name, and its references at a place
+  -- The item has the row with its name, and its references begin at `place`.
   abbrev as-read : StringSpan → ℕ → Item
   as-read name place =
       item (as-row name) (r .refs) (record { place = place; width = sh .refwidth; count = r .row .count })
@@ -137,7 +140,7 @@ no-name : (w : ℕ) (name : List ℕ) → NameFits w name → w ≡ 0 → name �
 no-name w name (unnamed e) z = e
 no-name w name (named some short seen) z = absurd (omega arith)
 
--- the name of a record that is put at p, of any shape, stands behind its length
+-- The name of a record that is written at p lies after its length, whatever the shape.
 name-after-length : (before : ℕ) (pl : Plan) (r : Rec) (p n : ℕ) (pre post : List ℕ) → length pre ≡ p → length (r .name) ≡ n
     → take n (drop (name-length-at (fields-at p pl) (pl .shape) (r .row) + pl .shape .name)
     (pre ++ (encode-planned before pl (r .row) (r .refs) (r .name) ++ post))) ≡ r .name
@@ -158,7 +161,7 @@ name-after-length before pl r p n pre post e d =
 
 -- ---- the tag and the flag byte
 
--- what is read from the tag on is read at its place
+-- Bytes that are read from the tag on are read as an entry at the offset of the tag.
 pub reads-entry : (h : Header) (before : ℕ) (c : Cache) (index p : ℕ) {bs : List ℕ} {i : Item} → Reads p (from-tag h before c (origin-at p index)) bs i
     → Reads p (entry h before c index) bs i
 unfolding entry
@@ -175,7 +178,7 @@ module _ (h : Header) (c : Cache) (before index : ℕ) (r : Rec) (fm : Form) (t 
       let e : not (h .hashed && (moved-bit t f || hashed-bit t f)) ≡ true = rw (s .bits-clear) in
       reads-end q _ _ _ f f (reads-field q (cond (ltb t 0x20) 1 0) f (s .flag-byte)) (reads-skip _ _ _ [] tt f (reads-check _ 11 _ e) (reads-yield _ f))
 
-  -- A record that is put at any place p of a dump is read there, whatever stands before and after it.
+  -- A record that is written at any offset p of a dump is read back there, whatever lies before and after it.
   pub reads-planned : r .row .first ≡ index
       → let pl : Plan = record { tag = t; flags = f; shape = shape (h .bits / 8) fm t f } in
       Reads p (entry h before c index) (encode-planned before pl (r .row) (r .refs) (r .name))
@@ -195,7 +198,7 @@ module _ (h : Header) (c : Cache) (before index : ℕ) (r : Rec) (fm : Form) (t 
       (reads-then (p + 1) _ _ (be w f) body f _ (reads-flag-byte (p + 1))
       (rw (length-be w f, s .hash) (reads-fields (max-address (h .bits)) before known (origin-at p index) c sh r (s .fit) (p + 1 + w) (s .matches) e))))))))
 
-  -- Its name stands where its row says.
+  -- Its name lies at the place in its row.
   pub name-at-place : (pre post : List ℕ) → length pre ≡ p
       → let pl : Plan = record { tag = t; flags = f; shape = shape (h .bits / 8) fm t f } in
       take (r .row .namelen) (drop (name-at p pl (r .row)) (pre ++ (encode-planned before pl (r .row) (r .refs) (r .name) ++ post))) ≡ r .name

@@ -1,4 +1,4 @@
--- What is put as the fields of a record is read as it was, whatever the shape: one law for each part of a record.
+-- The fields of a record are read back as they were written, whatever the shape: one law for each part of a record.
 -- Assumes nothing.
 use mathlib.Core.Path.{_≡_, refl}
 use Prim.Native.Nat.{ℕ, zero, suc, _+_, _%_, _^_, _≤_, _<_}
@@ -35,7 +35,7 @@ reads-count-field p w v h = rw (be-field-value w v) at (reads-count p w (field-v
 
 -- ---- the name, the references and the true length
 
--- a name of a length at a place, where the form has one: its length is put in w bytes
+-- A name of `len` bytes at a place, if its length has a field (of w bytes); otherwise no text.
 abbrev pub name-text : ℕ → ℕ → ℕ → StringSpan
 name-text w place len = cond (eqb w 0) no-string (record { present = true; place = place; len = len })
 
@@ -68,7 +68,9 @@ reads-true-length p (suc w) n v h e =
 
 -- ---- the parts of a record
 
+-- A record r that fits the shape sh; p is the offset of the part.
 module _ (top before : ℕ) (sh : Shape) (r : Rec) (t : FieldsFit top before sh r) (p : ℕ) where
+  -- The gap, the class word and the array length are read back.
   pub reads-front : Reads p (front top before sh) (encode-front before sh (r .row))
       (record { address = r .row .address; class = field-value (sh .class) (r .row .class); len = field-value (sh .len) (r .row .len) })
   unfolding front encode-front
@@ -78,6 +80,7 @@ module _ (top before : ℕ) (sh : Shape) (r : Rec) (t : FieldsFit top before sh 
       (reads-then _ _ _ _ _ (field-value (sh .class) (r .row .class)) _ (reads-field-value _ (sh .class) (r .row .class) (t .class))
       (reads-then _ _ _ _ [] (field-value (sh .len) (r .row .len)) _ (reads-count-field _ (sh .len) (r .row .len) (t .len)) (reads-yield _ _)))
 
+  -- The instance size, the hash and the superclass word are read back.
   pub reads-middle : Reads p (middle sh (hash-bytes (r .row .hashkind))) (encode-middle sh (r .row))
       (record { inst = field-value (sh .inst) (r .row .size); hash = r .row .hash; superclass = field-value (sh .superclass) (r .row .class) })
   unfolding middle encode-middle
@@ -86,13 +89,16 @@ module _ (top before : ℕ) (sh : Shape) (r : Rec) (t : FieldsFit top before sh 
       (reads-then _ _ _ _ _ (r .row .hash) _ (reads-field _ (hash-bytes (r .row .hashkind)) (r .row .hash) (t .hash))
       (reads-then _ _ _ _ [] (field-value (sh .superclass) (r .row .class)) _ (reads-field-value _ (sh .superclass) (r .row .class) (t .superclass)) (reads-yield _ _)))
 
+  -- The name's length and its bytes are read back.
   pub reads-class-name : Reads p (class-name (sh .name)) (encode-name sh (r .row) (r .name)) (name-text (sh .name) (p + sh .name) (r .row .namelen))
   unfolding encode-name
   reads-class-name = reads-name p (sh .name) (r .row .namelen) (r .name) (t .name) (t .namelen)
 
+  -- The reference count is read back from its field, or known from the tag.
   pub reads-ref-count : Reads p (ref-count (sh .countwidth) (sh .count)) (be (sh .countwidth) (r .row .count)) (r .row .count)
   reads-ref-count = reads-count-or-known p (sh .countwidth) (sh .count) (r .row .count) (t .countwidth) (t .count)
 
+  -- The references are read back, together with where they lie.
   pub reads-refs : Reads p (spanned-refs (sh .refwidth) (r .row .address) top (r .row .count)) (encode-list (sh .refwidth) (r .row .address) (r .refs))
       (record { span = record { place = p; width = sh .refwidth; count = r .row .count }; list = r .refs })
   unfolding spanned-refs
@@ -102,6 +108,7 @@ module _ (top before : ℕ) (sh : Shape) (r : Rec) (t : FieldsFit top before sh 
       (rw (t .refs-count) at (reads-ref-list (sh .refwidth) (r .row .address) top (t .aligned) (t .ref-width-le) (r .refs) p (t .refs)))
       (reads-yield _ _))
 
+  -- The size and the true length are read back.
   pub reads-tail : Reads p (tail (sh .size) (sh .truelen) (r .row .count)) (encode-tail sh (r .row))
       (record { size = field-value (sh .size) (r .row .size); truelen = field-value (sh .truelen) (r .row .len) })
   unfolding tail encode-tail

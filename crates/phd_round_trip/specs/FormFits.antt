@@ -1,4 +1,4 @@
--- A good record fits a shape: what holds of it in any shape, and what each form shows of its own (`FormFits`).
+-- A good record fits the fields of a shape (`fields-fit-of`), by the conditions that each form satisfies (`FormFits`).
 -- Assumes nothing.
 use mathlib.Core.Path.{_≡_, refl}
 use Prim.Native.Nat.{ℕ, zero, suc, _/_, _%_, _^_, _≤_, _<_}
@@ -21,13 +21,14 @@ use Rattle.table.specs.declared.Row.{Row}
 use Rattle.phd_encode.specs.PlanBounds.{AddressSize}
 use Rattle.phd_round_trip.specs.Decodable.{field-value, RefsFit, NameFits, CountFits, FieldsFit}
 
--- ---- a field that a shape has or lacks
+-- ---- optional fields
 
+-- The width of a field that has w bytes, or is absent.
 pub data OptionalField (w : ℕ) : ℕ → Type 0 where
   absent : OptionalField w 0
   present : OptionalField w w
 
--- a value that fits a field is what is read of it, also of an absent one
+-- A value that fits a field is read back from it, also if the field has no bytes.
 pub field-value-fits : (w v : ℕ) → v < 256 ^ w → field-value w v ≡ v
 unfolding field-value
 field-value-fits zero v h = omega arith
@@ -38,19 +39,19 @@ unfolding field-value
 field-value-lt v absent h = lit< tt
 field-value-lt {w} v present h = rw (field-value-fits w v h) h
 
--- a number below 2^31 counts in a field of 4 bytes, or in none
+-- A number below 2^31 fits a count field of 4 bytes, or an absent one.
 pub count-fits-4 : {x : ℕ} (v : ℕ) → OptionalField 4 x → v < 2 ^ 31 → CountFits x v
 unfolding field-value
 count-fits-4 v absent h = record { small = lit< tt; fit = lit< tt }
 count-fits-4 v present h = record { small = h; fit = omega arith }
 
--- a field that is there gives its own value
+-- A field that is present gives its value.
 pub present-field-value : (w v other : ℕ) → 1 ≤ w → field-or w (field-value w v) other ≡ v
 unfolding field-or field-value
 present-field-value zero v other l = absurd (omega arith)
 present-field-value (suc w) v other l = rw (ne-eqb (suc w) 0 (omega arith))
 
--- a width code names some bytes
+-- A width code means at least one byte.
 pub width-pos : (c : ℕ) → 1 ≤ width c
 unfolding width
 width-pos c = pow-pos c
@@ -61,23 +62,26 @@ pub empty-of-length : (l : List ℕ) → length l ≡ 0 → l ≡ []
 empty-of-length [] e = refl
 empty-of-length (x ∷ l) e = absurd (omega arith)
 
+-- The length in a good row is below 2^31.
 pub len-lt : (r : Row) (name : List ℕ) → GoodKind r name → r .len < 2 ^ 31
 len-lt r name (a-class _ _ _ e _ _ _ _) = omega arith
 len-lt r name (an-object _ _ e _ _) = omega arith
 len-lt r name (an-array _ _ l _ _ _) = l
 len-lt r name (a-primitive _ _ _ _ l _ _) = l
 
+-- The size in a good row is below 2^32.
 size-lt : (r : Row) (name : List ℕ) → GoodKind r name → r .size < 2 ^ 32
 size-lt r name (a-class _ _ l _ _ _ _ _) = omega arith
 size-lt r name (an-object _ e _ _ _) = omega arith
 size-lt r name (an-array _ l _ _ _ _) = l
 size-lt r name (a-primitive _ _ _ l _ _ _) = l
 
--- any references at all fit 8 bytes
+-- All good references fit 8 bytes each.
 pub refs-fit-8 : (top a : ℕ) (rs : List ℕ) → top < 256 ^ 8 → a ≤ top → GoodRefs top rs → AllFit 8 a rs
 refs-fit-8 top a [] l h g = tt
 refs-fit-8 top a (r ∷ rs) l h g = let m : r ≤ top = g .0 .most in (gap-fits 8 a r (omega arith) (omega arith), refs-fit-8 top a rs l h (g .1))
 
+-- Good references whose distances fit w bytes satisfy `RefsFit`.
 pub good-refs-fit : (top a w : ℕ) (rs : List ℕ) → 1 ≤ w → GoodRefs top rs → AllFit w a rs → RefsFit top a w rs
 good-refs-fit top a w [] l g f = tt
 good-refs-fit top a w (r ∷ rs) l g f =
@@ -85,7 +89,7 @@ good-refs-fit top a w (r ∷ rs) l g f =
 
 -- ---- a good record fits a shape
 
--- what each form shows of the shape that its tag and its flag byte name
+-- The conditions that each form satisfies, for the shape sh that its tag and its flag byte determine.
 pub record FormFits (h : Header) (before : ℕ) (sh : Shape) (r : Rec) : Type 0 where
   pub gap-width-pos : 1 ≤ sh .gap
   pub gap-fits : fits (sh .gap) (gap before (r .row .address)) ≡ true
@@ -101,6 +105,7 @@ pub record FormFits (h : Header) (before : ℕ) (sh : Shape) (r : Rec) : Type 0 
   pub truelen : OptionalField 4 (sh .truelen)
   pub count-le-len : (sh .truelen ≡ 0 → ⊥) → r .row .count ≤ r .row .len
 
+-- A good record fits the fields of a shape that satisfies these conditions.
 pub fields-fit-of : (h : Header) (before index : ℕ) (sh : Shape) (r : Rec) → AddressSize (h .bits) → GoodRec h index r → before % 4 ≡ 0
     → WidthsLe8 sh → FormFits h before sh r → FieldsFit (max-address (h .bits)) before sh r
 fields-fit-of h before index sh r w g bf n k =

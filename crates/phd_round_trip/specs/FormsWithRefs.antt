@@ -1,5 +1,5 @@
--- The five forms with references: the tag and the flag byte of each name it again, and a good record fits the shape that
--- they name. Assumes nothing.
+-- The five forms with references: the tag and the flag byte of each form decode to that form, and a good record fits the shape
+-- that they determine. Assumes nothing.
 use mathlib.Core.Path.{_≡_, refl, sym}
 use Prim.Native.Nat.{ℕ, _+_, _*_, _/_, _%_, _^_, _≤_, _<_}
 use mathlib.Core.Bool.{Bool, true, false, cond}
@@ -27,10 +27,11 @@ use Rattle.phd_round_trip.specs.Decodable.{field-value, RefsFit, NameFit
 use Rattle.phd_round_trip.specs.FormFits.{OptionalField, absent, present, field-value-fits, present-field-value, width-pos, empty-of-length, refs-fit-8, good-refs-fit, count-fits-4, FormFits, fields-fit-of}
 use Rattle.phd_encode.specs.TagBits.{HashBits, HashKindValid, no-flag-byte-bits, hash-flag-bits, class-flag-bits, hash-flags-lt, class-flags-lt, short-tag, medium-tag, long-flags, find-slot-holds}
 
--- A good record r after one at `before`, with the cache c.
+-- A good record r after one at the address `before`, with the cache c.
 module _ (h : Header) (c : Cache) (before index : ℕ) (r : Rec)
     (w : AddressSize (h .bits)) (g : GoodRec h index r) (bf : before % 4 ≡ 0) (bl : before ≤ max-address (h .bits)) where
-  -- the tag and the flag byte name the form and the shape sh: sound, if the record fits the shape and the shape says it
+  -- A record is `Decodable` by a tag and a flag byte that decode to the form fm and the shape sh, if it fits that shape and its
+  -- row is the one that the shape gives.
   pub decodable-of : (fm : Form) (t f known : ℕ) (sh : Shape)
       → t < 256 → (t ≡ 3 → ⊥) → tag-form t ≡ Begins fm → slot-class c t ≡ Just known → f < 256 ^ cond (ltb t 0x20) 1 0
       → HashBits (h .hashed) (r .row .hashkind) (moved-bit t f) (hashed-bit t f)
@@ -72,12 +73,14 @@ module _ (h : Header) (c : Cache) (before index : ℕ) (r : Rec)
   class-field-value : field-value (h .bits / 8) (r .row .class) ≡ r .row .class
   class-field-value = field-value-fits (h .bits / 8) (r .row .class) (omega (arith, g .class, w .max-address-fits))
 
+  -- A record without a name fits a form without a name field.
   pub no-name-field : r .row .namelen ≡ 0 → NameFits 0 (r .name)
   no-name-field e = unnamed (empty-of-length (r .name) (omega (arith, g .namelen)))
 
-  -- an object: the fields that only other kinds use are 0
+  -- An object: the numbers that only other kinds use are 0.
   module _ (k2 : r .row .kind ≡ 2) (s0 : r .row .size ≡ 0) (l0 : r .row .len ≡ 0) (y0 : r .row .prim ≡ 0) (n0 : r .row .namelen ≡ 0) where
-    -- an object's shape, by its fields for the class word and the count, and the count in its tag
+    -- The shape of an object, by the bytes of its class word and of its count, the count in its tag, and whether its class word
+    -- is pushed.
     abbrev object-shape : ℕ → ℕ → ℕ → Bool → Shape
     object-shape class counted count cached =
         let a : ℕ = r .row .address in
@@ -101,7 +104,7 @@ module _ (h : Header) (c : Cache) (before index : ℕ) (r : Rec)
       count-le-len = λ z. absurd (z refl);
     }
 
-    -- with the class word in a field of its own
+    -- An object whose class word has a field matches its shape.
     object-shape-matches : (counted count : ℕ) → ShapeMatches 0 (object-shape (h .bits / 8) counted count true) r
     unfolding field-value field-or
     object-shape-matches counted count = record {
@@ -113,6 +116,8 @@ module _ (h : Header) (c : Cache) (before index : ℕ) (r : Rec)
       cached = λ e. class-field-value;
     }
 
+    -- An object with at most 3 references, a gap of at most two bytes, its class word in a slot, and a hash kind that needs no
+    -- flag byte is `Decodable` as a short object.
     pub short-decodable : needs-flag-byte (plan-input c before (r .row) (r .refs) .hashkind) ≡ false → width-code (gap before (r .row .address)) < 2
         → r .row .count ≤ 3 → find-slot c (r .row .class) < 4
         → Decodable h c before r Short (tag-of Short (plan-input c before (r .row) (r .refs))) 0 (r .row .class)
@@ -132,6 +137,8 @@ module _ (h : Header) (c : Cache) (before index : ℕ) (r : Rec)
         (object-form-fits 0 0 n false absent absent refl)
         (record { kind = sym k2; class = refl; size = sym s0; len = sym l0; prim = sym y0; cached = λ e. absurd (true-not-false (sym e)) })
 
+    -- An object with at most 7 references, a gap of at most two bytes, and a hash kind that needs no flag byte is `Decodable` as
+    -- a medium object.
     pub medium-decodable : needs-flag-byte (plan-input c before (r .row) (r .refs) .hashkind) ≡ false → width-code (gap before (r .row .address)) < 2 → r .row .count ≤ 7
         → Decodable h c before r Medium (tag-of Medium (plan-input c before (r .row) (r .refs))) 0 0
     unfolding plan-input needs-flag-byte tag-of tag-form slot-class shape field-or
@@ -149,6 +156,7 @@ module _ (h : Header) (c : Cache) (before index : ℕ) (r : Rec)
         (object-form-fits (h .bits / 8) 0 n true present absent refl)
         (object-shape-matches 0 n)
 
+    -- Every good object is `Decodable` as a long object.
     pub long-decodable : Decodable h c before r Long 4 (flags-of Long (plan-input c before (r .row) (r .refs))) 0
     unfolding plan-input flags-of tag-form slot-class moved-bit hashed-bit shape field-value field-or
     long-decodable =
@@ -164,6 +172,7 @@ module _ (h : Header) (c : Cache) (before index : ℕ) (r : Rec)
         (object-form-fits (h .bits / 8) 4 0 true present present refl)
         (object-shape-matches 4 0)
 
+  -- Every good object array is `Decodable`.
   pub object-array-decodable : r .row .kind ≡ 3 → r .row .count ≤ r .row .len → r .row .prim ≡ 0 → r .row .namelen ≡ 0
       → Decodable h c before r ObjectArray 8 (flags-of ObjectArray (plan-input c before (r .row) (r .refs))) 0
   unfolding plan-input flags-of tag-form slot-class moved-bit hashed-bit shape field-value field-or
@@ -201,6 +210,7 @@ module _ (h : Header) (c : Cache) (before index : ℕ) (r : Rec)
         cached = λ e. absurd (true-not-false (sym e));
       })
 
+  -- Every good class is `Decodable`.
   pub class-decodable : r .row .kind ≡ 1 → (r .row .hashkind ≡ 1 → ⊥) → r .row .size < 2 ^ 31 → r .row .len ≡ 0 → r .row .prim ≡ 0
       → NameFits 2 (r .name) → Decodable h c before r Class 6 (flags-of Class (plan-input c before (r .row) (r .refs))) 0
   unfolding plan-input flags-of tag-form slot-class moved-bit hashed-bit shape field-value field-or

@@ -1,4 +1,4 @@
--- The header that was put is read as it was lent, with its VM string where it stands in the dump.
+-- A written header is read back as it was passed in, with its VM string at offset 32 of the dump.
 -- Assumes nothing.
 use mathlib.Core.Path.{_≡_, refl}
 use mathlib.Core.Logic.{⊎-elim}
@@ -26,15 +26,15 @@ use Rattle.phd_write.specs.Write.{flag-value, header-flags, encode-preamble, en
 use Rattle.phd_check.specs.WellFormed.{VmInBounds, vm-in-bounds, length-vm-text}
 use Rattle.phd_write.specs.HeaderBytes.{length-preamble, header-parts}
 
--- the VM string stands 32 bytes into a dump
+-- The VM string of a written header, as it is read: its bytes begin at offset 32.
 unfoldable pub written-vm : StringSpan → StringSpan
 written-vm t = cond (t .present) (record { present = true; place = 32; len = t .len }) no-string
 
--- the facts of a header that was written, as they are read
+-- A written header, as it is read: the header passed in, with the VM string at its place in the dump.
 abbrev pub written-header : Header → Header
 written-header h = record { bits = h .bits; hashed = h .hashed; openj9 = h .openj9; vm = written-vm (h .vm) }
 
--- ---- fields that must be one number, or below one
+-- ---- fields with a fixed value or an upper bound
 
 reads-exactly : (p n v reply : ℕ) → v < 256 ^ n → Reads p (exactly n v reply) (be n v) v
 unfolding exactly
@@ -48,7 +48,7 @@ reads-below p n top reply v h l =
     reads-end p (field n) _ (be n v) v v (reads-field p n v h)
     (reads-skip _ _ _ _ tt v (reads-check _ reply _ (lt-ltb v top l)) (reads-yield _ v))
 
--- such a field, and then more
+-- A field with a fixed value, and the layout after it.
 then-exactly : {B : Type 0} (p n v reply : ℕ) (l : Layout B) (cs : List ℕ) (b : B) → v < 256 ^ n → Reads (p + n) l cs b
     → Reads p (exactly n v reply >> l) (be n v ++ cs) b
 then-exactly p n v reply l cs b h k = reads-then p _ _ (be n v) cs v b (reads-exactly p n v reply h) (rw (length-be n v) k)
@@ -71,7 +71,7 @@ reads-preamble f l =
 
 -- ---- the VM string
 
--- a VM string is read behind its tag
+-- A VM string is read after its header tag.
 reads-vm-string : (text : List ℕ) (n : ℕ) → length text ≡ n → n < 65536 → all-within 0x20 0x7E text ≡ true
     → Reads 29 header-records (join (be 1 4 ∷ be 2 n ∷ text ∷ []) ++ be 1 2) (record { present = true; place = 32; len = n })
 unfolding header-records after-vm
@@ -128,6 +128,7 @@ header-flags-lt h = header-flags-bits (eqb (h .bits) 64) (h .hashed) (h .openj9)
 
 -- ---- the header
 
+-- A good header at the start of a dump is read back.
 pub decode-encode-header : (names : List ℕ) (h : Header) → ValidBits (h .bits) → good-vm names (h .vm) ≡ true → Reads 0 header (encode-header names h) (written-header h)
 unfolding header
 decode-encode-header names h w g =
@@ -142,7 +143,7 @@ written-vm-if-present : (t : StringSpan) → t .present ≡ true → written-vm 
 unfolding written-vm
 written-vm-if-present t e = rw e
 
--- there is one exactly when one was lent
+-- A VM string is read exactly when one was passed in.
 pub written-vm-present : (t : StringSpan) → written-vm t .present ≡ t .present
 unfolding written-vm
 written-vm-present t = by (t .present)
@@ -151,7 +152,7 @@ written-vm-present t = by (t .present)
     by true = refl
     by false = refl
 
--- The VM string's bytes stand where the facts that are read say.
+-- The bytes of the VM string lie at the place that is read.
 pub written-vm-text : (names : List ℕ) (h : Header) (rest : List ℕ) → good-vm names (h .vm) ≡ true → h .vm .present ≡ true
     → vm-text (encode-header names h ++ rest) (written-vm (h .vm)) ≡ vm-text names (h .vm)
 unfolding encode-vm

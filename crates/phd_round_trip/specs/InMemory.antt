@@ -1,5 +1,5 @@
--- Demands 2 and 3 as a caller sees them in memory: an output that `write` filled, and the tables that `read` then fills from its first
--- bytes. The premises are what a call of each gives, by its contract: `AfterWrite` (phd_write) and `AfterRead` (phd_read).
+-- Demands 2 and 3 for calls: `write` filled an output, and `read` then fills tables from the first bytes of it. The premises are
+-- the contracts of the two calls, `AfterWrite` (phd_write) and `AfterRead` (phd_read).
 -- A reader must believe the records `CutRead` and `WholeRead`.
 use mathlib.Core.Path.{_≡_, ap, _∙_}
 use Prim.Native.Nat.{ℕ, _*_, _≤_, _<_}
@@ -24,22 +24,23 @@ use Rattle.phd_write.specs.WriteTheorems.{written-dump}
 use Rattle.phd_round_trip.specs.CutRecords.{all-refs, cut-recs, stop-at}
 use Rattle.phd_round_trip.specs.RoundTripTheorems.{SameHeader, prefix-read-tables, cut-recs-all, stop-at-all}
 
--- What a reading of the first m bytes of an output gives, of which n were written: its answer b, and its tables afterwards. The records
--- rs are those of the rows passed to `write`.
+-- After the first m bytes of an output were read, n of whose bytes were written, the answer b and the tables give the records
+-- within this cut. The records rs are those of the rows passed to `write`.
 pub record CutRead (h : Header) (names : List ℕ) (rs : List Rec) (n m : ℕ) (out : List ℕ) (b : ReadAnswer) (rows refs : List ℕ) : Type 0 where
-  -- the records in the tables are exactly those whose last byte lies within the cut, in order
+  -- The records in the tables are exactly those whose last byte lies within the cut, in order.
   pub records : first-recs (b .rows) (take m out) refs rows ≡ cut-recs names h rs m
   pub rows-count : b .rows ≡ length (cut-recs names h rs m)
   pub refs-count : b .refs ≡ length (all-refs (cut-recs names h rs m))
   pub refs-all : take (b .refs) refs ≡ all-refs (cut-recs names h rs m)
-  -- done exactly if all bytes written lie within it, and else cut, with the place where that is
+  -- The reply is 0 (complete) exactly if all written bytes lie within the cut, else 1 (cut); the place is where the reading
+  -- stops.
   pub reply : b .reply ≡ cond (leb n m) 0 1
   pub place : b .place ≡ stop-at names h rs m
-  -- the header is the one passed in, if it lies within the cut
+  -- The header is the one passed in if it lies whole within the cut; otherwise it is empty.
   pub header : length (encode-header names h) ≤ m → SameHeader h names (b .header) (take m out)
   pub no-header : m < length (encode-header names h) → b .header ≡ empty-header
 
--- What a reading of all n bytes written gives.
+-- After all n written bytes were read, the answer b and the tables give all records, and the header passed in.
 pub record WholeRead (h : Header) (names : List ℕ) (rs : List Rec) (n : ℕ) (out : List ℕ) (b : ReadAnswer) (rows refs : List ℕ) : Type 0 where
   pub records : first-recs (b .rows) (take n out) refs rows ≡ rs
   pub rows-count : b .rows ≡ length rs
@@ -49,7 +50,8 @@ pub record WholeRead (h : Header) (names : List ℕ) (rs : List Rec) (n : ℕ) (
   pub place : b .place ≡ n
   pub header : SameHeader h names (b .header) (take n out)
 
--- A call of `write` that answered 0, and a call of `read` with tables of a row for each record and a number for each of their references.
+-- A call of `write` with reply 0, and a call of `read` with tables that have a row for each record and a number for each
+-- reference.
 module _ (h : Header) (names refs rows out : List ℕ) (a : Answer) (out′ : List ℕ) (w : AfterWrite h names refs rows out a out′) (z : a .reply ≡ 0)
     (rows₀ refs₀ : List ℕ) (p : length (rows-of rows) * row-width ≤ length rows₀) (q : length (all-refs (recs names refs (rows-of rows))) ≤ length refs₀)
     (b : ReadAnswer) (rows′ refs′ : List ℕ) where
@@ -73,7 +75,7 @@ module _ (h : Header) (names refs rows out : List ℕ) (a : Answer) (out′ : Li
   unfolding encode-dump
   dump-is = written-dump h names refs (rows-of rows) (length out) write-reply-0 .bytes
 
-  -- Demand 3, second part: any first m of the bytes written.
+  -- Demand 3, second part: a reading of the first m of the written bytes gives `CutRead`.
   pub cut-read : (m : ℕ) → m ≤ a .place → AfterRead (take m out′) rows₀ refs₀ b rows′ refs′ → CutRead h names rs (a .place) m out′ b rows′ refs′
   cut-read m l r =
       let d = first-bytes m (omega (arith, l)) in
@@ -90,7 +92,7 @@ module _ (h : Header) (names refs rows out : List ℕ) (a : Answer) (out′ : Li
         no-header = s .no-header;
       })
 
-  -- Demand 2: all of them.
+  -- Demand 2: a reading of all written bytes gives `WholeRead`.
   pub whole-read : AfterRead (take (a .place) out′) rows₀ refs₀ b rows′ refs′ → WholeRead h names rs (a .place) out′ b rows′ refs′
   unfolding encode-dump
   whole-read r =

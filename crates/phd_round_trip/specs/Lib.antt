@@ -1,10 +1,11 @@
--- In reading order: Terms (what the promises speak of), Promises (the round trip, and the cuts of a written dump) and InMemory (both as a
--- caller sees them).
--- The rest is for proofs. Of one record: Fit (what a record must be to be read as it was), Fields (its parts are read back), Entry (it
--- is read back whole), Forms (a good record in its form is fit, by Formed, Objects and Arrays) and Back (so a good record is read
--- back). Of a dump: Within (the bytes of records, and which lie within a cut), HeaderBack (the header read back), Handed (record
--- after record, of any cut), Same (the rows read are the records written), Whole (a whole dump and its cuts) and Good (what was
--- written is a good dump).
+-- In reading order: CutRecords (the records within a cut), RoundTripTheorems (the round trip, and the cuts of a written dump) and
+-- InMemory (both for calls of `write` and `read`).
+-- The rest is for proofs. One record: Decodable (the conditions under which a record is read back), FieldsRoundTrip (its parts
+-- are read back), EntryRoundTrip (the whole record is read back), ChosenForm (a good record satisfies the conditions in the form
+-- chosen for it; by FormFits, FormsWithRefs and PrimitiveForms) and RecordRoundTrip (so a good record is read back).
+-- A dump: CutRecordLaws (laws of the bytes of records, and of the records within a cut), HeaderRoundTrip (the header is read
+-- back), PrefixReading (record after record, for any cut), DecodedRows (the rows read are the records written), DumpRoundTrip (a
+-- whole dump and its cuts) and WrittenIsGood (a written dump is good).
 pub mod CutRecords
 pub mod RoundTripTheorems
 pub mod InMemory

@@ -1,4 +1,5 @@
--- The records of a written dump, and of any cut of it, read one after another: which are returned, and with which reply.
+-- A reading of any cut of a written dump, record after record, returns the records that lie whole within the cut, and its reply
+-- is 0 or 1.
 -- Assumes nothing.
 use mathlib.Core.Path.{_≡_, refl, sym}
 use Prim.Native.Nat.{ℕ, zero, suc, _+_, _*_, _%_, _≤_, _<_}
@@ -30,14 +31,14 @@ use Rattle.phd_round_trip.specs.CutRecords.{all-refs, within-cut, stop-i
 use Rattle.phd_round_trip.specs.CutRecordLaws.{AllGood}
 use Rattle.phd_round_trip.specs.RecordRoundTrip.{refs-place, decoded-row, length-decoded-row, decode-encode-record}
 
--- the end tag is read as the end
+-- The end tag is read as `end-item`.
 pub decode-end-tag : (h : Header) (before : ℕ) (c : Cache) (index p : ℕ) → Reads p (entry h before c index) (be 1 3) end-item
 unfolding from-tag
 decode-end-tag h before c index p =
     reads-entry h before c index p
     (reads-end p (field 1) _ (be 1 3) 3 end-item (reads-field p 1 3 (lit< tt)) (reads-yield _ end-item))
 
--- the rows of records, the first being put at p
+-- The rows that records are read as, if the first is written at p.
 unfoldable pub decoded-rows : Header → ℕ → ℕ → Cache → List Rec → List ℕ
 decoded-rows h p before c [] = []
 decoded-rows h p before c (r ∷ rs) =
@@ -51,7 +52,8 @@ length-decoded-rows h p before c (r ∷ rs) =
     let n = length-decoded-row h p before c r in
     simp length-append (omega arith)
 
--- the reading of a cut at m of a dump of `total` bytes: what it holds after the state st, the records rs being still to come
+-- The result rd of reading a cut at m of a dump of `total` bytes, from the state st on with the records rs still to come: the
+-- rows and references of st, and those of the records within the cut.
 pub record ReadsCutFrom (m total : ℕ) (h : Header) (st : State) (rs : List Rec) (rd : Result) : Type 0 where
   pub rows : rd .rows ≡ st .rows ++ decoded-rows h (st .at) (st .context .address) (st .context .cache) (within-cut m h (st .at) (st .context .address) (st .context .cache) rs)
   pub refs : rd .refs ≡ st .refs ++ all-refs (within-cut m h (st .at) (st .context .address) (st .context .cache) rs)
@@ -59,7 +61,7 @@ pub record ReadsCutFrom (m total : ℕ) (h : Header) (st : State) (rs : List Rec
   pub place : rd .place ≡ stop-in m h (st .at) (st .context .address) (st .context .cache) rs
   pub header : rd .header ≡ h
 
--- a record as it is read, at the state st, and the state after it
+-- A record as it is read in the state st: where its references lie, its row, its size, and the state after it.
 abbrev span-read : Header → State → Rec → Span
 span-read h st r = refs-place h (st .at) (st .context .address) (st .context .cache) r
 
@@ -72,7 +74,7 @@ size-at h st r = length (encode-record h (st .context .address) (st .context .ca
 abbrev state-after : Header → State → Rec → State
 state-after h st r = append-item st (row-read h st r) (r .refs) (make-context (r .row .address) (cache-after h (st .context .address) (st .context .cache) r)) (st .at + size-at h st r)
 
--- a record within the cut
+-- The first record lies within the cut.
 reads-cut-step : (m total : ℕ) (h : Header) (st : State) (r : Rec) (rs : List Rec) (rd : Result) → st .at + size-at h st r ≤ m
     → ReadsCutFrom m total h (state-after h st r) rs rd → ReadsCutFrom m total h st (r ∷ rs) rd
 unfolding within-cut stop-in decoded-rows all-refs
@@ -84,7 +86,7 @@ reads-cut-step m total h st r rs rd l g = record {
   header = g .header;
 }
 
--- a record beyond the cut
+-- The first record does not lie whole within the cut.
 reads-cut-beyond : (m total k : ℕ) (h : Header) (st : State) (r : Rec) (rs : List Rec) → m < st .at + size-at h st r → m < total
     → ReadsCutFrom m total h st (r ∷ rs) (ended h st 1 (st .at) k)
 unfolding within-cut stop-in decoded-rows all-refs ended
@@ -96,7 +98,7 @@ reads-cut-beyond m total k h st r rs l t = record {
   header = refl;
 }
 
--- no record is left
+-- No record is left.
 reads-cut-end : (m total : ℕ) (h : Header) (st : State) (reply place k : ℕ) → reply ≡ cond (leb total m) 0 1
     → place ≡ stop-in m h (st .at) (st .context .address) (st .context .cache) []
     → ReadsCutFrom m total h st [] (ended h st reply place k)
@@ -104,7 +106,7 @@ unfolding within-cut decoded-rows all-refs ended
 reads-cut-end m total h st reply place k e l =
     record { rows = sym (append-nil (st .rows)); refs = sym (append-nil (st .refs)); reply = e; place = l; header = refl }
 
--- what is asked of the records still to come, after the state st, with f of the count left
+-- The conditions on the records that are still to come after the state st, with f steps left.
 pub record Remaining (h : Header) (R F f : ℕ) (st : State) (rs : List Rec) : Type 0 where
   pub bits : ValidBits (h .bits)
   pub good : AllGood h (length (st .refs)) rs
@@ -132,7 +134,7 @@ remaining-step h R F f st r rs k =
       ref-capacity = omega arith;
     }
 
--- a record that is read has room
+-- The tables have capacity for the next record, so it is stored.
 step-of-remaining : (h : Header) (s : List ℕ) (R F f : ℕ) (st : State) (r : Rec) (rs : List Rec) → Remaining h R F (suc f) st (r ∷ rs)
     → next-item phd h s st ≡ whole (item (row-read h st r) (r .refs) (span-read h st r) (make-context (r .row .address) (cache-after h (st .context .address) (st .context .cache) r))) (st .at + size-at h st r)
     → step h s R F st ≡ go (state-after h st r)
@@ -142,12 +144,13 @@ step-of-remaining h s R F f st r rs k e =
     step-item phd h s (capacity R F) st (row-read h st r) (r .refs) (span-read h st r) (make-context (r .row .address) (cache-after h (st .context .address) (st .context .cache) r)) (st .at + size-at h st r) e
     (omega (arith, k .capacity, length-decoded-row h (st .at) (st .context .address) (st .context .cache) r)) (omega (arith, k .ref-capacity))
 
--- a reading that is cut stays at the record
+-- A reading whose next record is cut ends at the tag of that record.
 records-cut : (h : Header) (s : List ℕ) (R F f : ℕ) (st : State) (k : ℕ) → next-item phd h s st ≡ stops (Cut k)
     → records (suc f) h s R F st ≡ ended h st 1 (st .at) k
 unfolding reply-of missing-of
 records-cut h s R F f st k e = records-halt phd f h s (capacity R F) st (ended h st 1 (st .at) k) (step-stop phd h s (capacity R F) st (Cut k) e)
 
+-- The records rs and the end tag, written after `pre`, are read from a cut at m, with f steps left.
 abbrev ReadsRecords : Header → (R F m f : ℕ) → List Rec → Type 0
 ReadsRecords h R F m f rs =
     (st : State) (pre : List ℕ) → length pre ≡ st .at → st .at ≤ m → Remaining h R F f st rs
@@ -214,7 +217,8 @@ reads-records-step h R F m f r rs ih st pre e l k = rw total (elim (decLe (st .a
         rw (records-cut h (take m dump) R F f st (g .deficit) (g .is))
         (reads-cut-beyond m (st .at + length bs + length rest) (g .deficit) h st r rs q (omega arith))
 
--- Records put after `pre`, and the end tag, read from any cut at their beginning or later, with room for them all.
+-- Records and the end tag, written after `pre`, are read from any cut at their beginning or later, in tables with capacity for
+-- all of them.
 pub reads-records : (h : Header) (R F m f : ℕ) (rs : List Rec) → ReadsRecords h R F m f rs
 reads-records h R F m zero rs st pre e l k = absurd (omega (arith, k .count))
 reads-records h R F m (suc f) [] st pre e l k = reads-records-end h R F m f st pre e l k

@@ -1,5 +1,5 @@
--- Primitive arrays, the two forms with no references: the tag and the flag byte of each name it again, and a good record
--- fits the shape that they name. Assumes nothing.
+-- The two forms of primitive arrays, which have no references: the tag and the flag byte of each form decode to that form, and a
+-- good record fits the shape that they determine. Assumes nothing.
 use mathlib.Core.Path.{_≡_, refl, sym}
 use Prim.Native.Nat.{ℕ, _+_, _*_, _/_, _%_, _^_, _≤_, _<_}
 use mathlib.Core.Bool.{Bool, true, false, cond}
@@ -24,12 +24,12 @@ use Rattle.phd_round_trip.specs.FormFits.{absent, present, field-value-f
 use Rattle.phd_round_trip.specs.FormsWithRefs.{decodable-of, hash-kind-valid, gap-fits-8, no-name-field}
 use Rattle.phd_encode.specs.TagBits.{no-flag-byte-bits, hash-flag-bits, hash-flags-lt, primitive-tag, long-primitive-flags}
 
--- A good record r after one at `before`, with the cache c.
+-- A good record r after one at the address `before`, with the cache c.
 module _ (h : Header) (c : Cache) (before index : ℕ) (r : Rec)
     (w : AddressSize (h .bits)) (g : GoodRec h index r) (bf : before % 4 ≡ 0) (bl : before ≤ max-address (h .bits)) where
-  -- a primitive array: its gap and its length share a width
+  -- A primitive array: its gap and its length have the same width.
   module _ (k4 : r .row .kind ≡ 4) (c0 : r .row .class ≡ 0) (r0 : r .row .count ≡ 0) (y8 : r .row .prim < 8) (n0 : r .row .namelen ≡ 0) where
-    -- a primitive array's shape, v bytes wide
+    -- The shape of a primitive array whose gap and length have v bytes each.
     abbrev primitive-shape : ℕ → Shape
     primitive-shape v = make-shape 4 v 0 v 0 0 0 0 0 0 4 0 false (r .row .prim)
 
@@ -68,7 +68,7 @@ module _ (h : Header) (c : Cache) (before index : ℕ) (r : Rec)
       cached = λ e. absurd (true-not-false (sym e));
     }
 
-    -- the greater code of the two is of a width that holds both
+    -- The greater of the width codes of gap and length is that of a width that holds both.
     pair-code-fits : (p : ℕ) → max (width-code (gap before (r .row .address))) (width-code (pos (r .row .len))) ≡ p
         → (fits (width p) (gap before (r .row .address)) ≡ true) × (r .row .len + r .row .len < 256 ^ width p)
     unfolding width fits
@@ -82,6 +82,7 @@ module _ (h : Header) (c : Cache) (before index : ℕ) (r : Rec)
         let b : width-code z ≤ p = rw e at (le-max-right (width-code d) (width-code z)) in
         (code-fits-wider d p a d8, ltb-true _ _ (code-fits-wider z p b z8))
 
+    -- A primitive array whose hash kind needs no flag byte is `Decodable` as a primitive array.
     pub primitive-decodable : needs-flag-byte (plan-input c before (r .row) (r .refs) .hashkind) ≡ false
         → Decodable h c before r Primitive (tag-of Primitive (plan-input c before (r .row) (r .refs))) 0 0
     unfolding plan-input needs-flag-byte tag-of tag-form slot-class shape
@@ -99,7 +100,8 @@ module _ (h : Header) (c : Cache) (before index : ℕ) (r : Rec)
         (primitive-form-fits (width p) (width-pos p) (l .0) (l .1))
         (primitive-shape-matches (width p) (l .1))
 
-    -- v says whether the two are as wide as W, of u bytes then, or one byte each
+    -- A primitive array is `Decodable` as a long one whose gap and length have u bytes each: W / 8 if the width bit v of the flag
+    -- byte is 1, else one byte.
     long-primitive-by-width : (v u : ℕ) → v < 2 → cond (eqb v 1) (h .bits / 8) 1 ≡ u → 1 ≤ u → fits u (gap before (r .row .address)) ≡ true
         → r .row .len + r .row .len < 256 ^ u
         → Decodable h c before r LongPrimitive 7 (0x20 * r .row .prim + 0x10 * v + hash-flags (r .row .hashkind)) 0
@@ -114,6 +116,7 @@ module _ (h : Header) (c : Cache) (before index : ℕ) (r : Rec)
         (rw (b .1, b .2, e))
         (primitive-form-fits u s p q) (primitive-shape-matches u q)
 
+    -- Every good primitive array is `Decodable` as a long primitive array.
     pub long-primitive-decodable : Decodable h c before r LongPrimitive 7 (flags-of LongPrimitive (plan-input c before (r .row) (r .refs))) 0
     unfolding plan-input flags-of width
     long-primitive-decodable = by (eqb p 0) refl

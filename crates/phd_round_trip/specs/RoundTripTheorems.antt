@@ -1,5 +1,5 @@
--- The promises about a written dump and its reading: demand 2's round trip, and the second part of demand 3. Of any rows; what a
--- write of a table gives (`write-result`) is what a write of its rows gives.
+-- The theorems about reading a written dump: the round trip (demand 2), and the records that a cut contains (demand 3, second
+-- part). They are stated for rows; writing a table is writing its rows (`write-result`).
 -- A reader must believe the statements and their records. Assumes nothing.
 use mathlib.Core.Path.{_≡_, refl, sym, ap, subst, _∙_}
 use Prim.Native.Nat.{ℕ, _+_, _-_, _*_, _≤_, _<_}
@@ -28,10 +28,10 @@ use Rattle.phd_round_trip.specs.HeaderRoundTrip.{written-header, written
 use Rattle.phd_round_trip.specs.DumpRoundTrip.{ReadsCut, reads-cut, cut-recs-count, cut-recs-decoded}
 use Rattle.phd_round_trip.specs.WrittenIsGood.{written-is-good, length-recs, rows-capacity, refs-in-bounds}
 
--- ---- demand 2, of writing
+-- ---- the round trip (demand 2)
 
--- The header facts f of a dump are those that were passed in with the name bytes: W, both flags, whether there is a VM string, and
--- its bytes.
+-- The header f, read from `bytes`, agrees with the header h that was passed in with the name bytes: in W, in both flags, in
+-- whether there is a VM string, and in its bytes.
 pub record SameHeader (h : Header) (names : List ℕ) (f : Header) (bytes : List ℕ) : Type 0 where
   pub bits : f .bits ≡ h .bits
   pub hashed : f .hashed ≡ h .hashed
@@ -39,22 +39,22 @@ pub record SameHeader (h : Header) (names : List ℕ) (f : Header) (bytes : List
   pub present : f .vm .present ≡ h .vm .present
   pub text : h .vm .present ≡ true → vm-text bytes (f .vm) ≡ vm-text names (h .vm)
 
--- What holds of the reading of the bytes written.
+-- The result rd of reading the written bytes gives back the header and the records that were passed in.
 pub record RoundTrip (h : Header) (names refs : List ℕ) (rows : List Row) (bytes : List ℕ) (rd : Result) : Type 0 where
-  -- it is done, and ends where they end
+  -- The dump is complete and ends where the bytes end.
   pub reply : rd .reply ≡ 0
   pub place : rd .place ≡ length bytes
-  -- the records are those of the rows: there are as many rows, and their references one after another
+  -- The records are those of the rows: there is a row for each, and the references are theirs, in order.
   pub records : recs bytes (rd .refs) (rows-of (rd .rows)) ≡ recs names refs rows
   pub rows-count : row-count (rd .rows) ≡ length rows
   pub refs-all : rd .refs ≡ all-refs (recs names refs rows)
-  -- the header is the one passed in
+  -- The header is the one passed in.
   pub header : SameHeader h names (rd .header) bytes
 
 same-header : (h : Header) (names rest : List ℕ) → good-vm names (h .vm) ≡ true → SameHeader h names (written-header h) (encode-header names h ++ rest)
 same-header h names rest g = record { bits = refl; hashed = refl; openj9 = refl; present = written-vm-present (h .vm); text = written-vm-text names h rest g }
 
--- the header is there in every cut after it
+-- In every cut that contains the whole header, the header read is the one passed in.
 cut-header : (h : Header) (names : List ℕ) (rs : List Rec) (m : ℕ) → good-vm names (h .vm) ≡ true → length (encode-header names h) ≤ m
     → SameHeader h names (written-header h) (take m (encode-dump names h rs))
 unfolding encode-dump
@@ -65,14 +65,14 @@ cut-header h names rs m g l =
     subst (λ (x : ℕ). SameHeader h names (written-header h) (take x (hd ++ rest))) e
     (rw (take-append-add hd rest (m - length hd)) (same-header h names (take (m - length hd) rest) g))
 
--- all records of a dump lie within all of it
+-- All records of a dump lie within a cut at its end.
 pub cut-recs-all : (h : Header) (names : List ℕ) (rs : List Rec) → cut-recs names h rs (length (encode-dump names h rs)) ≡ rs
 unfolding encode-dump
 cut-recs-all h names rs =
     let t = length-append (encode-header names h) (encode-records h 0 empty-cache rs) in
     within-cut-all (length (encode-dump names h rs)) h (length (encode-header names h)) 0 empty-cache rs (omega arith)
 
--- and a reading of all of it stops after the end tag
+-- A reading of a whole dump stops after the end tag.
 pub stop-at-all : (h : Header) (names : List ℕ) (rs : List Rec) → stop-at names h rs (length (encode-dump names h rs)) ≡ length (encode-dump names h rs)
 unfolding encode-dump
 stop-at-all h names rs =
@@ -80,8 +80,8 @@ stop-at-all h names rs =
     rw (le-leb (length (encode-header names h)) (length (encode-dump names h rs)) (omega arith))
     (stop-in-all (length (encode-dump names h rs)) h (length (encode-header names h)) 0 empty-cache rs (omega arith) ∙ sym t)
 
--- What was written reads back as the records passed in, under the same header, in tables with a row for each record and a number
--- for each of their references.
+-- A written dump is read back as the records passed in, under the same header, if the tables have a row for each record and a
+-- number for each reference.
 pub round-trip : (h : Header) (names refs : List ℕ) (rows : List Row) (out-capacity R F : ℕ) → write-rows h names refs rows out-capacity .answer .reply ≡ 0
     → length rows * row-width ≤ R → length (all-refs (recs names refs rows)) ≤ F
     → RoundTrip h names refs rows (write-rows h names refs rows out-capacity .bytes) (read-result (write-rows h names refs rows out-capacity .bytes) R F)
@@ -105,7 +105,7 @@ round-trip h names refs rows out-capacity R F z p q =
       header = rw (c .header (omega arith)) (same-header h names (encode-records h 0 empty-cache rs) (g .vm));
     })
 
--- Tables as long as those passed to the writer hold it all.
+-- Tables as long as those passed to the writer have enough capacity to read the dump back.
 pub input-capacity-enough : (h : Header) (names refs table : List ℕ) (out-capacity : ℕ) → write-result h names refs table out-capacity .answer .reply ≡ 0
     → (length (rows-of table) * row-width ≤ length table) × (length (all-refs (recs names refs (rows-of table))) ≤ length refs)
 unfolding row-count
@@ -113,24 +113,25 @@ input-capacity-enough h names refs table out-capacity z =
     let l = length-rows table in
     (omega arith, omega (arith, refs-in-bounds h names refs (rows-of table) 0 0 (reply-0-means h names refs (rows-of table) out-capacity z .0 .1) (omega arith)))
 
--- ---- demand 3, second part
+-- ---- cuts of a written dump (demand 3, second part)
 
--- What holds of the reading of the first m of the bytes written.
+-- The result rd of reading the first m of the written bytes gives the records within this cut.
 pub record PrefixRead (h : Header) (names refs : List ℕ) (rows : List Row) (bytes : List ℕ) (m : ℕ) (rd : Result) : Type 0 where
-  -- the records returned are exactly the written ones whose last byte lies within the cut, in order
+  -- The records read are exactly the written ones whose last byte lies within the cut, in order.
   pub records : recs (take m bytes) (rd .refs) (rows-of (rd .rows)) ≡ cut-recs names h (recs names refs rows) m
-  -- there is a row for each, and their references one after another
+  -- There is a row for each, and the references are theirs, in order.
   pub rows-count : row-count (rd .rows) ≡ length (cut-recs names h (recs names refs rows) m)
   pub refs-all : rd .refs ≡ all-refs (cut-recs names h (recs names refs rows) m)
-  -- the reply is cut exactly when the end tag, which is the last byte, lies outside the cut, and else done
+  -- The reply is 1 (cut) exactly when the end tag, which is the last byte, lies outside the cut; otherwise it is 0 (complete).
   pub reply : rd .reply ≡ cond (leb (length bytes) m) 0 1
-  -- with it, the place: after the end tag, or else the tag of the first record that is not whole, and 0 in the header
+  -- The place is after the end tag, or else the tag of the first record that is not whole, or 0 in the header.
   pub place : rd .place ≡ stop-at names h (recs names refs rows) m
-  -- the header is the one passed in, if it lies within the cut, and else there are no header facts
+  -- The header is the one passed in if it lies whole within the cut; otherwise it is empty.
   pub header : length (encode-header names h) ≤ m → SameHeader h names (rd .header) (take m bytes)
   pub no-header : m < length (encode-header names h) → rd .header ≡ empty-header
 
--- Any cut of any dump that was written, read with a row for each record and a number for each of their references.
+-- A reading of any cut of a written dump gives `PrefixRead`, if the tables have a row for each record and a number for each
+-- reference.
 pub prefix-read : (h : Header) (names refs : List ℕ) (rows : List Row) (out-capacity m R F : ℕ) → write-rows h names refs rows out-capacity .answer .reply ≡ 0
     → length rows * row-width ≤ R → length (all-refs (recs names refs rows)) ≤ F
     → PrefixRead h names refs rows (write-rows h names refs rows out-capacity .bytes) m (read-result (take m (write-rows h names refs rows out-capacity .bytes)) R F)
@@ -151,8 +152,8 @@ prefix-read h names refs rows out-capacity m R F z p q =
       no-header = reads-cut names h rs m R F g r q .no-header;
     })
 
--- The same as a caller sees it, who passes the tables rows′ and refs′ to the reading: as many rows as are counted, in the
--- tables as they are afterwards, are those records. (Where m is the length of the bytes, these are all records.)
+-- `PrefixRead` for a caller who passes the tables rows′ and refs′: the records are in the first rows of the tables as they are
+-- afterwards, as many as the answer counts. If m is the length of the bytes, these are all records.
 pub record PrefixReadTables (h : Header) (names refs : List ℕ) (rows : List Row) (bytes : List ℕ) (m : ℕ) (rd : Result) (rows′ refs′ : List ℕ) : Type 0 where
   pub records : first-recs (read-answer rd .rows) (take m bytes) (overwrite refs′ (rd .refs)) (overwrite rows′ (rd .rows)) ≡ cut-recs names h (recs names refs rows) m
   pub rows-count : read-answer rd .rows ≡ length (cut-recs names h (recs names refs rows) m)
@@ -163,6 +164,7 @@ pub record PrefixReadTables (h : Header) (names refs : List ℕ) (rows : List Ro
   pub header : length (encode-header names h) ≤ m → SameHeader h names (read-answer rd .header) (take m bytes)
   pub no-header : m < length (encode-header names h) → read-answer rd .header ≡ empty-header
 
+-- A reading of any cut of a written dump into tables with enough capacity gives `PrefixReadTables`.
 pub prefix-read-tables : (h : Header) (names refs : List ℕ) (rows : List Row) (out-capacity m : ℕ) (rows′ refs′ : List ℕ) → write-rows h names refs rows out-capacity .answer .reply ≡ 0
     → length rows * row-width ≤ length rows′ → length (all-refs (recs names refs rows)) ≤ length refs′
     → PrefixReadTables h names refs rows (write-rows h names refs rows out-capacity .bytes) m

@@ -1,4 +1,4 @@
--- What a write with reply 0 wrote is a good dump, and its references lie within those passed in.
+-- A dump written with reply 0 is good, and its references lie within those passed in.
 -- Assumes nothing.
 use mathlib.Core.Path.{_≡_, refl, ap}
 use Prim.Native.Nat.{ℕ, suc, _+_, _*_, _≤_}
@@ -19,7 +19,7 @@ use Rattle.phd_round_trip.specs.CutRecordLaws.{AllGood}
 use Rattle.phd_round_trip.specs.DumpRoundTrip.{GoodDump}
 
 module _ (h : Header) (names refs : List ℕ) where
-  -- rows of which none is bad are good records
+  -- Rows of which none is bad give good records.
   recs-good : (rows : List Row) (i index : ℕ) → first-bad-from h names refs i index rows ≡ NotFound → AllGood h index (recs names refs rows)
   unfolding recs rec-of without-place
   recs-good [] i index e = tt
@@ -27,7 +27,7 @@ module _ (h : Header) (names refs : List ℕ) where
       let b = none-bad h names refs i index r rows e in
       (record { good = good-rec h names refs index r (b .0); place-zero = refl }, recs-good rows (suc i) (index + r .count) (b .1))
 
-  -- their references lie within those passed in
+  -- The references of rows of which none is bad lie within those passed in.
   pub refs-in-bounds : (rows : List Row) (i index : ℕ) → first-bad-from h names refs i index rows ≡ NotFound → index ≤ length refs
       → index + length (all-refs (recs names refs rows)) ≤ length refs
   unfolding recs all-refs rec-of without-place
@@ -41,7 +41,7 @@ module _ (h : Header) (names refs : List ℕ) where
       let ih = refs-in-bounds rows (suc i) (index + r .count) (b .1) (omega arith) in
       simp length-append (omega arith)
 
-  -- What is written is a good dump.
+  -- A dump written with reply 0 is good.
   pub written-is-good : (rows : List Row) (out-capacity : ℕ) → write-rows h names refs rows out-capacity .answer .reply ≡ 0 → GoodDump names h (recs names refs rows)
   written-is-good rows out-capacity z =
       let s = reply-0-means h names refs rows out-capacity z in
@@ -52,11 +52,12 @@ module _ (h : Header) (names refs : List ℕ) where
         size = s .2;
       }
 
+-- There is one record for each row.
 pub length-recs : (names refs : List ℕ) (rows : List Row) → length (recs names refs rows) ≡ length rows
 unfolding recs
 length-recs names refs [] = refl
 length-recs names refs (r ∷ rows) = ap suc (length-recs names refs rows)
 
--- a row for each
+-- Capacity for the rows is capacity for their records.
 pub rows-capacity : (names refs : List ℕ) (rows : List Row) (R : ℕ) → length rows * row-width ≤ R → row-width * length (recs names refs rows) ≤ R
 rows-capacity names refs rows R l = let e = length-recs names refs rows in omega arith

@@ -1,7 +1,7 @@
-// Theorems that speak of writing and of reading: a written dump reads back as the records that were passed in, and a cut of it as those
+// Theorems about writing and then reading: a written dump is read back as the records passed in, and a cut of it as the records
 // that lie whole within the cut (specs/).
-// The two functions below only call the public operations. They are here for their contracts, which are the premises of the theorems
-// in specs/InMemory.antt: so a call of `write` or `read` gives these, and the theorems hold of calls.
+// The two functions below only call the public operations. Their contracts are the premises of the theorems in
+// specs/InMemory.antt, so those theorems hold for every call of `write` and `read`.
 ghost use Rattle.phd_read.specs.ReadContract.{AfterRead};
 ghost use Rattle.phd_write.specs.WriteTerms.{AfterWrite};
 use phd::Header;

@@ -1,6 +1,6 @@
--- In reading order: ReadAs (what the theorem speaks of) and Shortest (each record of a written dump is the shortest).
--- The rest is for proofs: LeastPlan (the writer's plan has the fewest bytes that a record the same can have), OneRecord (so of the bytes
--- of one record) and Reached (what a reading of a written dump finds at each record).
+-- In reading order: ReadAs (definitions for the theorem) and Shortest (each record of a written dump is the shortest).
+-- The rest is for proofs: MinimalPlan (no record that is the same has fewer bytes than the writer's plan), RecordShortest (so the
+-- bytes of one record are the fewest) and RemainingRecords (which records a reading of a written dump finds).
 pub mod ReadAs
 pub mod Shortest
 pub mod MinimalPlan

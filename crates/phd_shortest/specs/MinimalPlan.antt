@@ -1,5 +1,5 @@
--- The writer's plan of a good record has the fewest bytes: whatever tag and flag byte a record was read by that is the same, its shape has
--- no fewer. The widths are least in every column, and the form is the shortest that the record can be read in.
+-- The writer's plan for a good record has the fewest bytes: any tag and flag byte by which the same record is read determine a
+-- shape with at least as many. Each width is the least, and the form is the shortest in which the record can be read.
 -- Assumes nothing.
 use mathlib.Core.Path.{_≡_, refl, ap, subst}
 use mathlib.Core.Logic.{inl, inr}
@@ -33,9 +33,9 @@ use Rattle.phd_encode.specs.SizeFromRow.{make-size, hash-name-size, payload-siz
 use Rattle.phd_encode.specs.declared.sizes.EncodedSize.{EncodedSize}
 use Rattle.phd_read.specs.RecordLayout.{AllRelative, FitsShape, HasLayout}
 
--- ---- what a tag says
+-- ---- tags
 
--- where the tags of a form lie: those from 0x20 on have no flag byte
+-- A range that contains the tags of a form; tags from 0x20 on have no flag byte.
 abbrev TagInForm : Form → ℕ → Type 0
 TagInForm Short t = 0x80 ≤ t
 TagInForm Medium t = 0x20 ≤ t
@@ -64,7 +64,7 @@ tag-in-form fm t = by (leb 0x80 t) (leb 0x40 t) (leb 0x20 t) (eqb t 4) (eqb t 6)
     by false false false false false false true ea eb ed e = that ObjectArray (leb-false 0x20 t ed) e
     by false false false false false false false ea eb ed e = let z : _≡_ {A = ℕ} 0 1 = cc in absurd (omega arith)
 
--- a record with no flag byte has neither hash kind that needs one
+-- A record without a flag byte has no hash kind that needs one.
 no-flag-byte-hash : (h : Header) (t : ℕ) → needs-flag-byte (hash-kind h t 0) ≡ false
 unfolding needs-flag-byte hash-kind moved-bit hashed-bit bit
 no-flag-byte-hash h t = by (h .hashed) (eqb t 6)
@@ -74,17 +74,20 @@ no-flag-byte-hash h t = by (h .hashed) (eqb t 6)
     by false true = refl
     by false false = refl
 
+-- References that were read from fields of w bytes fit such fields.
 all-relative-fit : (w a top : ℕ) (rs : List ℕ) → AllRelative w a top rs → AllFit w a rs
 all-relative-fit w a top [] x = tt
 all-relative-fit w a top (r ∷ rs) x = (address-gap-fits w a top r (x .0), all-relative-fit w a top rs (x .1))
 
 -- ---- the sizes of primitive arrays
 
+-- A primitive array whose hash kind needs no flag byte has at most the bytes of the form without one, if its gap and length fit v
+-- bytes each.
 primitive-short-size : (w k p more v : ℕ) → needs-flag-byte k ≡ false → width p ≤ v → primitive-size w k p more .size ≤ 5 + 2 * v + more
 unfolding primitive-size
 primitive-short-size w k p more v f l = rw f (omega arith)
 
--- a primitive array whose gap and length are bytes, or words, in the long form
+-- A primitive array whose gap and length fit a byte each has at most the bytes of the long form with bytes.
 primitive-bytes-size : (w k p more : ℕ) → p ≡ 0 → primitive-size w k p more .size ≤ 8 + more
 unfolding primitive-size width
 primitive-bytes-size w k p more z = rw z (by (needs-flag-byte k))
@@ -93,6 +96,7 @@ primitive-bytes-size w k p more z = rw z (by (needs-flag-byte k))
     by true = omega arith
     by false = omega arith
 
+-- A primitive array whose gap and length fit a word each has at most the bytes of the long form with words.
 primitive-words-size : (w k p more : ℕ) → 1 ≤ w → width p ≤ w → primitive-size w k p more .size ≤ 6 + 2 * w + more
 unfolding primitive-size
 primitive-words-size w k p more s l = by (needs-flag-byte k) (eqb p 0)
@@ -102,9 +106,9 @@ primitive-words-size w k p more s l = by (needs-flag-byte k) (eqb p 0)
     by true false = omega arith
     by false b = omega arith
 
--- ---- the least plan
+-- ---- the shortest plan
 
--- A good record r after one at `before`, with the cache c.
+-- A good record r after one at the address `before`, with the cache c.
 module _ (h : Header) (c : Cache) (before index : ℕ) (r : Rec)
     (w : ValidBits (h .bits)) (g : GoodRec h index r) (bf : before % 4 ≡ 0) (bl : before ≤ max-address (h .bits)) where
   abbrev address-size : ℕ
@@ -119,11 +123,13 @@ module _ (h : Header) (c : Cache) (before index : ℕ) (r : Rec)
   b : Bounded m
   b = good-plan-input-bounded h c before index r w g bf bl
 
+  -- The width code of the gap is the least that holds it.
   gap-code-least : (k : ℕ) → AddressIn (width k) before top (r .row .address) → m .gap ≤ k
   unfolding width
   gap-code-least k x = gap-least c before (r .row) (r .refs) k (address-gap-fits (width k) before top (r .row .address) x)
 
-  -- the gap and the references
+  -- The gap, hash, name and references have at most the bytes that they have with any widths that hold the gap and the
+  -- references.
   payload-size-most : (k l : ℕ) → AddressIn (width k) before top (r .row .address) → AllRelative (width l) (r .row .address) top (r .refs)
       → payload-size m (r .row) ≤ width k + hash-name-size (r .row) + r .row .count * width l
   unfolding width
@@ -133,17 +139,17 @@ module _ (h : Header) (c : Cache) (before index : ℕ) (r : Rec)
       let b = mul-le-mul-left (r .row .count) (width-mono (m .refcode) l n) in
       omega arith
 
-  -- the gap and the length of a primitive array
+  -- The width code of the gap and the length of a primitive array is the least that holds both.
   pair-code-least : (k : ℕ) → AddressIn (width k) before top (r .row .address) → CountIn (width k) (r .row .len) → m .paircode ≤ k
   unfolding width
   pair-code-least k x y =
       pair-least c before (r .row) (r .refs) k (address-gap-fits (width k) before top (r .row .address) x) (count-fits (width k) (r .row .len) y)
 
-  -- how many bytes the writer's plan has
+  -- The number of bytes of the writer's plan.
   abbrev plan-bytes : ℕ
   plan-bytes = plan-size (make-plan address-size m) (r .row)
 
-  -- an object, read in a form that can hold it
+  -- An object's plan has at most the bytes of any form that can hold the object.
   object-plan-le : (fm : Form) → r .row .kind ≡ 2 → CanHold fm m → plan-bytes ≤ overhead address-size fm + payload-size m (r .row)
   unfolding plan-input record-size
   object-plan-le fm k x = omega (arith, object-plan-bytes address-size m (r .row) b k, object-form-shortest address-size fm m x)
@@ -160,16 +166,16 @@ module _ (h : Header) (c : Cache) (before index : ℕ) (r : Rec)
   unfolding plan-input record-size
   object-array-plan-bytes k = ap (λ (x : EncodedSize). x .size) (object-array-plan-size address-size m (r .row) b k)
 
-  -- no flag byte, no hash kind that needs one
+  -- A record that was read without a flag byte has a hash kind that needs none.
   no-flag-byte-needed : (t f : ℕ) → 0x20 ≤ t → (0x20 ≤ t → f ≡ 0) → r .row .hashkind ≡ hash-kind h t f → needs-flag-byte (r .row .hashkind) ≡ false
   no-flag-byte-needed t f l z e = rw (e, z l) (no-flag-byte-hash h t)
 
-  -- the class of a short record is in a slot
+  -- The class word of a record that was read as a short object is in a slot.
   short-class-in-slot : (t known : ℕ) → 0x80 ≤ t → slot-class c t ≡ Just known → r .row .class ≡ known → find-slot c (r .row .class) < 4
   unfolding slot-class
   short-class-in-slot t known l e z = find-slot-complete c (r .row .class) (t / 0x20 % 4) (omega arith) (rw z (rw (le-leb 0x80 t l) at e))
 
-  -- W bytes are a width
+  -- W / 8 bytes are the width of some width code.
   address-size-is-width : (k : ℕ) × (width k ≡ address-size)
   unfolding width
   address-size-is-width = by w
@@ -178,7 +184,8 @@ module _ (h : Header) (c : Cache) (before index : ℕ) (r : Rec)
       by (inl e) = (2, rw e)
       by (inr e) = (3, rw e)
 
-  -- a long primitive array, of which the gap and the length are bytes or words
+  -- A primitive array that was read in the long form, its gap and length as words (d is true) or as bytes, has at most as many
+  -- bytes.
   long-primitive-le : (d : Bool) → AddressIn (cond d address-size 1) before top (r .row .address) → CountIn (cond d address-size 1) (r .row .len)
       → primitive-size address-size (r .row .hashkind) (m .paircode) (hash-name-size (r .row)) .size ≤ 6 + 2 * cond d address-size 1 + hash-name-size (r .row)
   unfolding width
@@ -188,7 +195,7 @@ module _ (h : Header) (c : Cache) (before index : ℕ) (r : Rec)
       primitive-words-size address-size _ (m .paircode) (hash-name-size (r .row)) (address-size-of (h .bits) w .some) (omega (arith, width-mono (m .paircode) (k .0) l, k .1))
   long-primitive-le false p q = let l : m .paircode ≤ 0 = pair-code-least 0 p q in primitive-bytes-size address-size _ (m .paircode) (hash-name-size (r .row)) (omega arith)
 
-  -- Whatever tag and flag byte the record is read by, the shape that they name has no fewer bytes.
+  -- Any tag and flag byte by which the record is read determine a shape with at least as many bytes as the plan.
   least-for-form : (fm : Form) (t f known : ℕ) → TagInForm fm t → slot-class c t ≡ Just known → (0x20 ≤ t → f ≡ 0) → r .row .hashkind ≡ hash-kind h t f
       → FitsShape top before known (shape address-size fm t f) (r .row) (r .refs)
       → plan-bytes ≤ record-bytes t (shape address-size fm t f) (r .row)
@@ -215,7 +222,7 @@ module _ (h : Header) (c : Cache) (before index : ℕ) (r : Rec)
       let a = long-primitive-le (bit 0x10 f) (x .gap) (x .len refl) in
       rw (lt-ltb t 0x20 i) (omega (arith, a, primitive-plan-bytes (x .kind)))
 
-  -- So of a record that was read and is the same.
+  -- A record that was read and is the same as r has at least as many bytes as the plan.
   pub plan-size-least : (n : ℕ) → HasLayout h before c (r .row) (r .refs) n → plan-size (plan-record h before c r) (r .row) ≤ n
   unfolding plan-record
   plan-size-least n x =

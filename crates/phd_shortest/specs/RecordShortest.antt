@@ -1,4 +1,4 @@
--- The bytes that the writer gives a good record are read as that record, and no run of bytes that is read as it is shorter.
+-- The bytes that the writer makes of a good record are read as that record, and no shorter run of bytes is.
 -- Assumes nothing.
 use mathlib.Core.Path.{_≡_, subst}
 use Prim.Native.Nat.{ℕ, _+_, _%_, _≤_}
@@ -17,20 +17,20 @@ use Rattle.phd_round_trip.specs.RecordRoundTrip.{name-place, decoded-row, decod
 use Rattle.phd_shortest.specs.ReadAs.{read-rec, ReadAs}
 use Rattle.phd_shortest.specs.MinimalPlan.{plan-size-least}
 
--- numbers whose name is at a place are those of the record
+-- The numbers of a record's row give that record again, if its name lies at the place in them.
 read-rec-numbers : (s : List ℕ) (place offset : ℕ) (r : Rec) → r .row .place ≡ 0 → take (r .row .namelen) (drop place s) ≡ r .name
     → read-rec s (numbers place offset r) (r .refs) ≡ r
 unfolding read-rec row-at numbers name-of
 read-rec-numbers s place offset r z q = λ j. record { row = row-at-numbers place offset r [] z j; refs = r .refs; name = q j }
 
--- A good record r, after a record and with a cache as `before` says.
+-- A good record r in the context `before`: the previous address and the cache.
 module _ (h : Header) (before : RecordContext) (index : ℕ) (r : Rec) (w : ValidBits (h .bits)) (g : GoodRec h index r) (z : r .row .place ≡ 0)
     (bf : before .address % 4 ≡ 0) (bl : before .address ≤ max-address (h .bits))
   where
     abbrev bs : List ℕ
     bs = encode-record h (before .address) (before .cache) r
 
-    -- the row that it is read as, wherever it is written, is the record
+    -- The row that the record is read as gives the record again, wherever it is written.
     pub read-rec-encoded : (pre post : List ℕ) (p : ℕ) → length pre ≡ p
         → read-rec (pre ++ (bs ++ post)) (decoded-row h p (before .address) (before .cache) r) (r .refs) ≡ r
     unfolding decoded-row
@@ -38,7 +38,7 @@ module _ (h : Header) (before : RecordContext) (index : ℕ) (r : Rec) (w : Vali
         read-rec-numbers _ (name-place h p (before .address) (before .cache) r) p r z
         (decoded-name h (before .address) (before .cache) index r p w g bf bl pre post e)
 
-    -- No run of bytes that is read as it is shorter.
+    -- No shorter run of bytes is read as the record.
     pub encoded-shortest : (s : List ℕ) (at end : ℕ) → ReadAs h before r s at end → at + length bs ≤ end
     unfolding encode-record read-rec
     encoded-shortest s at end x =

@@ -1,5 +1,4 @@
--- What a reading of a written dump finds: before the record number i the records from number i on are still to come, and there it finds
--- the first of them.
+-- In a reading of a written dump, the records from number i on remain before record number i, and the first of them is read next.
 -- Assumes nothing.
 use mathlib.Core.Path.{_≡_, refl, sym, ap, subst, _∙_}
 use Prim.Native.Nat.{ℕ, zero, suc, _+_, _%_, _≤_}
@@ -30,7 +29,7 @@ use Rattle.phd_round_trip.specs.RecordRoundTrip.{refs-place, decoded-row, decod
 drop-next : (i : ℕ) (rs : List Rec) (r : Rec) (rest : List Rec) → drop i rs ≡ r ∷ rest → drop (suc i) rs ≡ rest
 drop-next i rs r rest e = sym (rw (e, add-one) at (drop-drop 1 i rs))
 
--- the record number i of rows is that of the row number i
+-- Record number i of a list of rows is the record of row number i.
 pub nth-rec : (names refs : List ℕ) (rows : List Row) (i : ℕ) (r : Rec) (rs : List Rec) → drop i (recs names refs rows) ≡ r ∷ rs
     → r ≡ rec-of names refs (nth rows i)
 unfolding recs
@@ -39,9 +38,9 @@ nth-rec names refs [] (suc i) r rs e = let z : _≡_ {A = ℕ} 0 1 = cc in absur
 nth-rec names refs (row ∷ rows) zero r rs e = cc
 nth-rec names refs (row ∷ rows) (suc i) r rs e = nth-rec names refs rows i r rs e
 
--- ---- a state of the reading
+-- ---- states of the reading
 
--- The dump s goes on, from the place that the state st has reached, with the bytes of the good records rs.
+-- From the offset of the state st on, the dump s consists of the bytes of the good records rs and the end tag.
 pub record RecordsRemain (h : Header) (s : List ℕ) (st : State) (rs : List Rec) : Type 0 where
   pub bits : ValidBits (h .bits)
   pub pre : List ℕ
@@ -52,19 +51,22 @@ pub record RecordsRemain (h : Header) (s : List ℕ) (st : State) (rs : List Rec
   pub most : st .context .address ≤ max-address (h .bits)
 
 module _ (h : Header) (s : List ℕ) where
-  -- no record is left: the end is found
+  -- If no record remains, the end tag is found.
   end-found : (st : State) → RecordsRemain h s st [] → next-item phd h s st ≡ whole end-item (st .at + 1)
   unfolding encode-records be
   end-found st a = rw (a .dump) (decode-end-tag h (st .context .address) (st .context .cache) (length (st .refs)) (st .at) .reads (a .pre) [] (a .place))
 
-  -- the first of those still to come: its bytes, what follows them, and what is found
+  -- The first record that remains.
   module _ (st : State) (r : Rec) (rs : List Rec) (a : RecordsRemain h s st (r ∷ rs)) where
+    -- Its bytes.
     abbrev pub encoded : List ℕ
     encoded = encode-record h (st .context .address) (st .context .cache) r
 
+    -- The context after it: its address and the cache.
     abbrev pub context-after : RecordContext
     context-after = make-context (r .row .address) (cache-after h (st .context .address) (st .context .cache) r)
 
+    -- The bytes after it.
     abbrev pub bytes-after : List ℕ
     bytes-after = encode-records h (context-after .address) (context-after .cache) rs
 
@@ -72,13 +74,14 @@ module _ (h : Header) (s : List ℕ) where
     unfolding encode-records
     dump-split = a .dump
 
+    -- The next item that is read is this record.
     pub finds-record : next-item phd h s st
         ≡ whole (item (decoded-row h (st .at) (st .context .address) (st .context .cache) r) (r .refs) (refs-place h (st .at) (st .context .address) (st .context .cache) r) context-after) (st .at + length encoded)
     finds-record =
         rw dump-split
         (decode-encode-record h (st .context .address) (st .context .cache) (length (st .refs)) r (st .at) (a .bits) (a .good .0 .good) (a .aligned) (a .most) .reads (a .pre) bytes-after (a .place))
 
-    -- the state after it, and what is then still to come
+    -- The state after it, in which the other records remain.
     abbrev next-state : State
     next-state = append-item st (decoded-row h (st .at) (st .context .address) (st .context .cache) r) (r .refs) context-after (st .at + length encoded)
 
@@ -99,7 +102,7 @@ module _ (h : Header) (s : List ℕ) where
     StepRemains (go st′) = RecordsRemain h s st′ rs
     StepRemains (halt x) = Unit {0}
 
-    -- the state after what was found
+    -- The state after reading one item with that outcome.
     abbrev state-found : Outcome Item → State
     state-found (whole (item row refs sp k) n) = append-item st row refs k n
     state-found (whole end-item n) = st
@@ -111,7 +114,7 @@ module _ (h : Header) (s : List ℕ) where
         (λ row refs sp k n e p q. let x : append-item st row refs k n ≡ next-state = ap state-found (sym e ∙ finds-record) in subst (λ (y : State). RecordsRemain h s y rs) (sym x) remain-next)
         tt tt (λ x e. tt)
 
-  -- a step on leaves one record fewer
+  -- A step to another state leaves one record fewer.
   remain-step : (R F : ℕ) (st st′ : State) (rs : List Rec) → RecordsRemain h s st rs → step h s R F st ≡ go st′ → (r : Rec) × (rest : List Rec) × (rs ≡ r ∷ rest) × RecordsRemain h s st′ rest
   remain-step R F st st′ [] a e =
       let x = step-end phd h s (capacity R F) st (st .at + 1) (end-found st a) in
@@ -120,7 +123,7 @@ module _ (h : Header) (s : List ℕ) where
       absurd (omega arith)
   remain-step R F st st′ (r ∷ rs) a e = (r, rs, refl, rw e at (step-remains st r rs a R F))
 
-  -- After i records those from number i on are still to come.
+  -- After i records, those from number i on remain.
   pub remain-after : (R F n : ℕ) (rs : List Rec) → RecordsRemain h s (initial-state n) rs → (i : ℕ) (st : State) → StateAfter phd h s (capacity R F) n i st → RecordsRemain h s st (drop i rs)
   remain-after R F n rs a zero st t = subst (λ (y : State). RecordsRemain h s y rs) (sym t) a
   remain-after R F n rs a (suc i) st t =
@@ -128,7 +131,7 @@ module _ (h : Header) (s : List ℕ) where
       let o = remain-step R F (t .0) st (drop i rs) b (t .2) in
       rw (drop-next i rs (o .0) (o .1) (o .2)) (o .3)
 
-  -- Where a record is found, one is still to come.
+  -- If a record is found, at least one remains.
   pub record-remains : (st : State) (rs : List Rec) → RecordsRemain h s st rs → (row refs : List ℕ) (sp : Span) (k : RecordContext) (n : ℕ) → next-item phd h s st ≡ whole (item row refs sp k) n
       → (r : Rec) × (rest : List Rec) × (rs ≡ r ∷ rest)
   record-remains st [] a row refs sp k n e =

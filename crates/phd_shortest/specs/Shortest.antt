@@ -1,5 +1,5 @@
--- The promise: each record of a dump that was written is the shortest. With the same header, previous address and cache, no shorter run
--- of bytes is read as one record the same as that row. Nothing is claimed of a whole dump.
+-- Each record of a written dump is the shortest: with the same header, previous address and cache, no shorter run of bytes is
+-- read as one record that is the same as its row. Nothing is claimed about a whole dump.
 -- A reader must believe the statement, and ReadAs. Assumes nothing.
 use mathlib.Core.Path.{_≡_, refl, sym, _∙_}
 use Prim.Native.Nat.{ℕ, _+_, _-_, _*_, _≤_, _<_}
@@ -30,14 +30,16 @@ use Rattle.phd_shortest.specs.ReadAs.{ReadAs, ShortestAt}
 use Rattle.phd_shortest.specs.RecordShortest.{read-rec-encoded, encoded-shortest}
 use Rattle.phd_shortest.specs.RemainingRecords.{RecordsRemain, encoded, context-after, bytes-after, dump-split, finds-record, remain-after, record-remains, nth-rec}
 
--- ---- a record that a reading found where the written record r comes next
+-- ---- the next record
 
+-- A record that a reading finds in the state st, in which the written record r is the next to come.
 module _ (h : Header) (s : List ℕ) (st : State) (r : Rec) (rs : List Rec) (a : RecordsRemain h s st (r ∷ rs))
     (row refs : List ℕ) (sp : Span) (k : RecordContext) (e : ℕ) (g : next-item phd h s st ≡ whole (item row refs sp k) e) where
   found-is : whole (item row refs sp k) e
       ≡ whole (item (decoded-row h (st .at) (st .context .address) (st .context .cache) r) (r .refs) (refs-place h (st .at) (st .context .address) (st .context .cache) r) (context-after h s st r rs a)) (st .at + length (encoded h s st r rs a))
   found-is = sym g ∙ finds-record h s st r rs a
 
+  -- Its bytes are read as r.
   reads-at : ReadAs h (st .context) r s (st .at) e
   reads-at =
       let f = found-is in
@@ -47,6 +49,7 @@ module _ (h : Header) (s : List ℕ) (st : State) (r : Rec) (rs : List Rec) (a :
       let b = read-rec-encoded h (st .context) (length (st .refs)) r (a .bits) (t .good) (t .place-zero) (a .aligned) (a .most) (a .pre) (bytes-after h s st r rs a) (st .at) (a .place) in
       record { index = length (st .refs); row = row; refs = refs; span = sp; after = k; reads = g; same = rw (x, y, dump-split h s st r rs a) b }
 
+  -- No shorter run of bytes is read as r.
   least-at : (s′ : List ℕ) (at end : ℕ) → ReadAs h (st .context) r s′ at end → at + (e - st .at) ≤ end
   least-at s′ at end x =
       let f = found-is in
@@ -55,7 +58,7 @@ module _ (h : Header) (s : List ℕ) (st : State) (r : Rec) (rs : List Rec) (a :
       let l = encoded-shortest h (st .context) (length (st .refs)) r (a .bits) (t .good) (t .place-zero) (a .aligned) (a .most) s′ at end x in
       omega arith
 
--- ---- a dump that was written
+-- ---- a written dump
 
 module _ (h : Header) (names refs : List ℕ) (rows : List Row) (out-capacity R F : ℕ) (z : write-rows h names refs rows out-capacity .answer .reply ≡ 0)
     (p : length rows * row-width ≤ R) (q : length (all-refs (recs names refs rows)) ≤ F) where
@@ -74,7 +77,7 @@ module _ (h : Header) (names refs : List ℕ) (rows : List Row) (out-capacity R 
   rows-fit : row-width * length rs ≤ R
   rows-fit = rows-capacity names refs rows R p
 
-  -- at the first record all are still to come, by the header facts as they are read
+  -- Before the first record all records remain, under the header as it is read.
   remain-start : RecordsRemain (written-header h) dump (initial-state (length (encode-header names h))) rs
   unfolding initial-state-of
   remain-start = record {
@@ -88,7 +91,7 @@ module _ (h : Header) (names refs : List ℕ) (rows : List Row) (out-capacity R 
   }
 
   module _ (i : ℕ) (x : RowOrigin phd (rd .header) dump (capacity R F) (rd .rows) (rd .refs) i) (c : x .count ≡ i) where
-    -- those are the reading's own header facts, and the place where its records begin
+    -- The same with the header of the result, and the offset where the reading found the first record.
     remain-at-start : RecordsRemain (rd .header) dump (initial-state (x .start)) rs
     remain-at-start =
         let u : whole (rd .header) (x .start) ≡ whole (written-header h) (length (encode-header names h)) = sym (x .header-whole) ∙ header-decoded names h rs 0 R F g rows-fit q in
@@ -110,10 +113,10 @@ module _ (h : Header) (names refs : List ℕ) (rows : List Row) (out-capacity R 
           least = λ s at end y. omega (arith, least-at (rd .header) dump (x .before) (o .0) (o .1) a _ (x .list) (x .note) (x .context) (x .end) (x .item-is) s at end y);
         })
 
--- ---- the promise
+-- ---- the theorem
 
--- The record number i of any dump that was written, read with a row for each record and a number for each of their references, is the
--- shortest of those that are read as the row number i that was passed in.
+-- Record number i of a written dump, read into tables with a row for each record and a number for each reference, is the shortest
+-- that is read as row number i of those passed in.
 pub shortest : (h : Header) (names refs : List ℕ) (rows : List Row) (out-capacity R F i : ℕ) → write-rows h names refs rows out-capacity .answer .reply ≡ 0
     → length rows * row-width ≤ R → length (all-refs (recs names refs rows)) ≤ F → i < length rows
     → let dump = write-rows h names refs rows out-capacity .bytes in

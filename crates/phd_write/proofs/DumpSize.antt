@@ -1,4 +1,4 @@
--- The size of the header and that of the rows are the dump's.
+-- The sizes of the header and of the rows add up to the size of the dump.
 -- Assumes nothing.
 use mathlib.Core.Path.{_≡_, sym, ap, _∙_}
 use Prim.Native.Nat.{ℕ, _+_}
@@ -12,7 +12,7 @@ use Rattle.phd_write.specs.Write.{encode-header, encode-records, encode-
 use Rattle.phd_write.specs.WriteTerms.{dump-of}
 
 module _ (h : Header) (names refs : List ℕ) (rows : List Row) where
-  -- the size of the header and that of the rows are the dump's
+  -- If `first` is the size of the header and `size` adds that of the rows, `size` is the size of the dump.
   pub dump-size-sum : (first size : ℕ) → first ≡ length (encode-header names h) → size ≡ first + length (encode-records h 0 empty-cache (recs names refs rows))
       → size ≡ length (dump-of h names refs rows)
   unfolding encode-dump

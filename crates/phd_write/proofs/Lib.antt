@@ -1,2 +1,2 @@
--- Laws that the proofs of this crate's functions cite.
+-- DumpSize (the sizes of header and rows add up to that of the dump).
 pub mod DumpSize

@@ -1,7 +1,7 @@
--- In reading order: Write (the bytes of a dump, what a write gives, and what a query for its size answers), Cases (01's dump,
--- written), Terms (what the promises speak of) and Promises (what holds of a write and of a size query).
--- The rest is for proofs: Sizes, Turns and Loops (for the functions: the header in parts, and row after row) and Ways (the checks of a
--- write, and what a size query says of it).
+-- In reading order: Write (the bytes of a dump, the result of a write, and the answer of a size query), WriteExample (the dump of
+-- docs/FORMAT.md 9, written), WriteTerms (the terms of the theorems) and WriteTheorems (what holds of writes and size queries).
+-- The rest is for proofs: HeaderBytes (the parts of the header), RowSteps and WriteInvariants (the loops over the rows) and
+-- WriteOutcomes (which check decides a write, and how a size query agrees with it).
 pub mod Write
 pub mod WriteExample
 pub mod WriteTerms

@@ -1,4 +1,4 @@
--- Row after row: what is left to write from a row of a table on, for the loops that size and put the rows.
+-- One step of the loops that size and encode the rows: the bytes from a row of a table on, and what holds of that row.
 -- Assumes nothing.
 use mathlib.Core.Path.{_≡_, refl}
 use Prim.Native.Nat.{ℕ, suc, _+_, _-_, _*_, _/_, _%_, _≤_, _<_}
@@ -24,42 +24,46 @@ use Rattle.phd_encode.specs.EncodedLengths.{length-encode-planned, plan-size-mo
 use Rattle.phd_encode.specs.PlanBounds.{address-size-of, good-plan-input-bounded}
 use Rattle.phd_write.specs.Write.{encode-records}
 
--- how a row is planned, out of a table of references
+-- The plan of a row, with its references from the table `refs`.
 abbrev pub plan-row : Header → List ℕ → ℕ → Cache → Row → Plan
 plan-row h refs before c r = make-plan (h .bits / 8) (plan-input c before r (refs-of refs r))
 
--- the place of a name is not looked at
+-- The place of the name does not affect the bytes.
 encode-planned-bare : (before : ℕ) (p : Plan) (r : Row) (refs name : List ℕ) → encode-planned before p (without-place r) refs name ≡ encode-planned before p r refs name
 unfolding encode-planned encode-fields encode-front encode-middle encode-name encode-refs encode-tail without-place
 encode-planned-bare before p r refs name = refl
 
 module _ (h : Header) (names refs table : List ℕ) where
-  -- the bytes of the rows from number i on, and the end tag
+  -- The bytes of the rows from index i on, and the end tag.
   abbrev pub bytes-left : ℕ → ℕ → Cache → List ℕ
   bytes-left i before c = encode-records h before c (recs names refs (rows-left table i))
 
-  -- The row number i, which is after a record at `before`, with the cache c: how it is planned, its bytes, how many they
-  -- are, and the cache after it.
+  -- The plan of row i, after a record at the address `before`, with the cache c.
   abbrev pub nth-plan : ℕ → ℕ → Cache → Plan
   nth-plan i before c = plan-row h refs before c (row-at table i)
 
+  -- The bytes of that row.
   abbrev pub nth-bytes : ℕ → ℕ → Cache → List ℕ
   nth-bytes i before c = encode-planned before (nth-plan i before c) (row-at table i) (refs-of refs (row-at table i)) (name-of names (row-at table i))
 
+  -- The size of that row.
   abbrev pub nth-size : ℕ → ℕ → Cache → ℕ
   nth-size i before c = plan-size (nth-plan i before c) (row-at table i)
 
+  -- The cache after that row.
   abbrev pub cache-after-nth : ℕ → ℕ → Cache → Cache
   cache-after-nth i before c = cond (nth-plan i before c .shape .cached) (push c (row-at table i .class)) c
 
-  -- Between two rows: the next has number i, its references begin at `index`, and it is after a record at `before`.
+  -- What holds between two rows: the next one has index i, its references begin at `index`, and the record before it is at the
+  -- address `before`.
   pub record BetweenRows (i index before : ℕ) : Type 0 where
     pub at-most : i ≤ row-count table
     pub none : first-bad-from h names refs i index (rows-left table i) ≡ NotFound
     pub aligned : before % 4 ≡ 0
     pub most : before ≤ max-address (h .bits)
 
-  -- What holds of the next row.
+  -- What holds of the next row: it lies within the tables, its plan input and size are bounded, and the bytes left are its own,
+  -- followed by those of the rows after it.
   pub record RowStep (i index before : ℕ) (c : Cache) : Type 0 where
     pub in-bounds : SpansInBounds names refs (row-at table i)
     pub bound : Bounded (plan-input c before (row-at table i) (refs-of refs (row-at table i)))
@@ -69,6 +73,7 @@ module _ (h : Header) (names refs table : List ℕ) where
     pub more : bytes-left i before c ≡ nth-bytes i before c ++ bytes-left (i + 1) (row-at table i .address) (cache-after-nth i before c)
     pub between : BetweenRows (i + 1) (index + row-at table i .count) (row-at table i .address)
 
+  -- Between two rows, `RowStep` holds of the next one.
   pub row-step : (i index before : ℕ) (c : Cache) → ValidBits (h .bits) → BetweenRows i index before → i < row-count table → RowStep i index before c
   unfolding recs encode-records rec-of without-place plan-record make-plan encode-record cache-after plan-input
   row-step i index before c w v l =
@@ -90,7 +95,7 @@ module _ (h : Header) (names refs table : List ℕ) where
         between = record { at-most = omega arith; none = rw (← s) at (b .1); aligned = g .aligned; most = g .most };
       }
 
-  -- no row is left
+  -- If no row is left, the end tag is.
   pub bytes-left-end : (i before : ℕ) (c : Cache) → row-count table ≤ i → bytes-left i before c ≡ be 1 3
   unfolding recs encode-records
   bytes-left-end i before c l = rw (rows-none table i l)

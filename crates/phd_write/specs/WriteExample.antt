@@ -1,5 +1,5 @@
--- 01's dump, written: its tables, as they are read, give its 74 bytes. It holds by computing.
--- A reader must believe that the dump and the tables are 01's (Phd's Cases).
+-- The scope paper's dump (docs/FORMAT.md 9), written: its rows and references, as read, give its 74 bytes. Proved by computation.
+-- A reader must believe that the dump and the tables are the scope paper's (ReadCases of phd).
 use mathlib.Core.Path.{_≡_, refl}
 use mathlib.Core.List.{[], _∷_}
 use Rattle.decode.specs.Numbers.{all-within}
@@ -14,22 +14,22 @@ use Rattle.phd_plan.specs.FormChoice.{slot-holds, find-slot, plan-input, needs-
 use Rattle.phd_encode.specs.EncodeRecord.{encode-tag, encode-front, encode-middle, encode-name, encode-refs, encode-tail, encode-fields, encode-planned, plan-record, encode-record, cache-after}
 use Rattle.phd_write.specs.Write.{header-flags, encode-vm, encode-preamble, encode-header, encode-records, encode-dump, fits-capacity, write-rows, write-rows-size, write-result, write-size-result}
 
--- for a proof by computing: whoever unfolds this unfolds all that a writing is made of
+-- For proofs by computation: unfolding this unfolds every definition that a write uses.
 unfoldable pub unfold-write : Unit {0}
 unfolding all-within be gap twos-complement fits width-code refs-code encode-ref-list limit bit max-address magic empty-cache push hash-bytes width shape row-at refs-of name-of without-place rec-of recs rows-from rows-of row-count all-true good-vm good-header good-hash good-class no-name good-object good-array good-primitive good-kind good-addresses good-span good-numbers good-ref good-refs good-row first-bad-from slot-holds find-slot plan-input needs-flag-byte object-form form-of tag-of hash-flags class-flags flags-of make-plan encode-tag encode-front encode-middle encode-name encode-refs encode-tail encode-fields encode-planned plan-record encode-record cache-after header-flags encode-vm encode-preamble encode-header encode-records encode-dump refused done checked-write fits-capacity write-rows write-rows-size
 unfold-write = tt
 
--- its rows and references, with the dump itself as the name bytes, and room for its 74 bytes and no more
+-- Its rows and references, with the dump itself as the name bytes, fit an output of exactly 74 bytes.
 pub write-example : write-result dump-header dump (0x1020 ∷ []) (dump-rows 0x1010 0x1020 0x1030) 74 ≡ record { answer = record { reply = 0; place = 74 }; bytes = dump }
 unfolding unfold-write dump dump-header dump-rows
 write-example = refl
 
--- and with a byte less it is refused
+-- An output of 73 bytes is refused with 17.
 pub write-too-small : write-result dump-header dump (0x1020 ∷ []) (dump-rows 0x1010 0x1020 0x1030) 73 ≡ record { answer = record { reply = 17; place = 0 }; bytes = [] }
 unfolding unfold-write dump dump-header dump-rows
 write-too-small = refl
 
--- asking for its size counts its bytes
+-- The size query answers 74.
 pub write-size-example : write-size-result dump-header dump (0x1020 ∷ []) (dump-rows 0x1010 0x1020 0x1030) ≡ record { reply = 0; place = 74 }
 unfolding unfold-write dump dump-header dump-rows
 write-size-example = refl

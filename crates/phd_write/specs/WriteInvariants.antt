@@ -1,5 +1,5 @@
--- What holds between two rows when the rows are sized, and when they are put: it begins so, each row keeps it, and at the
--- end it is what was asked.
+-- Invariants of the loops that size and encode the rows: each holds at the start, a row preserves it, and at the end it gives the
+-- contract.
 -- Assumes nothing.
 use mathlib.Core.Path.{_≡_, refl, ap, _∙_}
 use Prim.Native.Nat.{ℕ, _+_, _*_, _^_, _≤_, _<_}
@@ -27,16 +27,18 @@ use Rattle.phd_write.specs.Write.{encode-records}
 use Rattle.phd_write.specs.RowSteps.{plan-row, bytes-left, nth-plan, nth-bytes, nth-size, cache-after-nth, BetweenRows, RowStep, row-step, bytes-left-end}
 
 module _ (h : Header) (names refs table : List ℕ) where
-  -- all rows and the end tag
+  -- The bytes of all rows, and the end tag.
   abbrev pub all-bytes : List ℕ
   all-bytes = encode-records h 0 empty-cache (recs names refs (rows-of table))
 
+  -- `BetweenRows` holds before the first row.
   between-start : first-bad h names refs (rows-of table) ≡ NotFound → BetweenRows h names refs table 0 0 0
   unfolding max-address
   between-start e = record { at-most = omega arith; none = e; aligned = refl; most = omega arith }
 
-  -- ---- sizing, after a header of so many bytes
+  -- ---- size of the rows, after a header of `header` bytes
 
+  -- Before row i, `total` and the bytes left add up to the size of the dump, and `total` is bounded.
   pub record SizeLoop (header i before total : ℕ) (c : Cache) : Type 0 where
     pub index : ℕ
     pub between : BetweenRows h names refs table i index before
@@ -44,9 +46,11 @@ module _ (h : Header) (names refs table : List ℕ) where
     pub small : total ≤ 65570 + i * 65664 + index * 8
     pub sum : total + length (bytes-left h names refs table i before c) ≡ header + length all-bytes
 
+  -- The invariant holds at the start.
   pub size-loop-start : (header : ℕ) → header < 65570 → first-bad h names refs (rows-of table) ≡ NotFound → SizeLoop header 0 0 header empty-cache
   size-loop-start header l e = record { index = 0; between = between-start e; few = omega arith; small = omega arith; sum = refl }
 
+  -- Adding the size of row i preserves the invariant.
   pub size-loop-step : (header i before total : ℕ) (c : Cache) → ValidBits (h .bits) → SizeLoop header i before total c → i < row-count table
       → SizeLoop header (i + 1) (row-at table i .address) (total + nth-size h names refs table i before c) (cache-after-nth h names refs table i before c)
   size-loop-step header i before total c w z l =
@@ -65,78 +69,94 @@ module _ (h : Header) (names refs table : List ℕ) where
         sum = omega (arith, rw length-append at t);
       }
 
+  -- After the last row, `total` and the end tag are the size of the dump.
   pub size-loop-end : (header i before total : ℕ) (c : Cache) → SizeLoop header i before total c → row-count table ≤ i → total + 1 ≡ header + length all-bytes
   size-loop-end header i before total c z l = rw (bytes-left-end h names refs table i before c l, length-be) at (z .sum)
 
-  -- ---- writing, into an output that was out₀, from the offset at₀ on
+  -- ---- encoding the rows, into an output that was out₀, from offset at₀ on
 
+  -- Before row i, the bytes left remain to be written at offset `to`, and the output can hold all of them.
   pub record EncodeLoop (at₀ : ℕ) (out₀ : List ℕ) (i before to : ℕ) (c : Cache) (out : List ℕ) : Type 0 where
     pub index : ℕ
     pub between : BetweenRows h names refs table i index before
     pub rest : Remaining out₀ at₀ all-bytes out to (bytes-left h names refs table i before c)
     pub capacity : HasCapacity out₀ at₀ all-bytes
 
+  -- The invariant holds at the start.
   pub encode-loop-start : (at : ℕ) (out : List ℕ) → HasCapacity out at all-bytes → first-bad h names refs (rows-of table) ≡ NotFound → EncodeLoop at out 0 0 at empty-cache out
   encode-loop-start at out l e = record { index = 0; between = between-start e; rest = remaining-start out at all-bytes; capacity = l }
 
   module _ (at₀ : ℕ) (out₀ : List ℕ) (i before to : ℕ) (c : Cache) (out : List ℕ) (z : EncodeLoop at₀ out₀ i before to c out) where
-    -- the next row's bytes, and those after them
+    -- Row i exists.
     module _ (w : ValidBits (h .bits)) (l : i < row-count table) where
+      -- What holds of row i.
       this-step : RowStep h names refs table i (z .index) before c
       this-step = row-step h names refs table i (z .index) before c w (z .between) l
 
+      -- The bytes that remain are those of row i and those after it.
       progress-split : Remaining out₀ at₀ all-bytes out to (nth-bytes h names refs table i before c ++ bytes-left h names refs table (i + 1) (row-at table i .address) (cache-after-nth h names refs table i before c))
       progress-split = rw (this-step .more) at (z .rest)
 
-      -- the row that is written has room
+      -- The output can hold row i.
       pub encode-loop-capacity : HasCapacity out to (nth-bytes h names refs table i before c)
       encode-loop-capacity = capacity-first out to (nth-bytes h names refs table i before c) (bytes-left h names refs table (i + 1) (row-at table i .address) (cache-after-nth h names refs table i before c)) (remaining-capacity progress-split (z .capacity))
 
+      -- Writing row i preserves the invariant.
       pub encode-loop-step : (to′ : ℕ) (out′ : List ℕ) → Writes out to (nth-bytes h names refs table i before c) out′ to′
           → EncodeLoop at₀ out₀ (i + 1) (row-at table i .address) to′ (cache-after-nth h names refs table i before c) out′
       encode-loop-step to′ out′ p = record { index = z .index + row-at table i .count; between = this-step .between; rest = remaining-next progress-split p; capacity = z .capacity }
 
-    -- no row is left: the end tag has room, and ends it
+    -- No row is left.
     module _ (l : row-count table ≤ i) where
+      -- The end tag is all that remains.
       last : Remaining out₀ at₀ all-bytes out to (be 1 3 ++ [])
       last = rw (append-nil (be 1 3)) (rw (bytes-left-end h names refs table i before c l) at (z .rest))
 
+      -- The output can hold the end tag.
       pub end-tag-capacity : HasCapacity out to (be 1 3)
       end-tag-capacity = capacity-first out to (be 1 3) [] (remaining-capacity last (z .capacity))
 
+      -- Writing the end tag completes the rows.
       pub encode-loop-end : (to′ : ℕ) (out′ : List ℕ) → Writes out to (be 1 3) out′ to′ → Writes out₀ at₀ all-bytes out′ to′
       encode-loop-end to′ out′ p = remaining-done (remaining-next last p)
 
-  -- ---- the next row, as the functions hold it: r is the row, p how it is planned
+  -- ---- the next row in the functions' variables: r is the row, p its plan
 
   module _ (i index before : ℕ) (c : Cache) (n : RowStep h names refs table i index before c) (r : Row) (e : r ≡ row-at table i) where
+    -- The references of the row lie within their table.
     pub row-refs-in-bounds : r .first + r .count ≤ length refs
     row-refs-in-bounds = rw e (n .in-bounds .span)
 
+    -- The name of the row lies within the name bytes.
     pub row-name-in-bounds : r .place + r .namelen ≤ length names
     row-name-in-bounds = rw e (n .in-bounds .name-in-bounds)
 
+    -- The plan input of the row is bounded.
     pub row-plan-bounded : Bounded (plan-input c before r (refs-of refs r))
     row-plan-bounded = rw e (n .bound)
 
+    -- The name of the row is below 2^16 bytes.
     pub row-name-short : r .namelen < 2 ^ 16
     row-name-short = rw e (n .in-bounds .short)
 
-    -- s is how many bytes it has, and whether it is cached
+    -- s is the size of the record, and whether its class word is pushed.
     module _ (s : EncodedSize) (f : s ≡ record-size (plan-row h refs before c r) r) where
+      -- s is the size of row i by its plan.
       sized-is : s ≡ record-size (nth-plan h names refs table i before c) (row-at table i)
       sized-is = f ∙ ap (λ (x : Row). record-size (plan-row h refs before c x) x) e
 
+      -- The cache k after the row is `cache-after-nth`.
       cached-is : (k : Cache) → k ≡ cond (s .cached) (push c (r .class)) c → k ≡ cache-after-nth h names refs table i before c
       unfolding record-size
       cached-is k g = rw (sized-is, e) at g
 
+      -- One iteration of `rows_size` preserves the invariant.
       pub size-loop-row : (header total : ℕ) (k : Cache) → k ≡ cond (s .cached) (push c (r .class)) c
           → ValidBits (h .bits) → SizeLoop header i before total c → i < row-count table → SizeLoop header (i + 1) (r .address) (total + s .size) k
       unfolding record-size
       size-loop-row header total k g w z l = rw (cached-is k g, sized-is, e) (size-loop-step header i before total c w z l)
 
-      -- what is added is small: so no sum leaves 64 bits
+      -- The new total is below 2^63, so the sum does not exceed 64 bits.
       pub size-loop-bound : (header total : ℕ) → SizeLoop header i before total c → i < row-count table
           → row-count table ≤ 2 ^ 30 → length refs ≤ 2 ^ 30 → total + s .size < 2 ^ 63
       unfolding record-size
@@ -149,21 +169,26 @@ module _ (h : Header) (names refs table : List ℕ) where
           omega arith
 
     module _ (p : Plan) (f : p ≡ plan-row h refs before c r) where
+      -- p is the plan of row i.
       plan-is : p ≡ nth-plan h names refs table i before c
       plan-is = f ∙ ap (plan-row h refs before c) e
 
+      -- The bytes that p gives are those of row i.
       bytes-is : encode-planned before p r (refs-of refs r) (name-of names r) ≡ nth-bytes h names refs table i before c
       bytes-is = rw (plan-is, e)
 
+      -- The cache k after the row is `cache-after-nth`.
       cache-is : (k : Cache) → k ≡ cond (p .shape .cached) (push c (r .class)) c → k ≡ cache-after-nth h names refs table i before c
       cache-is k g = rw (plan-is, e) at g
 
+      -- One iteration of `encode_rows` preserves the invariant.
       pub encode-loop-row : (at₀ : ℕ) (out₀ : List ℕ) (to : ℕ) (out : List ℕ) → EncodeLoop at₀ out₀ i before to c out → ValidBits (h .bits) → i < row-count table
           → (to′ : ℕ) (out′ : List ℕ) (k : Cache) → Writes out to (encode-planned before p r (refs-of refs r) (name-of names r)) out′ to′
           → k ≡ cond (p .shape .cached) (push c (r .class)) c → EncodeLoop at₀ out₀ (i + 1) (r .address) to′ k out′
       encode-loop-row at₀ out₀ to out z w l to′ out′ k a j =
           rw (cache-is k j, e) (encode-loop-step at₀ out₀ i before to c out z w l to′ out′ (rw bytes-is at a))
 
+      -- The output can hold the record that the iteration writes.
       pub encode-loop-row-capacity : (at₀ : ℕ) (out₀ : List ℕ) (to : ℕ) (out : List ℕ) → EncodeLoop at₀ out₀ i before to c out → ValidBits (h .bits) → i < row-count table
           → HasCapacity out to (encode-planned before p r (refs-of refs r) (name-of names r))
       encode-loop-row-capacity at₀ out₀ to out z w l = rw bytes-is (encode-loop-capacity at₀ out₀ i before to c out z w l)

@@ -1,4 +1,4 @@
-// The header of a dump: how many bytes it has, and writing it.
+// The header of a dump (docs/FORMAT.md 2): its size, and encoding it.
 ghost use mathlib.Core.Path.{_≡_};
 ghost use Prim.Native.Nat.{_≤_};
 ghost use lib.ListN.{length};
@@ -8,7 +8,7 @@ ghost use Rattle.phd_check.specs.WellFormed.{VmInBounds};
 use decode::StringSpan;
 use phd::Header;
 
-// How many bytes it has.
+// Returns the size of the header in bytes.
 pub fn header_size(h: Header, names: &[u8]) -> usize
     requires { ⌜ VmInBounds (now names) (h .vm) ⌝ }
     ensures { λ r. ⌜ r ≡ length (encode-header (now (names .entry)) h) ⌝ }
@@ -20,7 +20,7 @@ pub fn header_size(h: Header, names: &[u8]) -> usize
     31
 }
 
-// What a flag adds to the flags: its number if it is set, else 0.
+// Returns what a flag adds to the header flags: `n` if it is set, else 0.
 fn flag_value(set: bool, n: u64) -> u64
     ensures is { λ r. ⌜ r ≡ flag-value set n ⌝ }
     ensures most { λ r. ⌜ r ≤ n ⌝ }
@@ -31,14 +31,14 @@ fn flag_value(set: bool, n: u64) -> u64
     0
 }
 
-// Its flags.
+// Returns the header flags: 1 if W is 64, plus 2 if all-hashed, plus 4 if from OpenJ9.
 fn header_flags(h: Header) -> u64
     ensures { λ r. ⌜ r ≡ header-flags h ⌝ }
 {
     flag_value(h.bits == 64, 1) + flag_value(h.hashed, 2) + flag_value(h.openj9, 4)
 }
 
-// Writes the opening string, the version, the flags and the byte 1.
+// Encodes the opening string, the version, the flags and the byte 1 at the start of the output; returns the offset after them.
 fn encode_preamble(out: &mut [u8], flags: u64) -> usize
     requires { ⌜ HasCapacity (now out) 0 (encode-preamble flags) ⌝ }
     ensures { λ r. ⌜ Writes (now (out .entry)) 0 (encode-preamble flags) (now (out .exit)) r ⌝ }
@@ -50,7 +50,7 @@ fn encode_preamble(out: &mut [u8], flags: u64) -> usize
     encode::encode_be(out, one, 1, 1)
 }
 
-// Writes the VM string's record, if there is one.
+// Encodes the header record of the VM string, if there is one, at offset `at`, and returns the offset after it.
 fn encode_vm(out: &mut [u8], at: usize, vm: StringSpan, names: &[u8]) -> usize
     requires { ⌜ VmInBounds (now names) vm ⌝ }
     requires { ⌜ HasCapacity (now out) at (encode-vm (now names) vm) ⌝ }
@@ -66,7 +66,7 @@ fn encode_vm(out: &mut [u8], at: usize, vm: StringSpan, names: &[u8]) -> usize
     at
 }
 
-// Writes the header, and returns the offset after it.
+// Encodes the header at the start of the output, and returns the offset after it.
 pub fn encode_header(out: &mut [u8], h: Header, names: &[u8]) -> usize
     requires { ⌜ VmInBounds (now names) (h .vm) ⌝ }
     requires { ⌜ HasCapacity (now out) 0 (encode-header (now names) h) ⌝ }

@@ -1,5 +1,5 @@
-// Writing tables as a portable heap dump: the public operations `write_size`, which asks how many bytes it takes, and `write`.
-// The contract of the first is one equation with the definition; that of the second one for the answer, and one for the output.
+// Writing tables as a portable heap dump (docs/FORMAT.md 6): the public operations `write_size`, the size query, and `write`.
+// The contract of `write_size` is one equation with its definition; that of `write` is one for the answer and one for the output.
 ghost use mathlib.Core.Path.{_≡_};
 ghost use lib.ListN.{length};
 ghost use Rattle.phd_check.specs.GoodRows.{TablesGood};
@@ -14,7 +14,7 @@ use table::Answer;
 mod header;
 mod rows;
 
-// How many bytes the dump of a good header and good rows has, if it is within the size limit.
+// Returns the size of the dump of a good header and good rows, or 17 if it is over the size limit.
 fn dump_size(header: Header, rows: &[u64], refs: &[u64], names: &[u8]) -> Answer
     requires { ⌜ TablesGood header (now names) (now refs) (rows-of (now rows)) ⌝ }
     ensures { λ r. ⌜ r ≡ write-size-result header (now (names .entry)) (now (refs .entry)) (now (rows .entry)) ⌝ }
@@ -33,8 +33,8 @@ fn dump_size(header: Header, rows: &[u64], refs: &[u64], names: &[u8]) -> Answer
     }
 }
 
-// Asks how many bytes the whole rows of a table and their references take as a dump: everything is checked as for `write`, and
-// nothing is written.
+// Returns the size in bytes of the dump of the whole rows of a table and their references. Makes the checks of `write`, except
+// that of the output, and writes nothing.
 pub fn write_size(header: Header, rows: &[u64], refs: &[u64], names: &[u8]) -> Answer
     ensures { λ r. ⌜ r ≡ write-size-result header (now (names .entry)) (now (refs .entry)) (now (rows .entry)) ⌝ }
 {
@@ -45,7 +45,7 @@ pub fn write_size(header: Header, rows: &[u64], refs: &[u64], names: &[u8]) -> A
     dump_size(header, rows, refs, names)
 }
 
-// Writes the dump of a good header and good rows to the start of an output that holds it, and returns its length.
+// Encodes the dump of a good header and good rows at the start of an output that can hold it, and returns its length.
 fn encode_dump(header: Header, rows: &[u64], refs: &[u64], names: &[u8], out: &mut [u8]) -> usize
     requires { ⌜ TablesGood header (now names) (now refs) (rows-of (now rows)) ⌝ }
     requires { ⌜ HasCapacity (now out) 0 (dump-of header (now names) (now refs) (rows-of (now rows))) ⌝ }
@@ -55,8 +55,8 @@ fn encode_dump(header: Header, rows: &[u64], refs: &[u64], names: &[u8], out: &m
     rows::encode_rows(out, at, header, rows, refs, names)
 }
 
-// Writes the whole rows of a table and their references as a dump, to the start of the output. What the output holds behind
-// it stays as it was, and all of it where the writing is refused.
+// Writes the whole rows of a table and their references as a dump at the start of the output. Output bytes after the dump are
+// unchanged; a refusal changes no byte.
 pub fn write(header: Header, rows: &[u64], refs: &[u64], names: &[u8], out: &mut [u8]) -> Answer
     ensures is { λ r. ⌜ r ≡ write-result header (now (names .entry)) (now (refs .entry)) (now (rows .entry)) (length (now (out .entry))) .answer ⌝ }
     ensures out { λ _. ⌜ now (out .exit) ≡ overwrite (now (out .entry)) (write-result header (now (names .entry)) (now (refs .entry)) (now (rows .entry)) (length (now (out .entry))) .bytes) ⌝ }

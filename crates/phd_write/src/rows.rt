@@ -1,4 +1,4 @@
-// The rows of a dump: how many bytes they have, and putting them, row after row.
+// The rows of a dump: their size, and encoding them in order.
 ghost use mathlib.Core.Path.{_≡_};
 ghost use mathlib.Core.Bool.{true};
 ghost use Prim.Native.Nat.{_+_, _≤_, _<_};
@@ -16,7 +16,7 @@ use phd::Header;
 use phd_plan::Plan;
 use table::Row;
 
-// How a row is written, after a record at the address `before`, with the cache.
+// Returns the plan of a row after a record at the address `before`, with the cache.
 fn plan_row(h: Header, cache: Cache, before: u64, row: Row, refs: &[u64]) -> Plan
     requires { ⌜ (row .first + row .count ≤ length (now refs)) × Bounded (plan-input cache before row (refs-of (now refs) row)) ⌝ }
     ensures { λ r. ⌜ r ≡ plan-row h (now (refs .entry)) before cache row ⌝ }
@@ -25,7 +25,7 @@ fn plan_row(h: Header, cache: Cache, before: u64, row: Row, refs: &[u64]) -> Pla
     phd_plan::make_plan((h.bits / 8) as usize, m)
 }
 
-// How many bytes a dump has, with its header of so many.
+// Returns the size of a dump whose header has `header` bytes: the header, the rows and the end tag.
 pub fn rows_size(h: Header, rows: &[u64], refs: &[u64], names: &[u8], header: usize) -> usize
     requires { ⌜ good-header h (now names) (rows-of (now rows)) (now refs) ≡ true ⌝ }
     requires { ⌜ first-bad h (now names) (now refs) (rows-of (now rows)) ≡ NotFound ⌝ }
@@ -48,7 +48,7 @@ pub fn rows_size(h: Header, rows: &[u64], refs: &[u64], names: &[u8], header: us
     total + 1
 }
 
-// Writes the rows at a place and the end tag after them, and returns the place after it.
+// Encodes the rows and the end tag at offset `at`, and returns the offset after them.
 pub fn encode_rows(
     out: &mut [u8],
     at: usize,

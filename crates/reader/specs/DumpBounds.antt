@@ -1,6 +1,6 @@
--- The length of a dump bounds the rows and references that any reading of it stores, of any format; and tables of that capacity are
+-- The length of a dump bounds the rows and references that any reading of it stores, for any format; tables of that capacity are
 -- never too small.
--- A reader must believe `LeastBytes`, what a format shows of its bytes, and the statements.
+-- A reader must believe `LeastBytes`, the least number of bytes that a format's header and records take, and the statements.
 use mathlib.Core.Path.{_≡_, refl}
 use Prim.Native.Nat.{ℕ, _+_, _-_, _*_, _/_, _%_, _≤_, _<_}
 use native.Mathlib.Nat.{add-mul, le-div-iff-mul-le}
@@ -16,19 +16,20 @@ use Rattle.reader.specs.Reader.{Capacity, end-item, item, Format, ItemOf
 use Rattle.reader.specs.Steps.{Lawful, OnTransition, step-end, step-stop, step-item, step-no-row, step-no-refs, step-cases, read-induction}
 use Rattle.reader.specs.WithinCapacity.{whole-rows-append, stop-reply}
 
--- The header has `magic` bytes at least, and a record `each` for its row, if it has one, and one for each of its references.
+-- The header takes at least `min-header` bytes. A record takes at least `min-record` bytes if it has a row, and one more for each
+-- reference.
 pub record LeastBytes (D : Format) (min-header min-record : ℕ) : Type 0 where
   pub header : (s : List ℕ) (h : D .Header) (n : ℕ) → run (D .header) s 0 ≡ whole h n → min-header ≤ n
   pub entry : (h : D .Header) (c : D .Context) (index : ℕ) (s : List ℕ) (at : ℕ) (r rs : List ℕ) (m : D .Note) (k : D .Context) (e : ℕ)
       → run (D .entry h c index) s at ≡ whole (item r rs m k) e → at + (row-count r * min-record + length rs) ≤ e
 
--- the rows of a table and of what is appended to whole rows
+-- Appending to whole rows adds the numbers of rows.
 row-count-append : (rows r : List ℕ) → length rows % row-width ≡ 0 → row-count (rows ++ r) ≡ row-count rows + row-count r
 unfolding row-count
 row-count-append rows r w = simp length-append (omega arith)
 
 module _ (D : Format) (lawful : Lawful D) (min-header min-record : ℕ) (least : LeastBytes D min-header min-record) (s : List ℕ) (A : Capacity) where
-  -- between records: what the tables hold has its bytes before the place reached
+  -- The invariant between records: the header and all that is stored have their least bytes before the offset reached.
   record BytesBefore (st : State D) : Type 0 where
     pub whole-rows : length (st .rows) % row-width ≡ 0
     pub bytes : min-header + (row-count (st .rows) * min-record + length (st .refs)) ≤ st .at
@@ -40,7 +41,7 @@ module _ (D : Format) (lawful : Lawful D) (min-header min-record : ℕ) (least :
       let l = least .header s h n e in
       record { whole-rows = refl; bytes = omega arith; within = end-in-bounds (D .header) s 0 h n (omega arith) e }
 
-  -- a record more
+  -- The invariant holds after one more record.
   module _ (h : D .Header) (st : State D) (g : BytesBefore st) (r rs : List ℕ) (m : D .Note) (c : D .Context) (n : ℕ)
       (e : next-item D h s st ≡ whole (item r rs m c) n) where
     bytes-before-next : BytesBefore (append-item st r rs c n)
@@ -55,7 +56,7 @@ module _ (D : Format) (lawful : Lawful D) (min-header min-record : ℕ) (least :
           within = p .1;
         }
 
-  -- What a reading stores has its bytes in the dump, after the header's.
+  -- Rows times `min-record`, plus references, are at most the length of the dump minus `min-header`.
   pub stored-bound : row-count (read-result D s A .rows) * min-record + length (read-result D s A .refs) ≤ length s - min-header
   unfolding ended no-records row-count
   stored-bound =
@@ -68,17 +69,18 @@ module _ (D : Format) (lawful : Lawful D) (min-header min-record : ℕ) (least :
       held : (st : State D) → BytesBefore st → row-count (st .rows) * min-record + length (st .refs) ≤ length s - min-header
       held st g = omega (arith, g .bytes, g .within)
 
-  -- ---- enough capacity
+  -- ---- sufficient capacity
 
-  -- a row for as many as the dump can give, and a number for each reference that it can give
+  -- There is capacity for as many rows as the dump can have.
   abbrev pub RowsEnough : Type 0
   RowsEnough = (length s - min-header) / min-record * row-width ≤ A .rows
 
+  -- There is capacity for as many references as the dump can have.
   abbrev pub RefsEnough : Type 0
   RefsEnough = length s - min-header ≤ A .refs
 
   module _ (some : 0 < min-record) (st : State D) (g : BytesBefore st) where
-    -- whole rows, and references, with their bytes in the dump fit
+    -- With that capacity, the rows and references of such a state fit.
     rows-fit : RowsEnough → length (st .rows) ≤ A .rows
     unfolding row-count
     rows-fit h =
@@ -88,8 +90,8 @@ module _ (D : Format) (lawful : Lawful D) (min-header min-record : ℕ) (least :
     refs-fit : RefsEnough → length (st .refs) ≤ A .refs
     refs-fit h = omega (arith, g .bytes, g .within)
 
-  -- Whatever holds of 0, 1, 2 and the replies that the format's layouts refuse with holds of a reading's reply: if it holds of 13, or
-  -- there are rows enough, and if it holds of 14, or there is enough for references.
+  -- P holds for the reply of a reading if it holds for 0, 1, 2 and the replies that the format's layouts refuse with, for 13
+  -- unless there is enough capacity for rows, and for 14 unless there is enough for references.
   module _ (some : 0 < min-record) (P : ℕ → Type 0) (done : P 0) (cut : P 1) (long : P 2) (head : Refuses P (D .header))
       (body : (h : D .Header) (c : D .Context) (index : ℕ) → Refuses P (D .entry h c index)) (rows : RowsEnough ⊎ P 13) (refs : RefsEnough ⊎ P 14) where
     abbrev BytesOrReply : Transition D → Type 0
@@ -125,6 +127,7 @@ module _ (D : Format) (lawful : Lawful D) (min-header min-record : ℕ) (least :
     by-outcome h st g (whole (item r rs m c) n) e = by-item h st g r rs m c n e
     by-outcome h st g (stops w) e = rw (step-stop D h s A st w e) (stop-reply (D .entry h (st .context) (length (st .refs))) cut (body h _ _) s (st .at) w e)
 
+    -- In particular, with enough capacity the reply is neither 13 nor 14, unless a layout refuses with them.
     pub reply-when-enough : P (read-result D s A .reply)
     unfolding ended no-records
     reply-when-enough =

@@ -1,7 +1,8 @@
--- Reading is the definition of a format and of its reading. The rest is proved once, of every format: Steps (what a format shows
--- of itself, and record after record), Cut (two cuts of any bytes), Missing (how much is missing of a cut one), Capacity (the tables'
--- capacity, and the replies), DumpBounds (how much a dump of a given length can fill), Seen (two cuts, as callers see them), Offsets
--- (where a row came from) and Stepping (steps over the caller's tables, for the functions that read).
+-- `Reader` defines dump formats and their reading. The other modules prove theorems that hold for every format:
+-- `Steps` (the laws that a format must satisfy, and induction over records), `Prefixes` (readings of two cuts of the same bytes),
+-- `MissingBytes` (the missing bytes of a cut dump), `WithinCapacity` (capacity and replies), `DumpBounds` (how much a dump of a
+-- given length can fill), `PrefixTables` (two cuts, in the callers' tables), `RowOrigins` (the record that a row came from) and
+-- `TableSteps` (steps over the caller's tables, for the functions that read).
 pub mod Reader
 pub mod Steps
 pub mod Prefixes

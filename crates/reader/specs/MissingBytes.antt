@@ -1,5 +1,5 @@
--- How much is missing, of any format. Reply 1 carries what one field lacks where the dump ends, and every other reply 0. Fewer bytes more than
--- that change nothing but how many are missing; and a dump that goes on to its end has as many more at least.
+-- Missing bytes, for any format: reply 1 comes with the number of bytes that one field lacks at the end of the dump, every other
+-- reply with 0. Appending fewer bytes than are missing changes nothing but that number. A completed dump ends after them.
 -- Assumes nothing.
 use mathlib.Core.Path.{_≡_, refl, ap, _∙_}
 use Prim.Native.Nat.{ℕ, zero, suc, _+_, _-_, _≤_, _<_}
@@ -16,35 +16,36 @@ use Rattle.reader.specs.Reader.{Capacity, _⊑_, limit, end-item, item, 
 use Rattle.reader.specs.Steps.{RefusalReply, Lawful, records-go, records-halt, step-stop, step-cases, OnTransition, records-induction, read-under-limit, read-induction}
 use Rattle.reader.specs.Prefixes.{StepPrefix, step-prefix}
 
--- ---- what a reply carries
+-- ---- missing bytes of a reply
 
--- What holds of the missing bytes that a reply comes with, at a place of the bytes s.
+-- The missing bytes (the scope paper's term, docs/FORMAT.md 5.2) that a reply has at a place of the dump s.
 pub record Missing (s : List ℕ) (reply place missing : ℕ) : Type 0 where
-  -- of a cut: what one field lacks, which begins at the place or after it, and within the dump
+  -- For a cut: the bytes that one field lacks, which begins at the place or after it, and within the dump.
   pub cut : reply ≡ 1 → FieldDeficit s place missing
-  -- of every other reply: none
+  -- For every other reply: none.
   pub other : (reply ≡ 1 → ⊥) → missing ≡ 0
 
+-- `Missing` for a result.
 abbrev pub MissingOf : {D : Format} → List ℕ → Result D → Type 0
 MissingOf s r = Missing s (r .reply) (r .place) (r .missing)
 
--- the same, with k bytes fewer missing
+-- The same result with k missing bytes fewer.
 abbrev pub subtract-missing : {D : Format} → ℕ → Result D → Result D
 subtract-missing k r =
     record { reply = r .reply; place = r .place; missing = r .missing - k; rows = r .rows; refs = r .refs; header = r .header }
 
--- none are missing under a reply that is not 1
+-- A reply other than 1 has no missing bytes.
 zero-missing : {s : List ℕ} {reply place : ℕ} → (reply ≡ 1 → ⊥) → Missing s reply place 0
 zero-missing n = record { cut = λ h. absurd (n h); other = λ _. refl }
 
--- a layout that stops is cut and lacks bytes, or has another reply and lacks none
+-- A layout that stops is cut and lacks bytes, or has another reply and lacks none.
 stop-missing : {A : Type 0} (l : Layout A) → Refuses RefusalReply l → (s : List ℕ) (at : ℕ) (w : Stop) → at ≤ length s → run l s at ≡ stops w
     → Missing s (reply-of w) at (missing-of w)
 unfolding reply-of missing-of
 stop-missing l g s at (Cut n) p e = record { cut = λ _. cut-deficit l s at n p e; other = λ h. absurd (h refl) }
 stop-missing l g s at (Refused r) p e = zero-missing (g .each s at r e .not-cut)
 
--- a layout that stops has no reply 0
+-- A layout that stops does not give reply 0.
 stop-not-zero : {A : Type 0} (l : Layout A) → Refuses RefusalReply l → (s : List ℕ) (at : ℕ) (w : Stop) → run l s at ≡ stops w → reply-of w ≡ 0 → ⊥
 unfolding reply-of
 stop-not-zero l g s at (Cut n) e z = omega arith
@@ -62,6 +63,7 @@ module _ (D : Format) (lawful : Lawful D) where
       (zero-missing (λ z. omega arith))
       (λ w e. stop-missing (D .entry h (st .context) (length (st .refs))) (lawful .entry-refusals h _ _) s (st .at) w p e)
 
+  -- The missing bytes of every reading satisfy `Missing`.
   pub read-missing : (s : List ℕ) (A : Capacity) → MissingOf s (read-result D s A)
   unfolding ended no-records initial-state
   read-missing s A =
@@ -72,10 +74,10 @@ module _ (D : Format) (lawful : Lawful D) where
       (step-missing s A)
       (λ h st p. zero-missing (λ z. omega arith))
 
--- ---- fewer bytes more than are missing
+-- ---- appending fewer bytes than are missing
 
 module _ (D : Format) where
-  -- a step that ends a reading with bytes missing found a cut
+  -- A step that ends a reading with missing bytes found a cut.
   module _ (h : D .Header) (s : List ℕ) (A : Capacity) (st : State D) where
     abbrev CutAtState : Transition D → Type 0
     CutAtState (go st′) = Unit {0}
@@ -93,7 +95,8 @@ module _ (D : Format) where
         stop-cut
 
   module _ (h : D .Header) (s t : List ℕ) (A A′ : Capacity) (p : A ⊑ A′) where
-    -- A reading that ends with bytes missing: it reached a state where a record is cut, and over the longer run it reaches the same.
+    -- A reading with missing bytes reached a state at which a record is cut. The reading of the longer dump reaches the same
+    -- state, with `left` + 1 units of fuel.
     record ReachedCut (f : ℕ) (st : State D) : Type 0 where
       pub state : State D
       pub left : ℕ
@@ -144,17 +147,17 @@ module _ (D : Format) where
       by (stops (Refused r)) e l = let m : length t < 0 = rw e at l in absurd (omega arith)
       by (stops (Cut n)) e l = let m : length t < n = rw e at l in rw (cut-append (D .header) s t 0 n e m, e)
 
-  -- Fewer bytes more than are missing: the same reply, place, rows, references and facts, and as many fewer missing.
+  -- Appending fewer bytes than are missing gives the same reply, place, rows, references and header, with as many fewer missing.
   pub read-cut-append : (s t : List ℕ) (A A′ : Capacity) → length (s ++ t) ≤ limit → A ⊑ A′ → length t < read-result D s A .missing
       → read-result D (s ++ t) A′ ≡ subtract-missing (length t) (read-result D s A)
   read-cut-append s t A A′ l p m =
       let k : length s ≤ limit = omega (arith, length-append s t) in
       rw (read-under-limit D s A k, read-under-limit D (s ++ t) A′ l) (from-header-cut-append s t A A′ p (rw (read-under-limit D s A k) at m))
 
--- ---- a dump that goes on to its end
+-- ---- completing a cut dump
 
 module _ (D : Format) (lawful : Lawful D) where
-  -- a reading ends at no place before the one where it goes on
+  -- If a state is at or after offset m, so is the place at which the reading from it ends.
   place-ge : (h : D .Header) (s : List ℕ) (A : Capacity) (m f : ℕ) (st : State D) → m ≤ st .at → m ≤ records D f h s A st .place
   unfolding ended
   place-ge h s A m =
@@ -165,7 +168,7 @@ module _ (D : Format) (lawful : Lawful D) where
       l l (λ w e. l))
       (λ st l. l)
 
-  -- where it reaches the end, that is after the record or the end tag found
+  -- If a record or the end was found up to offset e and the reading completes, its place is at or after e.
   module _ (h : D .Header) (s : List ℕ) (A : Capacity) (f : ℕ) (st : State D) (i : ItemOf D) (e : ℕ) (is : next-item D h s st ≡ whole i e) where
     abbrev EndsAfter : Transition D → Type 0
     EndsAfter (go st′) = e ≤ records D f h s A st′ .place
@@ -191,7 +194,7 @@ module _ (D : Format) (lawful : Lawful D) where
         by-step (go st′) g x z = rw (records-go D f h s A st st′ g) x
         by-step (halt r) g x z = rw (records-halt D f h s A st r g) (x (rw (records-halt D f h s A st r g) at z))
 
-  -- where a record is cut, a longer run that is read to its end goes beyond what is missing
+  -- If a record lacks n bytes at the end of s, and s ++ t is complete, its place is at or after the end of these bytes.
   cut-end-after : (h : D .Header) (s t : List ℕ) (A : Capacity) (f n : ℕ) (st : State D) → next-item D h s st ≡ stops (Cut n) → records D (suc f) h (s ++ t) A st .reply ≡ 0
       → length s + n ≤ records D (suc f) h (s ++ t) A st .place
   unfolding ended
@@ -238,7 +241,7 @@ module _ (D : Format) (lawful : Lawful D) where
       by (stops (Refused r)) e = let m : 0 < 0 = rw e at l in absurd (omega arith)
       by (stops (Cut n)) e = rw e (longer n (run (D .header) (s ++ t) 0) e refl)
 
-  -- Bytes that were cut, and with others after them are read to the end tag: it is after what was missing.
+  -- If s has missing bytes and s ++ t is complete, its end is at or after the end of these bytes.
   pub read-end-after-missing : (s t : List ℕ) (A A′ : Capacity) → length (s ++ t) ≤ limit → A ⊑ A′ → 0 < read-result D s A .missing
       → read-result D (s ++ t) A′ .reply ≡ 0 → length s + read-result D s A .missing ≤ read-result D (s ++ t) A′ .place
   read-end-after-missing s t A A′ l p m z =
@@ -246,16 +249,16 @@ module _ (D : Format) (lawful : Lawful D) where
       rw (read-under-limit D s A k, read-under-limit D (s ++ t) A′ l)
       (from-header-end-after-missing s t A A′ p (rw (read-under-limit D s A k) at m) (rw (read-under-limit D (s ++ t) A′ l) at z))
 
--- ---- what makes a cut dump more than cut
+-- ---- least number of bytes to append
 
 module _ (D : Format) (s t : List ℕ) (A A′ : Capacity) (l : length (s ++ t) ≤ limit) (p : A ⊑ A′) (e : read-result D s A .reply ≡ 1) where
-  -- What makes a cut dump anything but cut has at least as many bytes as are missing.
+  -- If s is cut and s ++ t is not, t has at least as many bytes as are missing.
   pub missing-le-appended : (read-result D (s ++ t) A′ .reply ≡ 1 → ⊥) → read-result D s A .missing ≤ length t
   missing-le-appended n = elim (decLe (read-result D s A .missing) (length t)) [ yes k ↦ k | no k ↦ absurd (still (omega arith)) ]
     where
       still : length t < read-result D s A .missing → ⊥
       still k = n (ap (λ x. x .reply) (read-cut-append D s t A A′ l p k) ∙ e)
 
-  -- And what makes it whole goes at least as far: its end is after them, whatever follows that.
+  -- If s is cut and s ++ t is complete, its end is at or after the end of the missing bytes, whatever follows that end.
   pub completed-end-after : Lawful D → read-result D (s ++ t) A′ .reply ≡ 0 → length s + read-result D s A .missing ≤ read-result D (s ++ t) A′ .place
   completed-end-after lawful z = read-end-after-missing D lawful s t A A′ l p (read-missing D lawful s A .cut e .some) z

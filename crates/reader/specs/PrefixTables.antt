@@ -1,4 +1,4 @@
--- Demand 3, first part, as callers see it, of any format: what the callers' tables hold after the readings of two cuts.
+-- Demand 3, first part, as callers see it, for any format: the contents of the callers' tables after the readings of two cuts.
 -- A reader must believe `PrefixTables`. Assumes nothing.
 use mathlib.Core.Path.{_≡_, ap}
 use Prim.Native.Nat.{ℕ, _*_, _/_, _%_, _≤_}
@@ -13,18 +13,19 @@ use Rattle.reader.specs.Steps.{Lawful}
 use Rattle.reader.specs.Prefixes.{Prefix, Final, ResultPrefix, cuts-prefix}
 use Rattle.reader.specs.WithinCapacity.{read-within-capacity}
 
--- r is the reading of the shorter, into the tables rows and refs, and r′ that of the longer, into rows′ and refs′.
+-- The callers' tables after two readings: r is the result of the shorter cut, read into the tables rows and refs; r′ is that of
+-- the longer cut, read into rows′ and refs′.
 pub record PrefixTables {D : Format} (r r′ : Result D) (rows rows′ refs refs′ : List ℕ) : Type 0 where
-  -- the longer stored as many at least
+  -- The longer reading stores at least as many rows and references.
   pub rows-le : row-count (r .rows) ≤ row-count (r′ .rows)
   pub refs-le : length (r .refs) ≤ length (r′ .refs)
-  -- the first rows and references of the longer's tables are all those of the shorter's
+  -- The longer's tables begin with all rows and references that the shorter stored.
   pub rows-prefix : take (row-count (r .rows) * row-width) (overwrite rows′ (r′ .rows)) ≡ take (row-count (r .rows) * row-width) (overwrite rows (r .rows))
   pub refs-prefix : take (length (r .refs)) (overwrite refs′ (r′ .refs)) ≡ take (length (r .refs)) (overwrite refs (r .refs))
-  -- a reply but 1, 13 and 14 is the longer's too, with all that the reading gives
+  -- If the shorter's reply is not 1, 13 or 14, the two results are equal.
   pub same : Final (r .reply) → r′ ≡ r
 
--- what begins a list begins a table in which the list was stored
+-- If xs is a prefix of ys, tables that begin with xs and with ys agree up to the end of xs.
 overwrite-prefix : (table table′ xs ys : List ℕ) → Prefix xs ys → take (length xs) (overwrite table′ ys) ≡ take (length xs) (overwrite table xs)
 unfolding overwrite
 overwrite-prefix table table′ xs ys b =
@@ -47,6 +48,7 @@ prefix-tables r r′ rows rows′ refs refs′ w a =
       same = a .same;
     }
 
+-- The readings of the first m and the first n bytes, m ≤ n, satisfy `PrefixTables` if the longer's tables are at least as long.
 pub cuts-prefix-tables : (D : Format) → Lawful D → (b : List ℕ) (m n : ℕ) (rows rows′ refs refs′ : List ℕ) → m ≤ n → length (take n b) ≤ limit
     → length rows ≤ length rows′ → length refs ≤ length refs′
     → PrefixTables (read-result D (take m b) (capacity (length rows) (length refs))) (read-result D (take n b) (capacity (length rows′) (length refs′))) rows rows′ refs refs′

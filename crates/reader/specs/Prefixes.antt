@@ -1,5 +1,5 @@
--- Demand 3, first part, of any format: of any two cuts of any bytes, the longer read into tables of at least the capacity, what the
--- shorter stores begins what the longer stores.
+-- Demand 3, first part, for any format: of two cuts of the same bytes, the shorter stores a prefix of what the longer stores in
+-- tables of at least the same capacity.
 -- Assumes nothing.
 use mathlib.Core.Path.{_≡_, refl, sym, ap, _∙_}
 use Prim.Native.Nat.{ℕ, zero, suc, _+_, _≤_, _<_}
@@ -15,30 +15,32 @@ use Rattle.decode.specs.declared.Stop.the-variants.{Cut, Refused}
 use Rattle.reader.specs.Reader.{limit, Capacity, _⊑_, end-item, item, Format, ItemOf, State, Result, Transition, go, halt, ended, transition, next-item, step, records, initial-state, no-records, from-header, read-result}
 use Rattle.reader.specs.Steps.{records-go, records-halt, records-tables, read-under-limit}
 
--- ys is xs and perhaps more
+-- xs is a prefix of ys; `more` is the rest.
 pub record Prefix (xs ys : List ℕ) : Type 0 where
   pub more : List ℕ
   pub all : xs ++ more ≡ ys
 
--- a reply that is neither cut nor "no room" (01's terms)
+-- A final reply, which more bytes or larger tables do not change: any but 1 (cut), 13 and 14 (no capacity) (docs/FORMAT.md 5.2).
 abbrev pub Final : ℕ → Type 0
 Final reply = (reply ≡ 1 → ⊥) × (reply ≡ 13 → ⊥) × (reply ≡ 14 → ⊥)
 
--- What demand 3 asks of the readings of a shorter and a longer cut.
+-- Demand 3 for the readings of a shorter and a longer cut: the shorter's tables are prefixes of the longer's, and if its reply is
+-- final, the results are equal.
 pub record ResultPrefix {D : Format} (shorter longer : Result D) : Type 0 where
   pub rows : Prefix (shorter .rows) (longer .rows)
   pub refs : Prefix (shorter .refs) (longer .refs)
   pub same : Final (shorter .reply) → longer ≡ shorter
 
--- ---- the tables only grow
+-- ---- growth of the tables
 
 prefix-refl : (xs : List ℕ) → Prefix xs xs
 prefix-refl xs = record { more = []; all = append-nil xs }
 
+-- A prefix of a list is a prefix of the list with more appended.
 pub prefix-append : {xs ys : List ℕ} → Prefix xs ys → (zs : List ℕ) → Prefix xs (ys ++ zs)
 prefix-append {xs} p zs = record { more = p .more ++ zs; all = sym (append-assoc xs (p .more) zs) ∙ ap (λ (l : List ℕ). l ++ zs) (p .all) }
 
--- Both tables of a state begin those that its reading ends with.
+-- Both tables of a state are prefixes of those that the reading from it ends with.
 pub records-extend : (D : Format) (h : D .Header) (s : List ℕ) (A : Capacity) (f : ℕ) (st : State D)
     → Prefix (st .rows) (records D f h s A st .rows) × Prefix (st .refs) (records D f h s A st .refs)
 records-extend D h s A f st =
@@ -46,14 +48,15 @@ records-extend D h s A f st =
     (λ h′ rows refs c at r rs m k n t e p q. (prefix-append (t .0) r, prefix-append (t .1) rs))
     h f st (prefix-refl (st .rows), prefix-refl (st .refs))
 
--- ---- one record, read from the shorter and from the longer
+-- ---- one step of both readings
 
--- what a step from the longer must be, given the step from the shorter, at the state st
+-- What the longer's step must be, given the shorter's step at the state st: the same if that goes on; if that halts, it stores
+-- nothing, and with a final reply both are the same.
 abbrev pub StepPrefix : {D : Format} → State D → Transition D → Transition D → Type 0
 StepPrefix st (go st′) longer = longer ≡ go st′
 StepPrefix st (halt r) longer = (r .rows ≡ st .rows) × (r .refs ≡ st .refs) × (Final (r .reply) → longer ≡ halt r)
 
--- the same outcome, settled with more capacity
+-- The same outcome with more capacity gives such a step.
 transition-prefix : (D : Format) (h : D .Header) (A A′ : Capacity) (st : State D) (o : Outcome (ItemOf D)) → A ⊑ A′
     → StepPrefix st (transition h A st o) (transition h A′ st o)
 unfolding transition ended
@@ -76,6 +79,7 @@ transition-prefix D h A A′ st (whole (item r rs m c) n) p =
 transition-prefix D h A A′ st (stops w) p = (refl, refl, λ _. refl)
 
 module _ (D : Format) (h : D .Header) (s t : List ℕ) (A A′ : Capacity) (p : A ⊑ A′) where
+  -- More bytes and more capacity give such a step.
   pub step-prefix : (st : State D) → StepPrefix st (step D h s A st) (step D h (s ++ t) A′ st)
   unfolding step transition ended reply-of
   step-prefix st = by (next-item D h s st) refl
@@ -88,7 +92,7 @@ module _ (D : Format) (h : D .Header) (s t : List ℕ) (A A′ : Capacity) (p : 
       by (stops (Refused r)) e = same-step (rw e tt)
       by (stops (Cut n)) e = rw e (refl, refl, λ final. absurd (final .0 refl))
 
-  -- ---- record after record
+  -- ---- all records
 
   records-prefix : (f : ℕ) (st : State D) → ResultPrefix (records D f h s A st) (records D f h (s ++ t) A′ st)
   unfolding records ended
@@ -120,13 +124,13 @@ from-header-prefix D s t A A′ p = by (run (D .header) s 0) refl
     by (stops (Refused r)) e = rw (run-append (D .header) s t 0 (rw e tt), e) (no-records-prefix D r _ _ (λ _. refl))
     by (stops (Cut n)) e = rw e (no-records-prefix D 1 _ _ (λ final. absurd (final .0 refl)))
 
--- bytes, and the same bytes with more after them
+-- Reading s gives a prefix of what reading s ++ t gives, with at least the same capacity and within the size limit.
 pub append-prefix : (D : Format) (s t : List ℕ) (A A′ : Capacity) → length (s ++ t) ≤ limit → A ⊑ A′ → ResultPrefix (read-result D s A) (read-result D (s ++ t) A′)
 append-prefix D s t A A′ l p =
     let k : length s ≤ limit = omega (arith, length-append s t) in
     rw (read-under-limit D s A k, read-under-limit D (s ++ t) A′ l) (from-header-prefix D s t A A′ p)
 
--- Of any bytes the first m and the first n, m ≤ n, both within the size limit.
+-- Reading the first m bytes gives a prefix of what reading the first n gives, if m ≤ n and both are within the size limit.
 pub cuts-prefix : (D : Format) (b : List ℕ) (m n : ℕ) (A A′ : Capacity) → m ≤ n → length (take n b) ≤ limit → A ⊑ A′
     → ResultPrefix (read-result D (take m b) A) (read-result D (take n b) A′)
 cuts-prefix D b m n A A′ h l p =

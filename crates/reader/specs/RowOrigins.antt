@@ -1,5 +1,5 @@
--- Where a stored row came from, of any format: its offset is the place of a record, reading one record there, from the state
--- before it, gives that row, and the offsets grow strictly.
+-- The origin of each stored row, for any format: its offset is that of a record, reading one record there, from the state before
+-- it, gives that row, and the offsets increase strictly.
 -- A reader must believe `offset-of`, `StateAfter`, `RowOrigin` and `AllRowOrigins`.
 use mathlib.Core.Path.{_≡_, refl, sym, ap, subst, _∙_}
 use Prim.Native.Nat.{ℕ, zero, suc, _+_, _-_, _*_, _%_, _≤_, _<_}
@@ -15,51 +15,52 @@ use Rattle.reader.specs.Reader.{Capacity, item, Format, ItemOf, State, R
 use Rattle.reader.specs.Prefixes.{Prefix, prefix-append}
 use Rattle.reader.specs.Steps.{ValidRow, empty-row, full-row, Lawful, step-item, step-cases, Advances, step-advances, OnTransition, read-induction}
 
--- the offset of the row number i
+-- The offset that row i has as its last number: where its record begins in the dump.
 abbrev pub offset-of : List ℕ → ℕ → ℕ
 offset-of rows i = number rows i offset-number
 
--- the state after i records, the first record being at n
+-- st is the state after i records, of which the first is at offset n.
 abbrev pub StateAfter : (D : Format) → D .Header → List ℕ → (A : Capacity) (n i : ℕ) → State D → Type 0
 StateAfter D h s A n zero st = st ≡ initial-state D (D .start h) n
 StateAfter D h s A n (suc i) st = (before : State D) × (StateAfter D h s A n i before) × (step D h s A before ≡ go st)
 
--- Where the row number i came from, of the tables of capacity A that a reading of s fills.
+-- The origin of row i, in the tables of capacity A that a reading of s fills.
 pub record RowOrigin (D : Format) (h : D .Header) (s : List ℕ) (A : Capacity) (rows refs : List ℕ) (i : ℕ) : Type 0 where
-  -- the header is whole, and the first record is after it
+  -- The header is whole, and the first record is at `start`, right after it.
   pub start : ℕ
   pub header-whole : run (D .header) s 0 ≡ whole h start
-  -- the state before the row's record, after so many records: the tables hold the rows before, and their references
+  -- The state before the row's record, after `count` records: it has the rows before row i, and a prefix of the references.
   pub count : ℕ
   pub before : State D
   pub reached : StateAfter D h s A start count before
   pub rows-before : before .rows ≡ take (i * row-width) rows
   pub refs-before : Prefix (before .refs) refs
-  -- the offset is the place of the record
+  -- The row's offset is that of the record.
   pub offset : offset-of rows i ≡ before .at
-  -- reading one record there, from that state, gives the row
+  -- Reading one record there, from that state, gives the row; `list` has its references.
   pub list : List ℕ
   pub note : D .Note
   pub context : D .Context
   pub end : ℕ
   pub item-is : next-item D h s before ≡ whole (item (row-slice rows i) list note context) end
 
--- What holds of the offsets that a reading of s stores.
+-- Every row that a reading of s stores has its origin.
 pub record AllRowOrigins (D : Format) (s : List ℕ) (A : Capacity) (r : Result D) : Type 0 where
   pub each : (i : ℕ) → i < row-count (r .rows) → RowOrigin D (r .header) s A (r .rows) (r .refs) i
-  -- they lie within the dump, and grow strictly
+  -- The offsets lie within the dump, and increase strictly.
   pub inside : (i : ℕ) → i < row-count (r .rows) → offset-of (r .rows) i < length s
   pub increasing : (i j : ℕ) → i < j → j < row-count (r .rows) → offset-of (r .rows) i < offset-of (r .rows) j
 
--- ---- one record more
+-- ---- appending a record
 
--- what holds between records: of the tables, and of the state
+-- The invariant of the tables between records: whole rows, each with its origin, at increasing offsets before `at`.
 record OriginRows (D : Format) (h : D .Header) (s : List ℕ) (A : Capacity) (at : ℕ) (rows refs : List ℕ) : Type 0 where
   pub whole-rows : length rows % row-width ≡ 0
   pub each : (i : ℕ) → i < row-count rows → RowOrigin D h s A rows refs i
   pub offset-lt : (i : ℕ) → i < row-count rows → offset-of rows i < at
   pub increasing : (i j : ℕ) → i < j → j < row-count rows → offset-of rows i < offset-of rows j
 
+-- The invariant of the state between records.
 record OriginState (D : Format) (h : D .Header) (s : List ℕ) (A : Capacity) (st : State D) : Type 0 where
   pub start : ℕ
   pub header-whole : run (D .header) s 0 ≡ whole h start
@@ -102,7 +103,7 @@ module _ (D : Format) (lawful : Lawful D) (h : D .Header) (s : List ℕ) (A : Ca
     in-dump : (st .at < n) × (n ≤ length s)
     in-dump = lawful .advances h (st .context) (length (st .refs)) s (st .at) _ n e
 
-    -- a record with no row: the rows keep where they came from
+    -- A record with no row: the rows keep their origins.
     origin-rows-no-row : OriginRows D h s A n rows (st .refs ++ rs)
     origin-rows-no-row = record {
       whole-rows = w;
@@ -125,7 +126,7 @@ module _ (D : Format) (lawful : Lawful D) (h : D .Header) (s : List ℕ) (A : Ca
       increasing = g .rows .increasing;
     }
 
-    -- a record with a row
+    -- A record with a row.
     module _ (l : length r ≡ row-width) (o : getD r offset-number 0 ≡ st .at) where
       offset-append : (i : ℕ) → i < row-count rows → offset-of (rows ++ r) i ≡ offset-of rows i
       offset-append i b = number-append rows r w l i offset-number b (omega arith)
@@ -133,7 +134,7 @@ module _ (D : Format) (lawful : Lawful D) (h : D .Header) (s : List ℕ) (A : Ca
       offset-last : offset-of (rows ++ r) (row-count rows) ≡ st .at
       offset-last = number-last rows r w l offset-number ∙ o
 
-      -- the rows before keep where they came from, and the last came from here
+      -- The rows before it keep their origins.
       origin-append : (i : ℕ) → i < row-count rows → RowOrigin D h s A (rows ++ r) (st .refs ++ rs) i
       origin-append i b =
           let x = g .rows .each i b in
@@ -153,6 +154,7 @@ module _ (D : Format) (lawful : Lawful D) (h : D .Header) (s : List ℕ) (A : Ca
             item-is = rw (row-slice-append rows r w l i b) (x .item-is);
           }
 
+      -- The last row came from the state st.
       origin-last : RowOrigin D h s A (rows ++ r) (st .refs ++ rs) (row-count rows)
       origin-last = record {
         start = g .start;
@@ -207,7 +209,7 @@ unfolding no-records row-count
 row-origins-none D s A reply missing =
     record { each = λ i l. absurd (omega arith); inside = λ i l. absurd (omega arith); increasing = λ i j l k. absurd (omega arith) }
 
--- So it is of any bytes, and any tables.
+-- Every reading satisfies `AllRowOrigins`, for any bytes and any capacity.
 pub read-row-origins : (D : Format) → Lawful D → (s : List ℕ) (A : Capacity) → AllRowOrigins D s A (read-result D s A)
 read-row-origins D lawful s A =
     read-induction D s A (λ h st. OriginState D h s A st) (AllRowOrigins D s A)
@@ -222,16 +224,16 @@ read-row-origins D lawful s A =
     (λ w e. origin-end D lawful h s A st _ (st .at) _ g))
     (λ h st g. origin-end D lawful h s A st 0 (st .at) 0 g)
 
--- ---- records one after another
+-- ---- consecutive records
 
--- a format whose every record has a row
+-- Every record of the format has a row.
 abbrev pub AlwaysRow : Format → Type 0
 AlwaysRow D =
     (h : D .Header) (c : D .Context) (index : ℕ) (s : List ℕ) (at : ℕ) (r rs : List ℕ) (m : D .Note) (k : D .Context) (e : ℕ)
     → run (D .entry h c index) s at ≡ whole (item r rs m k) e → length r ≡ row-width
 
 module _ (D : Format) (h : D .Header) (s : List ℕ) (A : Capacity) where
-  -- the steps lead to one state
+  -- Only one state is reached after i records.
   state-after-unique : (n i : ℕ) (a b : State D) → StateAfter D h s A n i a → StateAfter D h s A n i b → a ≡ b
   state-after-unique n zero a b p q = p ∙ sym q
   state-after-unique n (suc i) a b p q =
@@ -240,7 +242,7 @@ module _ (D : Format) (h : D .Header) (s : List ℕ) (A : Capacity) where
       let y : go a ≡ go b = sym g ∙ q .2 in
       cc
 
-  -- a step on leads to the end of the record that was found
+  -- A step that goes on leads to the end of the record found.
   module _ (st : State D) (i : ItemOf D) (n : ℕ) (e : next-item D h s st ≡ whole i n) where
     abbrev EndsAt : Transition D → Type 0
     EndsAt (go st′) = st′ .at ≡ n
@@ -255,7 +257,7 @@ module _ (D : Format) (h : D .Header) (s : List ℕ) (A : Capacity) where
     step-place : (st′ : State D) → step D h s A st ≡ go st′ → st′ .at ≡ n
     step-place st′ g = rw g at step-ends-at
 
-  -- a step on keeps the rows
+  -- A step that goes on removes no row.
   module _ (st : State D) where
     abbrev RowsGrow : Transition D → Type 0
     RowsGrow (go st′) = length (st .rows) ≤ length (st′ .rows)
@@ -273,7 +275,7 @@ module _ (D : Format) (h : D .Header) (s : List ℕ) (A : Capacity) where
       omega arith
 
   module _ (lawful : Lawful D) where
-    -- from a state a step leads on, and no later state is before its end
+    -- If b is a state after a, the step from a goes on, and its end is at or before b.
     later-place : (n i j : ℕ) (a b : State D) → StateAfter D h s A n i a → StateAfter D h s A n (suc (j + i)) b
         → (st : State D) × (step D h s A a ≡ go st) × (st .at ≤ b .at)
     later-place n i zero a b p q =
@@ -308,10 +310,10 @@ module _ (D : Format) (h : D .Header) (s : List ℕ) (A : Capacity) where
               omega (arith, t .2, y .offset, z)
         ]
 
-  -- ---- where every record has a row
+  -- ---- formats in which every record has a row
 
   module _ (always : AlwaysRow D) where
-    -- a step on adds one row
+    -- A step that goes on adds one row.
     module _ (st : State D) where
       abbrev AddsRow : Transition D → Type 0
       AddsRow (go st′) = length (st′ .rows) ≡ length (st .rows) + row-width
@@ -323,7 +325,7 @@ module _ (D : Format) (h : D .Header) (s : List ℕ) (A : Capacity) where
           (λ r rs m c k g _ _. let l = always h (st .context) (length (st .refs)) s (st .at) r rs m c k g in simp length-append (omega arith))
           tt tt (λ w g. tt)
 
-    -- so after i records there are i rows
+    -- After i records there are i rows.
     after-rows : (n i : ℕ) (st : State D) → StateAfter D h s A n i st → length (st .rows) ≡ i * row-width
     unfolding initial-state
     after-rows n zero st a = rw a
@@ -333,7 +335,7 @@ module _ (D : Format) (h : D .Header) (s : List ℕ) (A : Capacity) where
         omega arith
 
     module _ (rows refs : List ℕ) (i : ℕ) (b : i < row-count rows) (x : RowOrigin D h s A rows refs i) where
-      -- The row number i came from the record number i.
+      -- Row i came from record i, both counted from 0.
       pub origin-count : x .count ≡ i
       unfolding row-count
       origin-count =
@@ -342,7 +344,7 @@ module _ (D : Format) (h : D .Header) (s : List ℕ) (A : Capacity) where
           let j : length (take (i * row-width) rows) ≡ i * row-width = length-take-le (i * row-width) rows (omega arith) in
           omega arith
 
-    -- A record reaches to the offset of the next row.
+    -- A record ends at the offset of the next row.
     pub next-offset-end : (rows refs : List ℕ) (i : ℕ) → suc i < row-count rows → (x : RowOrigin D h s A rows refs i) (y : RowOrigin D h s A rows refs (suc i))
         → offset-of rows (suc i) ≡ x .end
     next-offset-end rows refs i b x y =

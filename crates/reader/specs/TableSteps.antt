@@ -1,6 +1,6 @@
--- Steps of a reading as they are taken over the caller's tables, of any format: the rows and references stored so far are the tables' first
--- ones. For the proofs of the functions that read: `CursorInBounds`, `StepContinues`, `StepEnds` and `LoopInvariant` say what they do, and the laws after them
--- that the loop over steps gives the reading.
+-- Steps of a reading over the caller's tables, for any format: the rows and references stored so far are the first ones of the
+-- tables. For the proofs of the functions that read: `CursorInBounds`, `StepContinues`, `StepEnds` and `LoopInvariant` state what
+-- they do; the laws after them prove that the loop over steps gives the result of the reading.
 -- Assumes nothing.
 use mathlib.Core.Path.{_≡_, refl, sym, ap, _∙_}
 use mathlib.Core.List.{List, _++_}
@@ -17,25 +17,25 @@ use Rattle.reader.specs.declared.StepResult.{StepResult}
 use Rattle.reader.specs.declared.StepResult.the-variants.{Continue, End}
 use Rattle.reader.specs.Steps.{Lawful, records-halt, records-step, step-advances, Advances, step-end, step-stop, step-item, step-no-row, step-no-refs}
 
--- Where a reading is between records: the place, the context, and how many rows and references are stored.
+-- A cursor, between records: the offset of the next one, the context, and how many rows and references are stored.
 pub record CursorOf (D : Format) : Type 0 where
   pub at : ℕ
   pub context : D .Context
   pub rows : ℕ
   pub refs : ℕ
 
--- the state at a mark, over the tables
+-- The state at a cursor, over the tables.
 abbrev pub state-of : {D : Format} → CursorOf D → List ℕ → List ℕ → State D
 state-of k rows refs =
     record { at = k .at; context = k .context; rows = take (k .rows * row-width) rows; refs = take (k .refs) refs }
 
--- a mark lies within the dump, and what it counts within the tables
+-- The offset of a cursor lies within the dump, and what it counts within the tables.
 pub record CursorInBounds {D : Format} (s rows refs : List ℕ) (k : CursorOf D) : Type 0 where
   pub at-in : k .at ≤ length s
   pub rows-in : k .rows * row-width ≤ length rows
   pub refs-in : k .refs ≤ length refs
 
--- A step went on, from k and the tables rows and refs to k′, rows′ and refs′; after what is stored they are as they were.
+-- A step stored a record: from k and the tables rows and refs it went to k′, rows′ and refs′. The tables' rest is unchanged.
 pub record StepContinues (D : Format) (h : D .Header) (s : List ℕ) (k : CursorOf D) (rows refs rows′ refs′ : List ℕ) (k′ : CursorOf D) : Type 0 where
   pub steps : step D h s (capacity (length rows) (length refs)) (state-of k rows refs) ≡ go (state-of k′ rows′ refs′)
   pub rows-unchanged : drop (k′ .rows * row-width) rows′ ≡ drop (k′ .rows * row-width) rows
@@ -46,20 +46,20 @@ pub record StepContinues (D : Format) (h : D .Header) (s : List ℕ) (k : Cursor
   pub refs-length : length refs′ ≡ length refs
   pub fits : CursorInBounds s rows′ refs′ k′
 
--- A step ended the reading, and the mark and the tables are as they were.
+-- A step ended the reading; the cursor and the tables are unchanged.
 pub record StepEnds (D : Format) (h : D .Header) (s : List ℕ) (k : CursorOf D) (rows refs rows′ refs′ : List ℕ) (k′ : CursorOf D) (reply place missing : ℕ) : Type 0 where
   pub steps : step D h s (capacity (length rows) (length refs)) (state-of k rows refs) ≡ halt (ended h (state-of k rows refs) reply place missing)
   pub cursor-same : k′ ≡ k
   pub rows-same : rows′ ≡ rows
   pub refs-same : refs′ ≡ refs
 
--- What a step does, by its result.
+-- The contract of a step, by its result.
 abbrev pub StepContract : (D : Format) → D .Header → List ℕ → CursorOf D → (rows refs rows′ refs′ : List ℕ) → CursorOf D → StepResult → Type 0
 StepContract D h s k rows refs rows′ refs′ k′ Continue = StepContinues D h s k rows refs rows′ refs′ k′
 StepContract D h s k rows refs rows′ refs′ k′ (End reply place missing) = StepEnds D h s k rows refs rows′ refs′ k′ reply place missing
 
--- Between two steps of a reading that began at the place `at` with the tables rows₀ and refs₀: what is left, from here, is
--- read as the whole.
+-- The invariant between two steps of a reading that began at offset `at` with the tables rows₀ and refs₀: reading from the cursor
+-- on gives the result of the whole.
 pub record LoopInvariant (D : Format) (h : D .Header) (s : List ℕ) (at : ℕ) (rows₀ refs₀ rows refs : List ℕ) (k : CursorOf D) : Type 0 where
   pub fits : CursorInBounds s rows refs k
   pub rows-length : length rows ≡ length rows₀
@@ -69,34 +69,36 @@ pub record LoopInvariant (D : Format) (h : D .Header) (s : List ℕ) (at : ℕ) 
   pub left : records D (suc limit) h s (capacity (length rows₀) (length refs₀)) (state-of k rows refs)
       ≡ records D (suc limit) h s (capacity (length rows₀) (length refs₀)) (initial-state D (D .start h) at)
 
--- ---- storing a list at a place of a table
+-- ---- storing a list in a table
 
--- up to its end, and after it
+-- The list vs is stored at index i of l and ends before index n.
 module _ (l vs : List ℕ) (i n : ℕ) (capacity : i + length vs ≤ length l) (is : n ≡ i + length vs) where
   length-take-append : length (take i l ++ vs) ≡ n
   length-take-append = rw (length-append, length-take-le i l (omega arith)) (omega arith)
 
+  -- Up to its end, the table has what was before i, and then vs.
   pub take-sets : take n (sets l i vs) ≡ take i l ++ vs
   take-sets = rw (sets-eq vs l i capacity) (take-at (take i l ++ vs) _ n length-take-append)
 
+  -- After its end, the table is unchanged.
   pub drop-sets : drop n (sets l i vs) ≡ drop n l
   drop-sets = rw (sets-eq vs l i capacity, drop-at (take i l ++ vs) _ n length-take-append, is)
 
--- a table whose front was stored and whose rest is as it was
+-- A table that is unchanged from index n on is the old one with its first n numbers stored at the start.
 overwrite-take : (table table₀ : List ℕ) (n : ℕ) → n ≤ length table → drop n table ≡ drop n table₀ → overwrite table₀ (take n table) ≡ table
 unfolding overwrite
 overwrite-take table table₀ n h e = rw (length-take-le n table h, ← e) (take-append-drop n table)
 
--- what holds after a place holds after a later one
+-- Lists that agree from index i on agree from a later index j on.
 drop-later : (l m : List ℕ) (i j : ℕ) → i ≤ j → drop i l ≡ drop i m → drop j l ≡ drop j m
 drop-later l m i j h e =
     let p : i + (j - i) ≡ j = omega arith in
     ap (λ (n : ℕ). drop n l) (sym p) ∙ sym (drop-drop (j - i) i l) ∙ ap (drop (j - i)) e ∙ drop-drop (j - i) i m ∙ ap (λ (n : ℕ). drop n m) p
 
--- ---- one step, by what was found at a mark
+-- ---- one step, by the outcome at a cursor
 
 module _ (D : Format) (lawful : Lawful D) (h : D .Header) {s rows refs : List ℕ} {k : CursorOf D} (fits : CursorInBounds s rows refs k) where
-  -- what is at the mark
+  -- The outcome of reading a record at the cursor.
   abbrev item-at-cursor : Outcome (ItemOf D)
   item-at-cursor = run (D .entry h (k .context) (k .refs)) s (k .at)
 
@@ -113,23 +115,26 @@ module _ (D : Format) (lawful : Lawful D) (h : D .Header) {s rows refs : List �
       → StepEnds D h s k rows refs rows refs k reply place missing
   step-ends e = record { steps = e; cursor-same = refl; rows-same = refl; refs-same = refl }
 
+  -- At the end, the step ends the reading with reply 0.
   pub step-ends-end : (n : ℕ) → item-at-cursor ≡ whole end-item n → StepEnds D h s k rows refs rows refs k 0 n 0
   step-ends-end n e = step-ends (step-end D h s (capacity (length rows) (length refs)) (state-of k rows refs) n (next-item-at ∙ e))
 
+  -- Where the layout stops, the step ends the reading with that reply, at the cursor's offset.
   pub step-ends-stop : (w : Stop) → item-at-cursor ≡ stops w → StepEnds D h s k rows refs rows refs k (reply-of w) (k .at) (missing-of w)
   step-ends-stop w e = step-ends (step-stop D h s (capacity (length rows) (length refs)) (state-of k rows refs) w (next-item-at ∙ e))
 
-  -- a record was found, which ends before the place n
+  -- A record was found; it ends before offset n.
   module _ {r rs : List ℕ} {m : D .Note} {c : D .Context} {n : ℕ} (is : item-at-cursor ≡ whole (item r rs m c) n) where
-    -- no row left, or too few references left
+    -- If there is no capacity for its row, the reply is 13.
     pub step-ends-rows : length rows < k .rows * row-width + length r → StepEnds D h s k rows refs rows refs k 13 (k .at) 0
     step-ends-rows l = step-ends (step-no-row D h s (capacity (length rows) (length refs)) (state-of k rows refs) r rs m c n (next-item-at ∙ is) (rw length-rows-taken l))
 
+    -- If its row fits and its references do not, the reply is 14.
     pub step-ends-refs : k .rows * row-width + length r ≤ length rows → length refs < k .refs + length rs
         → StepEnds D h s k rows refs rows refs k 14 (k .at) 0
     step-ends-refs l q = step-ends (step-no-refs D h s (capacity (length rows) (length refs)) (state-of k rows refs) r rs m c n (next-item-at ∙ is) (rw length-rows-taken l) (rw length-refs-taken q))
 
-    -- the record is stored; i rows and j references are then stored
+    -- The record fits and is stored; the tables then have i rows and j references.
     module _ (i j : ℕ) (row-on : i * row-width ≡ k .rows * row-width + length r) (refs-on : j ≡ k .refs + length rs)
         (l : k .rows * row-width + length r ≤ length rows) (q : k .refs + length rs ≤ length refs) where
       abbrev rows-after : List ℕ
@@ -155,9 +160,10 @@ module _ (D : Format) (lawful : Lawful D) (h : D .Header) {s rows refs : List �
         };
       }
 
--- ---- step after step
+-- ---- the loop over steps
 
 module _ (D : Format) (lawful : Lawful D) {h : D .Header} {s : List ℕ} {at : ℕ} where
+  -- The invariant holds before the first record.
   pub invariant-start : (rows refs : List ℕ) → at ≤ length s
       → LoopInvariant D h s at rows refs rows refs (record { at = at; context = D .start h; rows = 0; refs = 0 })
   unfolding initial-state
@@ -171,16 +177,18 @@ module _ (D : Format) (lawful : Lawful D) {h : D .Header} {s : List ℕ} {at : �
   }
 
   module _ {rows₀ refs₀ rows refs rows′ refs′ : List ℕ} {k k′ : CursorOf D} (w : LoopInvariant D h s at rows₀ refs₀ rows refs k) where
-    -- the step, with the capacity that there was from the start
+    -- The same step, with the capacity of the tables at the start.
     step-from-start : StepContinues D h s k rows refs rows′ refs′ k′ → step D h s (capacity (length rows₀) (length refs₀)) (state-of k rows refs) ≡ go (state-of k′ rows′ refs′)
     step-from-start g = rw (← w .rows-length, ← w .refs-length) (g .steps)
 
+    -- A step that stores a record moves the cursor forward.
     pub step-further : StepContinues D h s k rows refs rows′ refs′ k′ → k .at < k′ .at
     step-further g =
         let o : Advances (state-of k rows refs) s (go (state-of k′ rows′ refs′)) =
         rw (g .steps) at (step-advances D lawful h s (capacity (length rows) (length refs)) (state-of k rows refs)) in
         o .0
 
+    -- A step that stores a record preserves the invariant.
     pub invariant-next : length s ≤ limit → StepContinues D h s k rows refs rows′ refs′ k′ → LoopInvariant D h s at rows₀ refs₀ rows′ refs′ k′
     invariant-next l g =
         let r = g .rows-le in
@@ -193,7 +201,7 @@ module _ (D : Format) (lawful : Lawful D) {h : D .Header} {s : List ℕ} {at : �
           left = sym (records-step D lawful h s (capacity (length rows₀) (length refs₀)) (state-of k rows refs) (state-of k′ rows′ refs′) l (step-from-start g)) ∙ w .left;
         }
 
-    -- the whole reading, where a step ended it
+    -- The result of the whole reading, if a step ended it.
     module _ {reply place missing : ℕ} (g : StepEnds D h s k rows refs rows′ refs′ k′ reply place missing) where
       abbrev result : Result D
       result = records D (suc limit) h s (capacity (length rows₀) (length refs₀)) (initial-state D (D .start h) at)
@@ -201,10 +209,11 @@ module _ (D : Format) (lawful : Lawful D) {h : D .Header} {s : List ℕ} {at : �
       step-halts : step D h s (capacity (length rows₀) (length refs₀)) (state-of k rows refs) ≡ halt (ended h (state-of k rows refs) reply place missing)
       step-halts = rw (← w .rows-length, ← w .refs-length) (g .steps)
 
+      -- The result is that of a reading that ends at the cursor.
       pub invariant-end : result ≡ ended h (state-of k rows refs) reply place missing
       invariant-end = sym (w .left) ∙ records-halt D limit h s (capacity (length rows₀) (length refs₀)) (state-of k rows refs) _ step-halts
 
-      -- what is stored is as many as the mark counts
+      -- The cursor counts the rows and references that the result has.
       pub end-row-count : k′ .rows ≡ row-count (result .rows)
       unfolding ended row-count
       end-row-count =
@@ -216,6 +225,7 @@ module _ (D : Format) (lawful : Lawful D) {h : D .Header} {s : List ℕ} {at : �
       unfolding ended
       end-ref-count = rw (invariant-end, g .cursor-same) (sym (length-take-le (k .refs) refs (w .fits .refs-in)))
 
+      -- The tables are those at the start, with the result's rows and references stored at their beginning.
       pub end-rows : rows′ ≡ overwrite rows₀ (result .rows)
       unfolding ended
       end-rows = rw (invariant-end, g .rows-same) (sym (overwrite-take rows rows₀ (k .rows * row-width) (w .fits .rows-in) (w .rows-unchanged)))

@@ -1,4 +1,4 @@
--- A reading of any format stays within the tables' capacity and stores whole rows; and which replies it gives.
+-- A reading of any format stays within the tables' capacity, stores whole rows only, and gives its own replies or the format's.
 -- Assumes nothing.
 use mathlib.Core.Path.{_≡_, refl}
 use Prim.Native.Nat.{ℕ, _+_, _%_, _≤_}
@@ -13,12 +13,13 @@ use Rattle.table.specs.Table.{row-width}
 use Rattle.reader.specs.Reader.{Capacity, Format, ended, no-records, read-result}
 use Rattle.reader.specs.Steps.{ValidRow, empty-row, full-row, Lawful, OnTransition, step-cases, read-induction, read-tables}
 
--- the tables within their capacity, and whole rows only
+-- The tables are within the capacity A, and have whole rows only.
 pub record WithinCapacity (A : Capacity) (rows refs : List ℕ) : Type 0 where
   pub rows-fit : length rows ≤ A .rows
   pub refs-fit : length refs ≤ A .refs
   pub whole-rows : length rows % row-width ≡ 0
 
+-- Whole rows stay whole when a valid row is appended.
 pub whole-rows-append : {at : ℕ} (rows r : List ℕ) → length rows % row-width ≡ 0 → ValidRow at r → length (rows ++ r) % row-width ≡ 0
 whole-rows-append rows r w (empty-row e) = simp length-append (omega arith)
 whole-rows-append rows r w (full-row e _) = simp length-append (omega arith)
@@ -36,7 +37,8 @@ read-within-capacity D lawful s A =
 
 -- ---- replies
 
--- What holds of every reply: of those that a reading gives by itself, and of those that the format's layouts refuse with.
+-- P holds for the replies that a reading gives in every format: 0 (complete), 1 (cut), 2 (over the size limit), 13 and 14 (no
+-- capacity for a row or for references).
 pub record OwnReplies (P : ℕ → Type 0) : Type 0 where
   pub done : P 0
   pub cut : P 1
@@ -44,12 +46,13 @@ pub record OwnReplies (P : ℕ → Type 0) : Type 0 where
   pub no-row : P 13
   pub no-refs : P 14
 
--- where a layout stops: a cut, or a refusal
+-- P holds for the reply of a layout that stops if it holds for 1 and for each reply that the layout refuses with.
 pub stop-reply : {A : Type 0} {P : ℕ → Type 0} (l : Layout A) → P 1 → Refuses P l → (s : List ℕ) (at : ℕ) (w : Stop) → run l s at ≡ stops w → P (reply-of w)
 unfolding reply-of
 stop-reply l cut g s at (Cut n) e = cut
 stop-reply l cut g s at (Refused r) e = g .each s at r e
 
+-- P holds for the reply of every reading if it holds for the replies of every format and for those that this format refuses with.
 pub read-replies : (D : Format) (P : ℕ → Type 0) → OwnReplies P → Refuses P (D .header)
     → ((h : D .Header) (c : D .Context) (index : ℕ) → Refuses P (D .entry h c index))
     → (s : List ℕ) (A : Capacity) → P (read-result D s A .reply)

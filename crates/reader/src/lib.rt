@@ -1,10 +1,10 @@
-// A reading of any dump format: the definition (specs/Reading.antt) and what is proved of it for every format.
+// The reading of dumps of any format: its definition (specs/Reader.antt) and the theorems that hold for every format.
 
-// The bytes of the largest dump.
+// The size limit of a dump, in bytes: 2^30 (docs/FORMAT.md 2).
 pub const LIMIT: usize = 0x4000_0000;
 
-// What a step of a reading does: it stores a record and continues, or ends the reading with a reply, its place, and how many bytes
-// the field lacked where the dump is cut.
+// The result of one step of a reading. `Continue`: a record was stored. `End`: the reading ended with this reply, place and
+// number of missing bytes, which is 0 unless the dump is cut.
 pub enum StepResult {
     Continue,
     End(u64, usize, usize),

@@ -1,3 +1,3 @@
--- Laws that the proofs of this crate's functions cite: StoreLaws of numbers stored one after another, and StepLaws of what a step does.
+-- Laws that the proofs of this crate's functions use: `StoreLaws` (numbers stored one after another) and `ToyStepLaws` (steps).
 pub mod StoreLaws
 pub mod ToyStepLaws

@@ -1,4 +1,4 @@
--- Bytes are stored one after another: the first that is left, and then the others.
+-- Storing the bytes that are left is storing the first of them and then the others.
 -- Assumes nothing.
 use mathlib.Core.Path.{_≡_}
 use mathlib.Core.List.{List}

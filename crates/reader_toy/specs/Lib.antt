@@ -1,3 +1,4 @@
--- Toy is the format: its definition, its laws, and what then holds of its reading. Reader is what the contracts of the functions cite.
+-- `Toy` is the format: its definition, its laws, and the theorems that then hold for its reading. `ReaderSpecs` has the
+-- definitions that the contracts of the functions use.
 pub mod Toy
 pub mod ReaderSpecs

@@ -1,7 +1,7 @@
--- A format of a few lines, to show what another format has to say: the byte T; then records, each a byte that is their length and so
--- many bytes; a length of 0 ends. A record's bytes are its references, and one whose first byte is even has no row. What is
--- carried on is how many records there were.
--- All that holds of every format holds of it. A reader must believe `row`, `toy-record` and `toy`.
+-- A small format, to show what a format has to define: the byte T, then records. A record is a byte with its length and that many
+-- bytes; length 0 is the end. The bytes of a record are its references, and a record whose first byte is even has no row. The
+-- context is the number of records so far.
+-- All theorems about formats hold for it. A reader must believe `row`, `toy-record` and `toy`.
 use mathlib.Core.Path.{_≡_, refl}
 use Prim.Native.Nat.{ℕ, _+_, _-_, _*_, _%_, _≤_, _<_}
 use mathlib.Core.List.{List, [], _∷_, _++_}
@@ -24,12 +24,12 @@ use Rattle.reader.specs.RowOrigins.{offset-of, AllRowOrigins, read-row-origins,
 
 -- ---- the format
 
--- The row of a record of n bytes, the first of them b: none if b is even; else the letter, how many records came before, n, and
--- the record's offset.
+-- The row of a record of n bytes, of which the first is b: empty if b is even; else the letter, how many records came before, n,
+-- and the record's offset as the last number.
 unfoldable pub row : (letter count n b at : ℕ) → List ℕ
 row letter count n b at = cond (eqb (b % 2) 0) [] (letter ∷ count ∷ n ∷ 0 ∷ 0 ∷ 0 ∷ 0 ∷ 0 ∷ 0 ∷ 0 ∷ 0 ∷ 0 ∷ at ∷ [])
 
--- a record at the offset `at`, with `count` records before it
+-- The layout of a record at offset `at`, with `count` records before it, or of the end.
 unfoldable pub toy-record : ℕ → ℕ → ℕ → Layout (Item (Unit {0}) ℕ)
 toy-record letter count at = do
   n ← field 1
@@ -37,6 +37,7 @@ toy-record letter count at = do
     b ← raw n
     yield (item (row letter count n (getD b 0 0) at) b tt (count + 1)))
 
+-- The format. A first byte other than T (0x54) is refused with reply 3.
 abbrev pub toy : Format
 toy = record {
   Header = ℕ;
@@ -48,12 +49,13 @@ toy = record {
   entry = λ letter count _. position >>= toy-record letter count;
 }
 
--- ---- what a format shows of itself
+-- ---- laws of the format
 
--- read at a place, the place is its own
+-- Reading a record at an offset uses the layout for that offset.
 pub run-toy-record : (letter count : ℕ) (s : List ℕ) (at : ℕ) → run (position >>= toy-record letter count) s at ≡ run (toy-record letter count at) s at
 run-toy-record letter count s at = rw (run-then, run-position)
 
+-- The item's row is valid for a record at offset `at`.
 abbrev ValidRowAt : ℕ → Item (Unit {0}) ℕ → Type 0
 ValidRowAt at end-item = Unit {0}
 ValidRowAt at (item r rs m c) = ValidRow at r
@@ -69,6 +71,7 @@ entry-advances : (letter count : ℕ) (s : List ℕ) (at : ℕ) (i : Item (Unit 
 unfolding toy-record field _>>=_
 entry-advances letter count s at i e r = byte-advances _ s at i e (rw run-toy-record at r)
 
+-- The format satisfies the laws.
 pub lawful : Lawful toy
 unfolding toy-record
 lawful = record {
@@ -81,11 +84,12 @@ lawful = record {
       refuses-cond (eqb n 0) _ _ (refuses-yield end-item) (refuses-then _ _ (refuses-raw n) (λ b. refuses-yield _))));
 }
 
--- the header takes a byte, and a record one beside its references, whether it has a row or not
+-- A record has at most one row.
 one-row : (letter count n b at : ℕ) → row-count (row letter count n b at) ≤ 1
 unfolding row row-count
 one-row letter count n b at = cond-elim (λ r. row-count r ≤ 1) (eqb (b % 2) 0) _ _ (lit≤ tt) (lit≤ tt)
 
+-- A record takes at least one byte for its row, if it has one, and one for each of its references.
 abbrev ItemBytes : Item (Unit {0}) ℕ → ℕ → Type 0
 ItemBytes end-item n = Unit {0}
 ItemBytes (item r rs m c) n = row-count r * 1 + length rs ≤ n
@@ -96,6 +100,7 @@ takes-item letter count at =
     takes-then _ _ _ (takes-field 1) (λ n k e. takes-cases (eqb n 0) _ _ (λ _. takes-yield end-item tt)
     (λ _. takes-then _ _ _ (takes-raw n) (λ b l f. takes-yield _ (omega (arith, e .0, f .0, f .1, one-row letter count n (getD b 0 0) at)))))
 
+-- The header takes one byte, and a record one in addition to those of its references, whether it has a row or not.
 pub toy-least-bytes : LeastBytes toy 1 1
 toy-least-bytes = record {
   header = λ s letter n e. let x = takes-exactly 1 0x54 3 .each s 0 letter n e in omega (arith, x .1, x .2);
@@ -104,33 +109,34 @@ toy-least-bytes = record {
       omega (arith, x .1, x .2);
 }
 
--- ---- what then holds, with no more to prove
+-- ---- theorems of every format, for this one
 
--- demand 3, first part; it asks for no law of the format
+-- Demand 3, first part: a shorter cut gives a prefix of what a longer one gives. It needs no law of the format.
 pub toy-cuts-prefix : (b : List ℕ) (m n : ℕ) (A A′ : Capacity) → m ≤ n → length (take n b) ≤ limit → A ⊑ A′
     → ResultPrefix (read-result toy (take m b) A) (read-result toy (take n b) A′)
 toy-cuts-prefix = cuts-prefix toy
 
--- where a row came from
+-- Every stored row has its origin: the record at its offset.
 pub toy-row-origins : (s : List ℕ) (A : Capacity) → AllRowOrigins toy s A (read-result toy s A)
 toy-row-origins = read-row-origins toy lawful
 
--- a record ends at or before the offset of every later row, whatever records without a row lie between them
+-- A record ends at or before the offset of every later row, whatever records without a row lie between them.
 pub toy-record-ends-before : (s : List ℕ) (A : Capacity) (i j : ℕ) (l : i < j) (b : j < row-count (read-result toy s A .rows))
     → toy-row-origins s A .each i (omega arith) .end ≤ offset-of (read-result toy s A .rows) j
 toy-record-ends-before s A i j l b = record-ends-before toy (read-result toy s A .header) s A lawful _ _ i j l b (toy-row-origins s A .each i (omega arith)) (toy-row-origins s A .each j b)
 
--- a dump of n bytes gives at most n - 1 rows and references together
+-- A dump of n bytes gives at most n - 1 rows and references together.
 pub toy-stored-bound : (s : List ℕ) (A : Capacity) → row-count (read-result toy s A .rows) * 1 + length (read-result toy s A .refs) ≤ length s - 1
 toy-stored-bound = stored-bound toy lawful 1 1 toy-least-bytes
 
--- what makes a cut dump whole goes as far as is missing
+-- If s is cut and s ++ t is complete, its end is at or after the end of the missing bytes.
 pub toy-completed-end : (s t : List ℕ) (A A′ : Capacity) → length (s ++ t) ≤ limit → A ⊑ A′ → read-result toy s A .reply ≡ 1
     → read-result toy (s ++ t) A′ .reply ≡ 0 → length s + read-result toy s A .missing ≤ read-result toy (s ++ t) A′ .place
 toy-completed-end s t A A′ l p e = completed-end-after toy s t A A′ l p e lawful
 
--- ---- a dump: a record with a row, one with none, and the end
+-- ---- an example
 
+-- The reading of a dump with a record that has a row, a record that has none, and the end. It holds by computing.
 pub toy-example : read-result toy (0x54 ∷ 2 ∷ 1 ∷ 9 ∷ 1 ∷ 4 ∷ 0 ∷ []) (capacity 13 3)
     ≡ record { reply = 0; place = 7; missing = 0; rows = 0x54 ∷ 0 ∷ 2 ∷ 0 ∷ 0 ∷ 0 ∷ 0 ∷ 0 ∷ 0 ∷ 0 ∷ 0 ∷ 0 ∷ 1 ∷ []; refs = 1 ∷ 9 ∷ 4 ∷ []; header = 0x54 }
 unfolding value-after run _>>=_ position raw field check exactly row toy-record limit ended transition step records initial-state from-header read-result

@@ -1,9 +1,9 @@
-// A second format, of a few lines: the example of how a format is added. One writes
-// - its definition, a `Format` of crates/reading: header, context and records as layouts (`toy` of specs/Toy.antt);
-// - its laws, `Lawful`: a record takes a byte at least, a row says where it came from, a refusal has a reply of its own. What is
-//   proved of every reading then holds of it (`cuts`, `came-from`, `completes`);
-// - its reader, as here: fields read by crates/layout, rows stored by crates/table. A step is proved by the laws of
-//   crates/reading/specs/Stepping.antt, and the loop over steps then is the reading.
+// A second, small format: an example of how to add a format. A format consists of
+// - its definition, a `Format` of crates/reader: header, context and records as layouts (`toy` in specs/Toy.antt);
+// - its laws, `Lawful`: a record takes at least one byte, a row has the offset of its record, no refusal has reply 0 or 1. The
+//   theorems of every reading then hold for it (`toy-cuts-prefix`, `toy-row-origins`, `toy-completed-end`);
+// - its reader, as here: fields are read with crates/decode, rows are stored with crates/table. The laws of
+//   crates/reader/specs/TableSteps.antt prove that a step is right, and that the loop over steps gives the result of the reading.
 ghost use mathlib.Core.Path.{_≡_};
 ghost use Prim.Native.Nat.{_+_, _*_, _≤_};
 ghost use lib.ListN.{length, take, drop};
@@ -17,11 +17,11 @@ ghost use Rattle.reader_toy.specs.ReaderSpecs.{answer, records-from, rec
 use decode::NumberRead;
 use reader::StepResult;
 
-// The byte that a dump begins with.
+// The first byte of a dump, the letter T.
 pub const LETTER: u64 = 0x54;
 
-// What a reading answers: the reply and its place, how many bytes the field lacked where the dump is cut, how many rows and
-// references were stored, and the header's letter.
+// The answer of a reading: reply and place, the missing bytes, how many rows and references were stored, and the header's letter,
+// or 0 if the header was not read.
 pub struct ReadAnswer {
     pub reply: u64,
     pub place: usize,
@@ -31,7 +31,7 @@ pub struct ReadAnswer {
     pub letter: u64,
 }
 
-// Where a reading is between records: the offset of the next one, how many there were, and how many rows and references are stored.
+// A cursor, between records: the offset of the next one, how many there were, and how many rows and references are stored.
 struct Cursor {
     at: usize,
     count: u64,
@@ -39,13 +39,13 @@ struct Cursor {
     refs: usize,
 }
 
-// What a step returns: its result, and the cursor after it.
+// The answer of a step: its result, and the cursor after it.
 struct Stepped {
     result: StepResult,
     cursor: Cursor,
 }
 
-// Returns the step that ends the reading.
+// Returns the answer of a step that ends the reading: the cursor is unchanged.
 fn end_step(k: Cursor, reply: u64, place: usize, missing: usize) -> Stepped
     ensures { λ r. ⌜ r ≡ record { result = End reply place missing; cursor = k } ⌝ }
 {
@@ -55,7 +55,7 @@ fn end_step(k: Cursor, reply: u64, place: usize, missing: usize) -> Stepped
     }
 }
 
-// Returns how many numbers the row has of a record whose first byte is b.
+// Returns how many numbers the row of a record has if the record's first byte is b.
 fn record_row_width(b: u8) -> usize
     ensures { λ r. ⌜ r ≡ record-row-width b ⌝ }
 {
@@ -65,7 +65,7 @@ fn record_row_width(b: u8) -> usize
     table::ROW_WIDTH
 }
 
-// Stores the row of a record of n bytes, if it has one, and returns how many rows are stored then.
+// Stores the row of a record of n bytes, of which the first is b, if it has a row; returns how many rows are then stored.
 fn store_row(rows: &mut [u64], letter: u64, k: Cursor, n: usize, b: u8) -> usize
     requires { ⌜ k .rows * row-width + record-row-width b ≤ length (now rows) ⌝ }
     ensures is { λ _. ⌜ now (rows .exit) ≡ sets (now (rows .entry)) (k .rows * row-width) (row letter (k .count) n b (k .at)) ⌝ }
@@ -81,7 +81,7 @@ fn store_row(rows: &mut [u64], letter: u64, k: Cursor, n: usize, b: u8) -> usize
     k.rows + 1
 }
 
-// Stores the n bytes of the dump from the offset `from` on as references, from number `to` of the table on.
+// Stores the n bytes of the dump from offset `from` on as references, from index `to` of the table on.
 fn store_refs(s: &[u8], from: usize, n: usize, refs: &mut [u64], to: usize)
     requires { ⌜ (from + n ≤ length (now s)) × (to + n ≤ length (now refs)) ⌝ }
     ensures { λ _. ⌜ now (refs .exit) ≡ sets (now (refs .entry)) to (take n (drop from (now (s .entry)))) ⌝ }
@@ -93,7 +93,8 @@ fn store_refs(s: &[u8], from: usize, n: usize, refs: &mut [u64], to: usize)
     }
 }
 
-// Stores a record, its n bytes from an offset on, if there is capacity for its row, where it has one, and then for its references.
+// Stores the record whose n bytes begin at offset `from`, or ends the reading if there is no capacity: for its row, if it has one
+// (reply 13), or else for its references (reply 14).
 fn store(
     s: &[u8],
     letter: u64,
@@ -127,7 +128,7 @@ fn store(
     }
 }
 
-// Reads one record: the end of the reading, or the record stored.
+// Reads one record and stores it, or ends the reading.
 fn step(s: &[u8], letter: u64, rows: &mut [u64], refs: &mut [u64], k: Cursor) -> Stepped
     requires { ⌜ CursorValid (now s) (now rows) (now refs) k ⌝ }
     ensures { λ r. ⌜ StepContract letter (now (s .entry)) k (now (rows .entry)) (now (refs .entry)) (now (rows .exit)) (now (refs .exit)) (r .cursor) (r .result) ⌝ }
@@ -148,7 +149,7 @@ fn step(s: &[u8], letter: u64, rows: &mut [u64], refs: &mut [u64], k: Cursor) ->
     }
 }
 
-// Reads the records of a dump, from the offset of the first on.
+// Reads the records of a dump, the first of which is at offset `at`.
 fn read_records(s: &[u8], letter: u64, at: usize, rows: &mut [u64], refs: &mut [u64]) -> ReadAnswer
     requires { ⌜ (at ≤ length (now s)) × (length (now s) ≤ limit) ⌝ }
     ensures is { λ r. ⌜ r ≡ answer (records-from letter (now (s .entry)) at (now (rows .entry)) (now (refs .entry))) ⌝ }
@@ -183,7 +184,7 @@ fn read_records(s: &[u8], letter: u64, at: usize, rows: &mut [u64], refs: &mut [
     }
 }
 
-// Returns the answer of a reading that stops before the records.
+// Returns the answer of a reading that ends before the records.
 fn no_records(reply: u64, missing: usize) -> ReadAnswer
     ensures { λ r. ⌜ r ≡ answer (no-records toy reply missing) ⌝ }
 {
@@ -197,8 +198,8 @@ fn no_records(reply: u64, missing: usize) -> ReadAnswer
     }
 }
 
-// Reads a dump: its rows go to the start of `rows`, `table::ROW` numbers to each, and its references to the start of `refs`.
-// What a table holds after them stays as it was.
+// Reads a dump: stores its rows at the start of `rows`, `table::ROW_WIDTH` numbers each, and its references at the start of
+// `refs`. After them the tables are unchanged.
 pub fn read(dump: &[u8], rows: &mut [u64], refs: &mut [u64]) -> ReadAnswer
     ensures is { λ r. ⌜ r ≡ answer (read-result toy (now (dump .entry)) (capacity (length (now (rows .entry))) (length (now (refs .entry))))) ⌝ }
     ensures rows { λ _. ⌜ now (rows .exit) ≡ overwrite (now (rows .entry)) (read-result toy (now (dump .entry)) (capacity (length (now (rows .entry))) (length (now (refs .entry)))) .rows) ⌝ }

@@ -1,4 +1,4 @@
--- A row lies within its table, its numbers are those of the table, and they are stored one after another.
+-- A row is in the bounds of its table, its numbers are those of its slice, and storing them one by one stores the row.
 -- Assumes nothing.
 use mathlib.Core.Path.{_≡_, ap, _∙_}
 use mathlib.Core.List.{List}
@@ -9,18 +9,18 @@ use lib.Seq.{sets, getD-take, getD-drop, drop-cons}
 use lib.Dec.{T, ltb, lit<}
 use Rattle.table.specs.Table.{row-width, row-count}
 
--- a row lies within the table
+-- A row is in the bounds of its table.
 pub row-in-bounds : (rows : List ℕ) (i : ℕ) → i < row-count rows → i * row-width + row-width ≤ length rows
 unfolding row-count
 row-in-bounds rows i h = omega arith
 
--- the numbers of a part of the table that is a row
+-- Number k of the row slice at offset `at` is number `at + k` of the table.
 pub number-at : (rows : List ℕ) (at k : ℕ) → T (ltb k row-width) → getD (take (at + row-width - at) (drop at rows)) k 0 ≡ getD rows (at + k) 0
 number-at rows at k t =
     let l : k < at + row-width - at = omega (arith, lit< {m = k} {n = row-width} t) in
     rw (getD-take, getD-drop)
 
--- the next of a row's numbers
+-- Storing the numbers of a row from i on is storing number i and then those after it.
 pub sets-next : (table row : List ℕ) (at i : ℕ) → i < length row
     → sets table (at + i) (drop i row) ≡ sets (set table (at + i) (getD row i 0)) (at + (i + 1)) (drop (i + 1) row)
 sets-next table row at i h =

@@ -1,7 +1,7 @@
--- Definitions: Table (a slice of numbers as rows), Rows (a row by its numbers, the rows of a table as a list, and the records that
--- they are), Sums and Search (over the rows), Buffer (a buffer with a list stored at its start), CheckOrder (the order of a writer's
--- checks, and the reply of each). Theorems: SizeQuery (a size query and the write that follows it) and OffsetsIgnored (tables
--- that differ in their rows' offsets alone have the same rows).
+-- Definitions: Table (a slice of numbers as rows), Rows (a row by its numbers, the rows of a table as a list, and the records
+-- that they represent), Sums and Search (over rows), Buffer (a buffer with a list stored at its start), CheckOrder (the order of
+-- a writer's checks, and the reply of each). Theorems: SizeQuery (a size query agrees with the write that follows it) and
+-- OffsetsIgnored (tables that differ only in the offsets of their rows have the same rows).
 pub mod Table
 pub mod Rows
 pub mod Sums

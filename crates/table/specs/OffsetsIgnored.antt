@@ -1,4 +1,4 @@
--- Tables that differ in the offsets of their rows, and after their last whole row, alone have the same rows. So whatever is a
+-- Tables that differ only in the offsets of their rows, and in the numbers after the last whole row, have the same rows. So every
 -- function of the rows ignores the offsets.
 -- A reader must believe `EqualExceptOffsets`.
 use mathlib.Core.Path.{_≡_, refl}
@@ -8,10 +8,11 @@ use mathlib.Core.List.{List}
 use Rattle.table.specs.Table.{row-width, offset-number, row-count, number}
 use Rattle.table.specs.Rows.{row-ext, rows-from, rows-of}
 
+-- Two tables are equal, except for the offsets of their rows and the numbers after the last whole row.
 pub record EqualExceptOffsets (rows rows′ : List ℕ) : Type 0 where
-  -- as many whole rows
+  -- They have equally many whole rows.
   pub count : row-count rows ≡ row-count rows′
-  -- every number of a row but its offset is the same
+  -- Every number of a row except its offset is the same.
   pub numbers : (i k : ℕ) → i < row-count rows → k < row-width → (k ≡ offset-number → ⊥)
       → number rows i k ≡ number rows′ i k
 
@@ -21,6 +22,7 @@ module _ {rows rows′ : List ℕ} (a : EqualExceptOffsets rows rows′) where
   rows-from-equal zero i l = refl
   rows-from-equal (suc n) i l = rw (row-ext rows rows′ i i (λ k. a .numbers i k (omega arith)), rows-from-equal n (suc i) (omega arith))
 
+  -- They have the same rows.
   pub rows-of-equal : rows-of rows ≡ rows-of rows′
   unfolding rows-of
   rows-of-equal = rw (← a .count) (rows-from-equal (row-count rows) 0 (omega arith))

@@ -1,5 +1,6 @@
--- The rows of a table, each by its numbers, and the records that they are: 01's "The tables".
--- A reader must believe `row-at` and `rows-of`, and that two records are the same, in 01's sense, exactly when their `Rec` are equal.
+-- The rows of a table, each by its numbers, and the records that they represent (docs/FORMAT.md 4).
+-- A reader must believe `row-at` and `rows-of`, and that two records are the same by docs/FORMAT.md 4.2 exactly if their `Rec`
+-- are equal.
 use mathlib.Core.Path.{_≡_, refl, sym, ap, _∙_}
 use Prim.Native.Nat.{ℕ, zero, suc, _+_, _-_, _%_, _≤_, _<_}
 use native.Mathlib.Nat.{zero-add, add-zero, sub-zero}
@@ -13,9 +14,9 @@ use lib.Seq.{getD-drop, take-all}
 use Rattle.table.specs.Table.{row-width, offset-number, row-count, number, row-count-snoc, number-append, number-last, number-cons}
 use Rattle.table.specs.declared.Row.{Row}
 
--- ---- a row
+-- ---- one row
 
--- the row number i, from 0
+-- Row i, counted from 0.
 unfoldable pub row-at : List ℕ → ℕ → Row
 row-at rows i =
     let n : ℕ → ℕ = number rows i in
@@ -34,7 +35,7 @@ row-at rows i =
       prim = n 11;
     }
 
--- a row whose numbers are all 0
+-- The row whose numbers are all 0.
 abbrev pub zero-row : Row
 zero-row = record {
   kind = 0;
@@ -51,40 +52,41 @@ zero-row = record {
   prim = 0;
 }
 
--- whether a row is of a kind: 1 class, 2 object, 3 object array, 4 primitive array
+-- Whether a row has kind k: 1 class, 2 object, 3 object array, 4 primitive array.
 abbrev pub is-kind : ℕ → Row → Bool
 is-kind k r = eqb (r .kind) k
 
--- a row's references, out of the second table; its name, out of the dump or of the name bytes passed in
+-- A row's references, from the reference table.
 unfoldable pub refs-of : List ℕ → Row → List ℕ
 refs-of refs r = take (r .count) (drop (r .first) refs)
 
+-- A row's name, from the dump or from the name bytes passed in.
 unfoldable pub name-of : List ℕ → Row → List ℕ
 name-of names r = take (r .namelen) (drop (r .place) names)
 
--- ---- the rows of a table, as a list
+-- ---- the list of rows
 
--- n rows from number i on
+-- The n rows from index i on.
 unfoldable pub rows-from : List ℕ → ℕ → ℕ → List Row
 rows-from table i zero = []
 rows-from table i (suc n) = row-at table i ∷ rows-from table (suc i) n
 
--- every whole row
+-- All whole rows.
 unfoldable pub rows-of : List ℕ → List Row
 rows-of table = rows-from table 0 (row-count table)
 
--- the row number i of a list
+-- Row i of a list; `zero-row` if there is none.
 abbrev pub nth : List Row → ℕ → Row
 nth rows i = getD rows i zero-row
 
--- every row of a list satisfies P
+-- Every row of a list satisfies P.
 abbrev pub All : (Row → Type 0) → List Row → Type 0
 All P [] = Unit {0}
 All P (r ∷ rows) = P r × All P rows
 
--- ---- the records
+-- ---- records
 
--- a row without its name's place
+-- A row with 0 for the place of its name.
 unfoldable pub without-place : Row → Row
 without-place r = record {
   kind = r .kind;
@@ -101,34 +103,36 @@ without-place r = record {
   prim = r .prim;
 }
 
--- A record: all numbers of its row but the name's place and the offset, its references as a list, and its name as bytes.
+-- A record (the scope paper's term), as tables represent it: all numbers of its row except the place of its name and the offset,
+-- its references as a list, and its name as bytes.
 pub record Rec : Type 0 where
   pub row : Row
   pub refs : List ℕ
   pub name : List ℕ
 
+-- The record of a row.
 unfoldable pub rec-of : List ℕ → List ℕ → Row → Rec
 rec-of names refs r = record { row = without-place r; refs = refs-of refs r; name = name-of names r }
 
--- the records of rows
+-- The records of a list of rows.
 unfoldable pub recs : List ℕ → List ℕ → List Row → List Rec
 recs names refs [] = []
 recs names refs (r ∷ rows) = rec-of names refs r ∷ recs names refs rows
 
--- those of the first n rows of a table
+-- The records of the first n rows of a table.
 abbrev pub first-recs : ℕ → (names refs table : List ℕ) → List Rec
 first-recs n names refs table = recs names refs (take n (rows-of table))
 
--- the numbers of a record's row, its name being at a place and the record itself at an offset
+-- The thirteen numbers of a record's row, given the place of its name and the offset of the record.
 unfoldable pub numbers : ℕ → ℕ → Rec → List ℕ
 numbers place offset r =
     let n = r .row in
     n .kind ∷ n .address ∷ n .class ∷ n .hashkind ∷ n .hash ∷ n .first ∷ n .count ∷ n .size ∷ n .len ∷ place ∷ n .namelen ∷ n .prim
     ∷ offset ∷ []
 
--- ---- laws of a row
+-- ---- equality of rows
 
--- a row is what its numbers are, whatever its offset
+-- Rows whose numbers agree are equal, whatever their offsets.
 pub row-ext : (rows rows′ : List ℕ) (i i′ : ℕ) → ((k : ℕ) → k < row-width → (k ≡ offset-number → ⊥) → number rows i k ≡ number rows′ i′ k) → row-at rows i ≡ row-at rows′ i′
 unfolding row-at
 row-ext rows rows′ i i′ e =
@@ -148,18 +152,19 @@ row-ext rows rows′ i i′ e =
       prim = n 11 (omega arith) j;
     }
 
--- ---- laws of the list: how a loop over a table goes through it
+-- ---- the list of rows in a loop over the table
 
 length-from : (table : List ℕ) (n i : ℕ) → length (rows-from table i n) ≡ n
 unfolding rows-from
 length-from table zero i = refl
 length-from table (suc n) i = ap suc (length-from table n (suc i))
 
+-- The list has as many rows as the table.
 pub length-rows : (table : List ℕ) → length (rows-of table) ≡ row-count table
 unfolding rows-of
 length-rows table = length-from table (row-count table) 0
 
--- the rows from number i on
+-- The rows from index i on.
 abbrev pub rows-left : List ℕ → ℕ → List Row
 rows-left table i = drop i (rows-of table)
 
@@ -177,23 +182,23 @@ unfolding rows-of
 rows-left-from table i = rw zero-add at (drop-from table (row-count table) i 0)
 
 module _ (table : List ℕ) (i : ℕ) where
-  -- one more row, and those after it
+  -- If i is in bounds, they are row i and the rows after it.
   pub rows-left-next : i < row-count table → rows-left table i ≡ row-at table i ∷ rows-left table (i + 1)
   unfolding rows-from
   rows-left-next l =
       let e : row-count table - i ≡ suc (row-count table - (i + 1)) = omega arith in
       rw (rows-left-from table i, rows-left-from table (i + 1), e, add-one)
 
-  -- none is left
+  -- At the end there are none.
   pub rows-left-none : row-count table ≤ i → rows-left table i ≡ []
   unfolding rows-from
   rows-left-none l = let e : row-count table - i ≡ 0 = omega arith in rw (rows-left-from table i, e)
 
-  -- the row number i of the list
+  -- Row i of the list is row i of the table.
   pub nth-row : i < row-count table → nth (rows-of table) i ≡ row-at table i
   nth-row l = rw add-zero at (sym (getD-drop i (rows-of table) 0 zero-row)) ∙ rw (rows-left-next l)
 
--- what holds of every row holds of each by its number
+-- A property of every row holds for row i.
 module _ (P : Row → Type 0) where
   pub all-nth : (rows : List Row) (i : ℕ) → All P rows → i < length rows → P (nth rows i)
   all-nth [] i a l = absurd (omega arith)
@@ -203,7 +208,7 @@ module _ (P : Row → Type 0) where
   pub all-at : (table : List ℕ) (i : ℕ) → All P (rows-of table) → i < row-count table → P (row-at table i)
   all-at table i a l = let m : i < length (rows-of table) = rw (length-rows table) l in rw (nth-row table i l) at (all-nth (rows-of table) i a m)
 
--- rows after a first one
+-- A row prepended to a table is the first of its list.
 module _ (row table : List ℕ) (l : length row ≡ row-width) where
   rows-from-cons : (n i : ℕ) → rows-from (row ++ table) (suc i) n ≡ rows-from table i n
   unfolding rows-from
@@ -216,7 +221,7 @@ module _ (row table : List ℕ) (l : length row ≡ row-width) where
       let c : row-count (row ++ table) ≡ suc (row-count table) = simp length-append (omega arith) in
       rw (c, rows-from-cons (row-count table) 0)
 
--- a row after whole rows is the last of the list
+-- A row appended to a table of whole rows is the last of its list.
 module _ (table row : List ℕ) (whole : length table % row-width ≡ 0) (l : length row ≡ row-width) where
   rows-from-append : (n i : ℕ) → i + n ≤ row-count table → rows-from (table ++ row) i n ≡ rows-from table i n
   unfolding rows-from
@@ -240,11 +245,11 @@ module _ (table row : List ℕ) (whole : length table % row-width ≡ 0) (l : le
         row-ext (table ++ row) row (row-count table) 0 (λ k _ _. rw zero-add (number-last table row whole l k)),
       )
 
--- the records of as many rows as a table has are those of all its rows
+-- The records of the first `row-count` rows are the records of all rows.
 pub first-recs-all : (names refs table : List ℕ) → first-recs (row-count table) names refs table ≡ recs names refs (rows-of table)
 first-recs-all names refs table = rw (take-all (row-count table) (rows-of table) (omega (arith, length-rows table)))
 
--- the row of a record's numbers, with a table after them, is the record's
+-- The first row of a table that begins with the numbers of a record is the record's row, apart from the place of its name.
 pub row-at-numbers : (place offset : ℕ) (r : Rec) (table : List ℕ) → r .row .place ≡ 0 → without-place (row-at (numbers place offset r ++ table) 0) ≡ r .row
 unfolding without-place row-at numbers
 row-at-numbers place offset r table z = λ j. record {

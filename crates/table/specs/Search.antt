@@ -1,4 +1,5 @@
--- The first row that satisfies a property: the search by a test, that it returns that row, and a loop that makes it.
+-- The first row that satisfies a property: the search for it by a test, the theorem that the search finds it, and the invariant
+-- of a loop that searches.
 -- A reader must believe `first-from` and the record `IsFirst`.
 use mathlib.Core.Path.{_≡_, refl}
 use mathlib.Core.Logic.{_↔_}
@@ -15,42 +16,43 @@ use Rattle.table.specs.declared.Row.{Row}
 use Rattle.table.specs.declared.Search.{Search}
 use Rattle.table.specs.declared.Search.the-variants.{At, NotFound}
 
--- the first row that passes a test, of rows that are counted from number i on
+-- The first row that passes a test, of rows whose indices begin with i.
 unfoldable pub first-from : (Row → Bool) → ℕ → List Row → Search
 first-from test i [] = NotFound
 first-from test i (r ∷ rows) = cond (test r) (At i) (first-from test (suc i) rows)
 
--- of all rows
+-- The first of all rows that passes a test.
 abbrev pub first-row : (Row → Bool) → List Row → Search
 first-row test rows = first-from test 0 rows
 
--- the row that was found; where none was, all its numbers are 0
+-- The row found; `zero-row` if none was.
 unfoldable pub found-row : List Row → Search → Row
 found-row rows (At i) = nth rows i
 found-row rows NotFound = zero-row
 
--- The row number i is one of the rows, it satisfies P, and none before it does.
+-- Row i is in bounds and satisfies P, and no row before it does.
 pub record IsFirst (P : Row → Type 0) (rows : List Row) (i : ℕ) : Type 0 where
   pub inside : i < length rows
   pub holds : P (nth rows i)
   pub before : (k : ℕ) → k < i → P (nth rows k) → ⊥
 
--- no row does
+-- No row satisfies P.
 abbrev pub NoneSatisfies : (Row → Type 0) → List Row → Type 0
 NoneSatisfies P rows = (i : ℕ) → i < length rows → P (nth rows i) → ⊥
 
--- ---- the search returns the first row
+-- ---- correctness of the search
 
 module _ (P : Row → Type 0) (test : Row → Bool) (is : (r : Row) → (test r ≡ true) ↔ P r) where
+  -- A row that fails the test does not satisfy P.
   fails : (r : Row) → test r ≡ false → P r → ⊥
   fails r e p = let t = is r .1 p in let z : _≡_ {A = ℕ} 0 1 = cc in omega arith
 
-  -- what was found, of rows counted from number i on
+  -- What a search result means, for rows whose indices begin with i.
   abbrev SearchMeans : ℕ → List Row → Search → Type 0
   SearchMeans i rows (At k) = (i ≤ k) × ((j : ℕ) → i + j ≡ k → IsFirst P rows j)
   SearchMeans i rows NotFound = NoneSatisfies P rows
 
-  -- one row more before them
+  -- If f is the right result for some rows, the search with a row r before them gives the right result.
   search-means-cons : (i : ℕ) (r : Row) (rows : List Row) (b : Bool) → test r ≡ b → (f : Search) → SearchMeans (suc i) rows f → SearchMeans i (r ∷ rows) (cond b (At i) f)
   search-means-cons i r rows true e f s = (omega arith, λ j q. at-first j (omega arith))
     where
@@ -74,18 +76,20 @@ module _ (P : Row → Type 0) (test : Row → Bool) (is : (r : Row) → (test r 
       none zero l = fails r e
       none (suc j) l = s j (omega arith)
 
+  -- The search gives the right result.
   search-means : (rows : List Row) (i : ℕ) → SearchMeans i rows (first-from test i rows)
   unfolding first-from
   search-means [] i = λ j l. absurd (omega arith)
   search-means (r ∷ rows) i = search-means-cons i r rows (test r) refl (first-from test (suc i) rows) (search-means rows (suc i))
 
-  -- there is only one first row
+  -- There is only one first row.
   first-unique : (rows : List Row) (i k : ℕ) → IsFirst P rows i → IsFirst P rows k → i ≡ k
   first-unique rows i k a b =
       let l : k < suc i = lt-of-not-le (λ m. b .before i m (a .holds)) in
       let m : i < suc k = lt-of-not-le (λ l. a .before k l (b .holds)) in
       omega arith
 
+  -- A right result is `At i` exactly if row i is the first, and `NotFound` exactly if there is none.
   search-means-iff : (rows : List Row) (f : Search) → SearchMeans 0 rows f → ((i : ℕ) → (f ≡ At i) ↔ IsFirst P rows i) × ((f ≡ NotFound) ↔ NoneSatisfies P rows)
   search-means-iff rows (At k) s =
       let a : IsFirst P rows k = s .1 k (omega arith) in (
@@ -97,18 +101,19 @@ module _ (P : Row → Type 0) (test : Row → Bool) (is : (r : Row) → (test r 
     (λ _. s, λ _. refl),
   )
 
-  -- the search finds the first such row, and nothing exactly where there is none
+  -- The search finds row i exactly if row i is the first that satisfies P.
   pub first-row-at : (rows : List Row) (i : ℕ) → (first-row test rows ≡ At i) ↔ IsFirst P rows i
   first-row-at rows = search-means-iff rows (first-row test rows) (search-means rows 0) .0
 
+  -- It finds none exactly if no row satisfies P.
   pub first-row-none : (rows : List Row) → (first-row test rows ≡ NotFound) ↔ NoneSatisfies P rows
   first-row-none rows = search-means-iff rows (first-row test rows) (search-means rows 0) .1
 
--- the row that was found is one of the rows
+-- The index that was found is in bounds.
 pub found-in-bounds : (test : Row → Bool) (rows : List Row) (i : ℕ) → first-row test rows ≡ At i → i < length rows
 found-in-bounds test rows i e = first-row-at (λ r. test r ≡ true) test (λ r. (λ t. t, λ t. t)) rows i .0 e .inside
 
--- of a table's rows: its number, and which row it is
+-- If a search over the rows of a table finds index i, then i is in bounds, and the row found is row i of the table.
 module _ (test : Row → Bool) (table : List ℕ) (i : ℕ) (e : first-row test (rows-of table) ≡ At i) where
   pub found-in-table : i < row-count table
   found-in-table = rw (length-rows table) at (found-in-bounds test (rows-of table) i e)
@@ -117,29 +122,31 @@ module _ (test : Row → Bool) (table : List ℕ) (i : ℕ) (e : first-row test 
   unfolding found-row
   found-row-at = rw e (nth-row table i found-in-table)
 
--- ---- a loop over a table, row by row
+-- ---- a search loop over a table
 
--- the rows from number i on give what all of them give
+-- The loop invariant: the search over the rows from index i on gives the result of the search over all rows.
 abbrev pub SearchInvariant : (Row → Bool) → List ℕ → ℕ → Type 0
 SearchInvariant test table i = (i ≤ row-count table) × (first-from test i (rows-left table i) ≡ first-row test (rows-of table))
 
+-- It holds at the start.
 pub search-start : (test : Row → Bool) (table : List ℕ) → SearchInvariant test table 0
 search-start test table = (omega arith, refl)
 
 module _ (test : Row → Bool) (table : List ℕ) (i : ℕ) where
+  -- The search from index i on finds row i if it passes, else what the search from the next index on finds.
   row-step : i < row-count table → first-from test i (rows-left table i) ≡ cond (test (row-at table i)) (At i) (first-from test (i + 1) (rows-left table (i + 1)))
   unfolding first-from
   row-step l = rw (rows-left-next table i l, add-one)
 
-  -- the row number i, which is r, passes
+  -- If row i passes the test, the search over all rows finds it.
   pub search-found : (r : Row) → SearchInvariant test table i → i < row-count table → r ≡ row-at table i → test r ≡ true → At i ≡ first-row test (rows-of table)
   search-found r s l e t = cc (row-step l, s .1)
 
-  -- it fails
+  -- If row i fails the test, the invariant holds for the next index.
   pub search-next : (r : Row) → SearchInvariant test table i → i < row-count table → r ≡ row-at table i → test r ≡ false → SearchInvariant test table (i + 1)
   search-next r s l e t = (omega arith, cc (row-step l, s .1))
 
-  -- no row is left
+  -- If no rows are left, the search over all rows finds none.
   pub search-done : SearchInvariant test table i → row-count table ≤ i → NotFound ≡ first-row test (rows-of table)
   unfolding first-from
   search-done s l = rw (rows-left-none table i l) at (s .1)

@@ -1,5 +1,5 @@
--- A size query and the write that follows it: the query makes the same checks in the same order, all but that of the output's
--- capacity. A reader must believe the record `QueryAgrees`. Assumes nothing.
+-- A size query agrees with the write that follows it: it makes the same checks in the same order, except the check of the
+-- output's capacity. A reader must believe the record `QueryAgrees`. Assumes nothing.
 use mathlib.Core.Path.{_≡_, refl, sym, ap}
 use mathlib.Core.Logic.{_↔_}
 use Prim.Native.Nat.{ℕ, _≤_, _<_}
@@ -15,21 +15,22 @@ use Rattle.table.specs.declared.Search.{Search}
 use Rattle.table.specs.declared.Search.the-variants.{At, NotFound}
 use Rattle.table.specs.declared.Answer.{Answer}
 
--- Between the answer of a size query and what a write of the same rows, with `room` bytes of output, gives.
+-- The answer of a size query agrees with w, the result of writing the same rows to an output of `capacity` bytes.
 pub record QueryAgrees (query : Answer) (capacity : ℕ) (w : WriteResult) : Type 0 where
-  -- the write answers 0 exactly where the query answers 0 and the output holds the count
+  -- The write's reply is 0 exactly if the query's reply is 0 and the queried size is at most the capacity.
   pub done : (w .answer .reply ≡ 0) ↔ ((query .reply ≡ 0) × (query .place ≤ capacity))
-  -- then both answers are the same, and the count is how many bytes are written
+  -- Then both answers are equal.
   pub same : w .answer .reply ≡ 0 → w .answer ≡ query
+  -- Then as many bytes are written as the query answered.
   pub count : w .answer .reply ≡ 0 → length (w .bytes) ≡ query .place
-  -- a count that the output does not hold is 17 at 0
+  -- If the queried size exceeds the capacity, the write is refused with 17 at place 0.
   pub too-small : query .reply ≡ 0 → capacity < query .place → w ≡ refused 17 0
-  -- what the query refuses, the write refuses alike
+  -- If the query is refused, the write is refused with the same reply and place.
   pub refusal : (query .reply ≡ 0 → ⊥) → w ≡ refused (query .reply) (query .place)
-  -- and a write's answer other than 17 is the query's
+  -- An answer of the write without reply 17 is the query's answer.
   pub other : (w .answer .reply ≡ 17 → ⊥) → w .answer ≡ query
 
--- a refusal of both
+-- Both are refused.
 refused-agrees : (reply place capacity : ℕ) → (reply ≡ 0 → ⊥) → QueryAgrees (refused reply place .answer) capacity (refused reply place)
 unfolding refused
 refused-agrees reply place capacity n = record {
@@ -41,7 +42,7 @@ refused-agrees reply place capacity n = record {
   other = λ _. refl;
 }
 
--- bytes that the query counts: they are written, or the output does not hold them
+-- The query gives a size, and the output has the capacity.
 done-agrees : (bytes : List ℕ) (capacity : ℕ) → length bytes ≤ capacity → QueryAgrees (done bytes .answer) capacity (done bytes)
 unfolding done
 done-agrees bytes capacity l = record {
@@ -53,6 +54,7 @@ done-agrees bytes capacity l = record {
   other = λ _. refl;
 }
 
+-- The query gives a size, and the output has too little capacity.
 capacity-agrees : (bytes : List ℕ) (capacity : ℕ) → capacity < length bytes → QueryAgrees (done bytes .answer) capacity (refused 17 0)
 unfolding done refused
 capacity-agrees bytes capacity l = record {
@@ -64,7 +66,7 @@ capacity-agrees bytes capacity l = record {
   other = λ n. absurd (n refl);
 }
 
--- Of any checks: beside all that the query checks, the write checks whether the output holds the bytes.
+-- For any checks: the write makes all checks of the query, and also checks the capacity of the output.
 pub query-agrees : (good : Bool) (bad class-missing : Search) (within : Bool) (bytes : List ℕ) (capacity : ℕ)
     → QueryAgrees (checked-write good bad class-missing within bytes .answer) capacity (checked-write good bad class-missing (leb (length bytes) capacity && within) bytes)
 unfolding checked-write
@@ -84,24 +86,25 @@ query-agrees true NotFound NotFound within bytes capacity = elim (decLe (length 
     lacking true l = capacity-agrees bytes capacity l
     lacking false l = refused-agrees 17 0 capacity (λ z. omega arith)
 
--- ---- the query's answer, by the checks as a function makes them
+-- ---- the answer of a size query
 
 module _ (good : Bool) (bad class-missing : Search) (within : Bool) (bytes : List ℕ) where
-  -- by the first two tests
+  -- If the first two checks refuse, their answer is the query's.
   pub query-refused : (w : Answer) → w ≡ checked-input good bad → (w .reply ≡ 0 → ⊥) → w ≡ checked-write good bad class-missing within bytes .answer
   unfolding refused
   query-refused w e z = ap (λ (o : WriteResult). o .answer) (sym (checked-input-refused good bad class-missing within bytes w e z))
 
-  -- where all of them hold, the count of the bytes, or 17 where they are too many
+  -- If all checks pass, the answer is 0 with the number of bytes as the place.
   pub query-size : good ≡ true → bad ≡ NotFound → class-missing ≡ NotFound → within ≡ true → record { reply = 0; place = length bytes } ≡ checked-write good bad class-missing within bytes .answer
   unfolding checked-write done
   query-size p q r s = rw (p, q, r, s)
 
+  -- If the bytes exceed the size limit, the answer is 17 at place 0.
   pub query-too-large : good ≡ true → bad ≡ NotFound → class-missing ≡ NotFound → within ≡ false → record { reply = 17; place = 0 } ≡ checked-write good bad class-missing within bytes .answer
   unfolding checked-write refused
   query-too-large p q r s = rw (p, q, r, s)
 
-  -- what it says of a write
+  -- The query's answer agrees with the write.
   pub query-agrees-by : (query : Answer) (capacity : ℕ) → query ≡ checked-write good bad class-missing within bytes .answer
       → QueryAgrees query capacity (checked-write good bad class-missing (leb (length bytes) capacity && within) bytes)
   query-agrees-by query capacity e = rw e (query-agrees good bad class-missing within bytes capacity)

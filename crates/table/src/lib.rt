@@ -1,6 +1,6 @@
-// The table below every format: rows of thirteen numbers, one after another in a slice. A reading fills it; writers, texts, counts
-// and searches are functions of its rows.
-// The definitions are specs/Table.antt (how a slice is split into rows) and specs/Rows.antt (a row by its numbers).
+// The table of records: rows of thirteen numbers, one after another in a slice. Reading fills it; writing, the text, counts and
+// searches are functions of its rows.
+// Defined in specs/Table.antt (how a slice is split into rows) and specs/Rows.antt (a row by its numbers).
 ghost use mathlib.Core.Path.{_≡_};
 ghost use Prim.Native.Nat.{_+_, _≤_, _<_};
 ghost use lib.ListN.{length};
@@ -8,44 +8,48 @@ ghost use lib.Seq.{sets};
 ghost use Rattle.table.specs.Table.{row-width, row-count};
 ghost use Rattle.table.specs.Rows.{row-at};
 
-// The numbers of a row.
+// How many numbers a row has.
 pub const ROW_WIDTH: usize = 13;
 
-// A row by its numbers, without the last, the offset of its record, which no writer looks at.
+// A row (the scope paper's term): the numbers that represent a record, docs/FORMAT.md 4.1, except the last one, the record's
+// offset, which writing and the text ignore.
 pub struct Row {
-    // 1 class, 2 object, 3 object array, 4 primitive array
+    // 1 class, 2 object, 3 object array, 4 primitive array.
     pub kind: u64,
     pub address: u64,
-    // the class word, of a class its superclass
+    // The class word (the scope paper's term): the address of the record's class; of a class, that of its superclass.
     pub class: u64,
-    // 0 none, 1 hashed with no stored hash, 2 a stored 32-bit hash, 3 a 16-bit hash
+    // 0 not hashed, 1 hashed but no hash is stored, 2 a 32-bit hash, 3 a 16-bit hash.
     pub hashkind: u64,
     pub hash: u64,
-    // the index of its first reference, and how many it has
+    // The index of its first reference in the reference table, and how many it has.
     pub first: u64,
     pub count: u64,
+    // Of a class, its instance size in bytes; of an array, its size in units of 4 bytes.
     pub size: u64,
+    // The length of an array, nulls included.
     pub len: u64,
-    // the offset and the length of its name
+    // The offset and the length of a class's name.
     pub place: u64,
     pub namelen: u64,
-    // the primitive type
+    // The type of a primitive array, 0 to 7 (docs/FORMAT.md 3.1).
     pub prim: u64,
 }
 
-// What a search over rows returns: the index of a row, or nothing.
+// The result of a search over rows: the index of the row found, or none.
 pub enum Search {
     At(usize),
     NotFound,
 }
 
-// What an operation on tables returns: 01's reply and its place. With reply 0 the place is a count of bytes.
+// The answer of a write, a check or a size query: the reply and its place, both the scope paper's terms (docs/FORMAT.md 8). With
+// reply 0 the place is a number of bytes.
 pub struct Answer {
     pub reply: u64,
     pub place: usize,
 }
 
-// Returns the row number i.
+// Returns row i.
 pub fn row_at(rows: &[u64], i: usize) -> Row
     requires { ⌜ i < row-count (now rows) ⌝ }
     ensures { λ r. ⌜ r ≡ row-at (now (rows .entry)) i ⌝ }
@@ -68,7 +72,7 @@ pub fn row_at(rows: &[u64], i: usize) -> Row
     }
 }
 
-// Stores the numbers of a row at an offset of a table.
+// Stores the numbers of a row at offset `at` of a table.
 pub fn store_row(table: &mut [u64], at: usize, row: [u64; ROW_WIDTH])
     requires { ⌜ (at + row-width ≤ length (now table)) × (length row ≡ row-width) ⌝ }
     ensures { λ _. ⌜ now (table .exit) ≡ sets (now (table .entry)) at row ⌝ }

@@ -1,4 +1,4 @@
--- `class_named` meets its contract: the rows from here on say what all rows say.
+-- `class_named` satisfies its contract: the invariant is that searching the rows that are left gives the result for all rows.
 use borrow.Author.Needs.{needs}
 use mathlib.Core.Path.{sym, _∙_}
 use Prim.Native.Nat.{_-_}

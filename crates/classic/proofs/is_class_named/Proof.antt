@@ -1,4 +1,4 @@
--- `named` meets its contract: the name has two bytes, which are the signature's.
+-- `is_class_named` satisfies its contract: a name equals the type exactly if it has two bytes and both are equal.
 use native.Mathlib.Omega.{arith}
 use borrow.Author.Needs.{needs}
 use Rattle.classic.proofs.ClassRowTests.{not-class-named, class-name-two-bytes, class-named-bytes}

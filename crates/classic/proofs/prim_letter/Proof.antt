@@ -1,4 +1,4 @@
--- `prim_letter` meets its contract: its table is the letters.
+-- `prim_letter` satisfies its contract: its table is `letters`.
 use mathlib.Core.Path.{refl}
 use borrow.Author.Needs.{needs}
 use Rattle.classic.specs.ClassicText.{letters}

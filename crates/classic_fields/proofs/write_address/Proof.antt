@@ -1,4 +1,4 @@
--- `write_address` meets its contract: the digits are put behind `0x`.
+-- `write_address` satisfies its contract: the digits are written after `0x`.
 use borrow.Author.Needs.{needs}
 use mathlib.Core.List.{[], _∷_}
 use Prim.Native.Nat.{_/_}

@@ -1,4 +1,4 @@
--- `write_refs` meets its contract: the references that are left, from here, are the rest of all.
+-- `write_refs` satisfies its contract: the invariant is that the text of the references from index i on is still to be written.
 use borrow.Author.Needs.{needs}
 use mathlib.Core.Path.{_≡_}
 use mathlib.Core.List.{List, [], _∷_, _++_}
@@ -19,7 +19,7 @@ Inv-loop out₀ at bits refs first count to₀ i₀ out to i =
 abbrev μ-loop : tie.MeasureT-loop
 μ-loop out₀ at bits refs first count to₀ i₀ out to i = count - i
 
--- all references; the next one; those behind it
+-- The text of all references, of the next one, and of those after it.
 abbrev all : tie.Start Inv-loop μ-loop → List ℕ
 all s = refs-text (s .args .bits) (take (s .args .count) (drop (s .args .first) (s .args .refs .now)))
 
@@ -35,7 +35,7 @@ bytes-after c =
     let a = l .before .before .before .args in
     refs-text (a .bits) (take (a .count - (l .loop .i + 1)) (drop (a .first + (l .loop .i + 1)) (a .refs .now)))
 
--- what is left
+-- The bytes still to be written are a space, the next reference, and those after it.
 left : (c : tie.In-loop Inv-loop μ-loop) → let l = c .before in let s = l .before .before .before in
     Remaining (s .args .out .now) (s .args .at) (all s) (l .loop .out) (l .loop .to) ((0x20 ∷ []) ++ (next c ++ bytes-after c))
 left c =

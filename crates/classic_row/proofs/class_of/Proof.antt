@@ -1,4 +1,4 @@
--- `word_of` meets its contract: by the row's kind, and by what the search found.
+-- `class_of` satisfies its contract, in each case of the row's kind and of the search's result.
 use mathlib.Core.Path.{sym, ap, _∙_}
 use borrow.Author.Needs.{needs}
 use borrow.Author.Tests.{ne-eqb}

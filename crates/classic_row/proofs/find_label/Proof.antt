@@ -1,4 +1,4 @@
--- `find_label` meets its contract: by the row's kind, and by what the search found.
+-- `find_label` satisfies its contract, in each case of the row's kind and of the search's result.
 use mathlib.Core.Path.{_≡_, refl, sym, ap, _∙_}
 use mathlib.Core.Bool.{false, cond}
 use Prim.Native.Nat.{_*_}
@@ -12,15 +12,15 @@ use Rattle.classic_row.proofs.RowTextLaws.{class-missing-by-search}
 use Rattle.classic_row.proofs.find_label.Statement.{statement}
 use Rattle.classic_row.proofs.find_label.Tie as tie
 
--- the beginning of the function, from where the class is searched
+-- The start of the function, seen from after the search for the class row.
 abbrev start : tie.After-class-at → tie.Start
 start c = c .before .before .before .before .before .before .before
 
--- the row is lost where the search found nothing
+-- The row's class row is missing exactly if the search found nothing.
 missing : (c : tie.After-class-at) → let a = start c .args in class-missing (rows-of (a .rows .now)) (a .row) ≡ is-not-found (c .class-at .result)
 missing c = class-missing-by-search _ _ (start c .pre .1) (c .before .before .before .before .if1 .left) (c .before .if2 .left) ∙ ap is-not-found (sym (c .class-at .ensures))
 
--- where it found a row, that is the class
+-- If the search found a row, it is the class row, and the label is computed from it.
 class : (c : tie.After-row-at) → let a = start (c .before .before .before .before) .args in let class = c .row-at .result in
     (class-missing (rows-of (a .rows .now)) (a .row) ≡ false)
     × (type-label (rows-of (a .rows .now)) (a .row) ≡ record { bytes = cond (is-kind 2 (a .row)) (class .size) (4 * a .row .size); place = class .place; len = class .namelen })

@@ -1,4 +1,4 @@
--- `size` meets its contract: the sum is the row's size, which is small, and so is every part of it.
+-- `row_text_size` satisfies its contract: the sum is the row's size, which is below 2^64, and so is every partial sum.
 use mathlib.Core.Path.{_≡_, sym, _∙_}
 use Prim.Native.Nat.{ℕ, _+_, _*_, _/_, _^_, _<_}
 use native.Mathlib.Omega.{arith}
@@ -10,11 +10,11 @@ use Rattle.classic_row.proofs.RowTextLaws.{LabelBounds, label-bounds, r
 use Rattle.classic_row.proofs.row_text_size.Statement.{statement}
 use Rattle.classic_row.proofs.row_text_size.Tie as tie
 
--- the beginning of the function, from where the entry is found
+-- The start of the function, seen from where the label is found.
 abbrev start : tie.After-known-told2 → tie.Start
 start c = c .before .before .before .before .before .before
 
--- it is the row's, and its numbers are small
+-- The label is the row's, and it is in bounds.
 means : (c : tie.After-known-told2) → let a = start c .args in LabelMeans (rows-of (a .rows .now)) (a .row) (Found (c .before .e .given .0 .0))
 means c = label-means _ _ _ (sym (c .before .e .given .1) ∙ c .before .before .before .find-label .ensures)
 
@@ -48,7 +48,7 @@ add-first-2 c =
 type-size-requires : tie.Need-type-size-requires
 type-size-requires c κs = small (c .before) .name-in-bounds
 
--- the sum is the row's size, and small
+-- The sum is the row's size, and it is below 2^64.
 abbrev sum : tie.After-type-size → ℕ
 sum c =
     let a = start (c .before .before) .args in

@@ -1,4 +1,4 @@
--- `push` meets its contract: the lines and their ends, one behind the other, are the row's text.
+-- `write_row_text` satisfies its contract: the two lines with their line ends, written one after the other, are the row's text.
 use mathlib.Core.Path.{_≡_, sym, _∙_}
 use mathlib.Core.List.{List, [], _∷_, _++_}
 use Prim.Native.Nat.{ℕ}
@@ -16,14 +16,14 @@ use Rattle.classic_row.proofs.write_row_text.Tie as tie
 abbrev start : tie.After-class-of → tie.Start
 start c = c .before .before .before .before .before .before .before .before .before
 
--- the entry that was found is the row's
+-- The label that was found is the row's.
 abbrev found : tie.After-class-of → TypeLabel
 found c = c .before .before .found .given .0 .0
 
 found-is : (c : tie.After-class-of) → found c ≡ type-label (rows-of (start c .args .rows .now)) (start c .args .row)
 found-is c = let d = c .before .before in label-means _ _ _ (sym (d .found .given .1) ∙ d .before .before .find-label .ensures) .1
 
--- the row's text, by what was found out: the first line, its end, and the second line with its end
+-- The row's text from the label and class word found: the first line, its line end, and the second line with its line end.
 abbrev first : tie.After-class-of → List ℕ
 first c = let a = start c .args in label-line (a .bits) (a .names .now) (a .row) (found c)
 
@@ -37,7 +37,7 @@ text : (c : tie.After-class-of) → let a = start c .args in
     row-text (a .bits) (a .names .now) (a .refs .now) (rows-of (a .rows .now)) (a .row) ≡ first c ++ ((0x0A ∷ []) ++ rest c)
 text c = row-text-by-label _ _ _ _ _ _ _ (found-is c) (c .class-of .ensures)
 
--- the room for it, and for what is left of it
+-- The output has capacity for the text, and after each call for the rest of it.
 in-bounds : (c : tie.After-class-of) → HasCapacity (start c .args .out .now) (start c .args .at) (first c ++ ((0x0A ∷ []) ++ rest c))
 in-bounds c = rw (text c) at (start c .pre .1 .1 .1 .1 .1 .1)
 
@@ -58,7 +58,7 @@ enum-known-found c = search needs
 enum-told : tie.Need-enum-told
 enum-told c = search needs
 
--- the row is not lost, so no reply is given
+-- The row's class row is not missing, so `find_label` does not return a reply.
 returns : tie.Need-returns
 returns c =
     let d = c .before .before in

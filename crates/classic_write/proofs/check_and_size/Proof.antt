@@ -1,4 +1,5 @@
--- `plan-input` meets its contract: the header and the rows, then the classes with the size of the rows, then the size of all three parts.
+-- `check_and_size` satisfies its contract: it checks the header and the rows, then the classes while it sizes the rows, and then
+-- adds the sizes of the three parts.
 use borrow.Author.Needs.{needs}
 use mathlib.Core.Path.{_≡_, sym, _∙_}
 use Prim.Native.Nat.{_+_}
@@ -18,14 +19,14 @@ use Rattle.classic_write.proofs.WriteText.{tally-bound-of, size-is, siz
 use Rattle.classic_write.proofs.check_and_size.Statement.{statement}
 use Rattle.classic_write.proofs.check_and_size.Tie as tie
 
--- the beginning of the function, from where the header and the rows were found good
+-- The start of the function, seen from where the header and the rows are known to be good.
 abbrev start : tie.Else1 → tie.Start
 start c = c .before .before .before .before .before .before
 
 right : (c : tie.Else1) → let a = start c .args in TablesGood (a .header) (a .names .now) (a .refs .now) (rows-of (a .rows .now))
 right c = checked-input-ok _ _ _ (c .before .before .check .ensures) (c .if1 .left)
 
--- from where the rows were sized
+-- The point after the version line was sized, seen from where the rows were sized.
 abbrev first : tie.After-known-told2 → tie.After-version-size
 first c = c .before .before .before .before
 

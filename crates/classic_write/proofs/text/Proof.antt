@@ -1,4 +1,4 @@
--- `text` meets its contract: a refusal before a byte is put, or what `fit` gives.
+-- `text` satisfies its contract: it returns a refusal before it writes a byte, or the answer of `write_if_fits`.
 use borrow.Author.Needs.{needs}
 use mathlib.Core.Path.{subst}
 use Rattle.table.specs.CheckOrder.{refused-unchanged}

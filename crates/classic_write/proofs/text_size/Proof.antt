@@ -1,4 +1,4 @@
--- `text_size` meets its contract: what was measured is what asking answers.
+-- `text_size` satisfies its contract: what `check_and_size` returns is the answer of the size query.
 use borrow.Author.Needs.{needs}
 use mathlib.Core.Path.{subst}
 use Rattle.classic_write.specs.SizedText.{SizedTextMeans, checked-text-reply}

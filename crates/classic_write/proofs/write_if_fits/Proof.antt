@@ -1,4 +1,4 @@
--- `fit` meets its contract: a byte is put only where there is room for the text.
+-- `write_if_fits` satisfies its contract: it writes only if the output has capacity for the whole text.
 use borrow.Author.Needs.{needs}
 use mathlib.Core.Path.{refl, sym}
 use Prim.Native.Nat.{_≤_}
@@ -15,7 +15,7 @@ use Rattle.classic_write.proofs.WriteText.{tally-bound-of, version-capa
 use Rattle.classic_write.proofs.write_if_fits.Statement.{statement}
 use Rattle.classic_write.proofs.write_if_fits.Tie as tie
 
--- the beginning of the function, from where room is found
+-- The start of the function, seen from where the text is known to fit the output.
 abbrev start : tie.Else1 → tie.Start
 start c = c .before .before .before .before .before
 
@@ -24,7 +24,7 @@ returns c =
     let s = size-query-agrees _ _ _ _ _ _ (checked-text-reply (c .before .before .before .before .before .pre)) in
     refused-unchanged _ _ 17 0 (s .too-small refl (omega arith))
 
--- it is put only where there is room for it
+-- The output is at least as long as the text.
 enough : (c : tie.Else1) → let a = start c .args in length (text-of (a .header) (a .names .now) (a .refs .now) (rows-of (a .rows .now))) ≤ length (a .out .now)
 enough c = let s = start c .pre .size-is in omega arith
 

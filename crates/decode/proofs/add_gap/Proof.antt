@@ -1,4 +1,4 @@
--- `add-gap` meets its contract: no sum in it wraps, and a gap down is subtracted.
+-- `add_gap` satisfies its contract: no operation wraps, and a negative gap is subtracted.
 use borrow.Author.Needs.{needs}
 use borrow.Author.Tests.{le-leb, lt-leb}
 use mathlib.Core.Path.{_≡_, sym, ap, _∙_}
@@ -14,7 +14,7 @@ use Rattle.decode.proofs.DecodeLaws.{add-gap-nonneg, add-gap-negsuc}
 use Rattle.decode.proofs.add_gap.Statement.{statement}
 use Rattle.decode.proofs.add_gap.Tie as tie
 
--- the two arms: what the definition says of a gap up, and of one down
+-- `add-gap` for a gap of at least 0, and for a negative one.
 module _ (c : tie.After-n) where
   up : let a = c .before .before .before .args in add-gap (a .highest) (a .base) (a .gap) ≡ in-range (a .highest) (a .base + 4 * c .n .given .0 .0)
   up = add-gap-nonneg _ _ _ _ (ap sign-case (sym (toZ-ofZ {w = w64} (c .before .before .before .fits .gap))) ∙ sym (c .before .before .sign-case-of .ensures) ∙ c .n .given .1)

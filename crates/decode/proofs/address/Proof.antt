@@ -1,4 +1,4 @@
--- `address` meets its contract: the field as a signed gap, and the sum that it leads to.
+-- `address` satisfies its contract: the field as a signed gap, then the sum and the check of its range.
 use borrow.Author.Needs.{needs}
 use mathlib.Core.Path.{_≡_, sym, ap, subst, _∙_}
 use native.Mathlib.Omega.{arith}
@@ -10,11 +10,12 @@ use Rattle.decode.specs.Fields.{outcome, FitsWidth, address}
 use Rattle.decode.proofs.address.Statement.{statement}
 use Rattle.decode.proofs.address.Tie as tie
 
+-- The field was read.
 got : (c : tie.After-raw) → let a = c .before .before .before .before .args in
     run (field (a .n)) (a .s .now) (a .at) ≡ whole (c .raw .given .0 .0) (c .raw .given .0 .1 .0)
 got c = sym (c .before .before .field .ensures .0) ∙ ap outcome (c .raw .given .1)
 
--- where the gap leads
+-- `add_gap` returned the address for the field's signed gap, if it is in range.
 module _ (c : tie.After-add-gap) where
   leads : let w = c .before .before .before in let a = w .before .before .before .before .args in
       add-gap (a .highest) (a .base) (signed (a .n) (w .raw .given .0 .0)) ≡ c .add-gap .result

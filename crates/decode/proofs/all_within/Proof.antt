@@ -1,4 +1,4 @@
--- `all_within` meets its contract: what is left, from here, says what the whole says.
+-- `all_within` satisfies its contract: the invariant is that the bytes left give the answer for all n bytes.
 use borrow.Author.Needs.{needs}
 use mathlib.Core.Path.{_≡_, sym, _∙_}
 use Prim.Native.Nat.{_+_, _-_, _≤_}

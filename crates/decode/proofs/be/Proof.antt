@@ -1,4 +1,4 @@
--- `be` meets its contract: what is left, read on from the value so far, is what the whole is.
+-- `be` satisfies its contract: the invariant is that the bytes left, read on from the sum so far, give the value of all n bytes.
 use mathlib.Core.Path.{_≡_, sym, _∙_}
 use Prim.Native.Nat.{_+_, _-_, _^_, _≤_, _<_}
 use native.Mathlib.Omega.{arith}
@@ -10,7 +10,7 @@ use Rattle.decode.proofs.DecodeLaws.{digit-lt, seven-bytes-lt, value-af
 use Rattle.decode.proofs.be.Statement.{statement}
 use Rattle.decode.proofs.be.Tie as tie
 
--- what is left, read on from the value so far, is what the whole is
+-- The sum so far is below 256 ^ i, and the bytes left, read on from it, give the value of all n bytes.
 abbrev Inv-loop : tie.InvT-loop
 Inv-loop s at n sum₀ i₀ sum i =
     (i ≤ n) × (sum < 256 ^ i) × (value-after sum (take (n - i) (drop (at + i) s)) ≡ value-after 0 (take n (drop at s)))
@@ -33,7 +33,7 @@ shared-slice-read-wide c = search needs
 wide-requires : tie.Need-wide-requires Inv-loop μ-loop
 wide-requires c κs = search needs
 
--- the digit is a byte of the slice
+-- The digit is a byte of the slice, so below 256.
 digit : (c : tie.After-wide Inv-loop μ-loop) → c .wide .result < 256
 digit c =
     let l = c .before .before .before in

@@ -1,4 +1,4 @@
--- `below` meets its contract: the field's answer, and then the test.
+-- `below` satisfies its contract: the field, then its check.
 use borrow.Author.Needs.{needs}
 use borrow.Author.Tests.{lt-ltb, le-ltb}
 use mathlib.Core.Path.{_≡_, sym, ap, _∙_}
@@ -7,6 +7,7 @@ use Rattle.decode.specs.Fields.{outcome, below}
 use Rattle.decode.proofs.below.Statement.{statement}
 use Rattle.decode.proofs.below.Tie as tie
 
+-- The field was read.
 got : (c : tie.After-x) → let a = c .before .before .before .before .args in
     run (field (a .n)) (a .s .now) (a .at) ≡ whole (c .x .given .0 .0) (c .x .given .0 .1 .0)
 got c = sym (c .before .before .field .ensures .0) ∙ ap outcome (c .x .given .1)

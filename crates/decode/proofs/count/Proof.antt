@@ -1,4 +1,4 @@
--- `count` meets its contract: the field as a signed number, and the test of its range.
+-- `count` satisfies its contract: the field as a signed number, then the check of its range.
 use borrow.Author.Needs.{needs}
 use mathlib.Core.Path.{_≡_, sym, ap, subst, _∙_}
 use native.Mathlib.Omega.{arith}
@@ -10,11 +10,12 @@ use Rattle.decode.specs.Fields.{outcome, FitsWidth, count}
 use Rattle.decode.proofs.count.Statement.{statement}
 use Rattle.decode.proofs.count.Tie as tie
 
+-- The field was read.
 got : (c : tie.After-raw) → let a = c .before .before .before .before .args in
     run (field (a .n)) (a .s .now) (a .at) ≡ whole (c .raw .given .0 .0) (c .raw .given .0 .1 .0)
 got c = sym (c .before .before .field .ensures .0) ∙ ap outcome (c .raw .given .1)
 
--- the count that the field holds
+-- `to_count` returned the count of the field's signed number, if it is valid.
 module _ (c : tie.After-to-count) where
   holds : let w = c .before .before .before in let a = w .before .before .before .before .args in
       to-count (signed (a .n) (w .raw .given .0 .0)) ≡ c .to-count .result

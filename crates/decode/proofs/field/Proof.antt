@@ -1,4 +1,4 @@
--- `field` meets its contract: its bytes are there, or as many as it says are lacking.
+-- `field` satisfies its contract: all its bytes are present, or the cut reports how many it lacks.
 use borrow.Author.Needs.{needs}
 use mathlib.Core.Path.{_≡_}
 use Prim.Native.Nat.{_+_, _-_, _≤_, _<_}

@@ -1,4 +1,4 @@
--- `half_of` meets its contract: half of 256 ^ n is one bit less.
+-- `half_of` satisfies its contract: 2 ^ (8 * n - 1) is half of 256 ^ n.
 use borrow.Author.Needs.{needs}
 use Prim.Native.Nat.{_-_, _*_, _^_, _<_}
 use native.Mathlib.Omega.{arith}

@@ -1,4 +1,4 @@
--- `missing_of` meets its contract.
+-- `missing_of` satisfies its contract.
 use borrow.Author.Needs.{needs}
 use Rattle.decode.specs.Layout.{missing-of}
 use Rattle.decode.proofs.missing_of.Statement.{statement}

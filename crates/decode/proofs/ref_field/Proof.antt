@@ -1,4 +1,4 @@
--- `ref-field` meets its contract: the address, and then the test for null.
+-- `ref_field` satisfies its contract: the address, then the check that it is not 0.
 use borrow.Author.Needs.{needs}
 use borrow.Author.Tests.{eq-eqb, ne-eqb}
 use mathlib.Core.Path.{_≡_, sym, ap, _∙_}
@@ -8,6 +8,7 @@ use Rattle.decode.specs.Fields.{outcome, address, ref-field}
 use Rattle.decode.proofs.ref_field.Statement.{statement}
 use Rattle.decode.proofs.ref_field.Tie as tie
 
+-- The address was read.
 got : (c : tie.After-a) → let a = c .before .before .before .before .args in
     run (address (a .n) (a .base) (a .highest)) (a .s .now) (a .at) ≡ whole (c .a .given .0 .0) (c .a .given .0 .1 .0)
 got c = sym (c .before .before .address .ensures) ∙ ap outcome (c .a .given .1)

@@ -1,4 +1,4 @@
--- `reply_of` meets its contract.
+-- `reply_of` satisfies its contract.
 use borrow.Author.Needs.{needs}
 use Rattle.decode.specs.Layout.{reply-of}
 use Rattle.decode.proofs.reply_of.Statement.{statement}

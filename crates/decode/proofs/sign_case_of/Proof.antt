@@ -1,4 +1,4 @@
--- `sign_case_of` meets its contract: the sign is split off, and no sum in it wraps.
+-- `sign_case_of` satisfies its contract: each branch returns the case of its sign, and no operation wraps.
 use mathlib.Core.Path.{_≡_, sym, ap, subst, _∙_}
 use Prim.Native.Nat.{ℕ}
 use native.Mathlib.Omega.{arith}
@@ -12,7 +12,7 @@ use Rattle.decode.proofs.DecodeLaws.{negative-is-negsuc, nonneg-is-pos,
 use Rattle.decode.proofs.sign_case_of.Statement.{statement}
 use Rattle.decode.proofs.sign_case_of.Tie as tie
 
--- a gap below 0
+-- A negative gap.
 module _ (c : tie.Then1) where
   abbrev same : toZ w64 (ofZ w64 (c .before .args .gap)) ≡ c .before .args .gap
   same = toZ-ofZ {w = w64} (c .before .fits .gap)
@@ -35,7 +35,7 @@ down-again c = toZ-ofZ {w = w64} (sub-t4 c) ∙ down c
 cast-t5 : tie.Need-cast-t5
 cast-t5 c = let f = fit c .sfits in rw (down-again c) (tt, omega arith)
 
--- any other gap
+-- A gap of at least 0.
 module _ (c : tie.Else1) where
   abbrev up : (n : ℕ) × (c .before .args .gap ≡ pos n)
   up = nonneg-is-pos (c .before .args .gap) (ap (λ (z : ℤ). ltZ z (pos 0)) (sym (toZ-ofZ {w = w64} (c .before .fits .gap))) ∙ c .if1 .left)

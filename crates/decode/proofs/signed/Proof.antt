@@ -1,4 +1,4 @@
--- `signed` meets its contract: below half, the number itself; from half on, as far below 0 as it is below 256 ^ n.
+-- `signed` satisfies its contract: below half of 256 ^ n the result is the value itself, else the value minus 256 ^ n.
 use borrow.Author.Needs.{needs}
 use mathlib.Core.Path.{_≡_, sym, ap, _∙_}
 use Prim.Native.Nat.{ℕ, suc, _-_, _^_, _<_}
@@ -11,7 +11,7 @@ use Rattle.decode.proofs.DecodeLaws.{bytes-le-u64, neg-one-sub, signed-
 use Rattle.decode.proofs.signed.Statement.{statement}
 use Rattle.decode.proofs.signed.Tie as tie
 
--- no bytes hold 0
+-- With no bytes the value is 0.
 returns : tie.Need-returns
 returns c =
     let a = c .before .args in
@@ -34,7 +34,7 @@ sub-below-2 c = search needs
 cast-result-2 : tie.Need-cast-result-2
 cast-result-2 c = omega (arith, bytes-le-u64 (c .before .before .before .args .n) (omega arith))
 
--- the bits below the sign, taken from -1
+-- The complement of the bits below the sign bit: the result is -1 minus this.
 abbrev G : tie.Else2 → ℕ
 G c = c .before .half-of .result - 1 - (c .before .before .before .args .raw - c .before .half-of .result)
 

@@ -1,4 +1,4 @@
--- `string` meets its contract: the length, its test, the bytes there or lacking, and their test.
+-- `string` satisfies its contract: the length, its check, the bytes or a cut, and their check.
 use borrow.Author.Needs.{needs}
 use borrow.Author.Tests.{le-leb, lt-leb}
 use mathlib.Core.Path.{_≡_, sym, ap, _∙_}
@@ -11,11 +11,12 @@ use Rattle.decode.proofs.string.Statement.{statement}
 use Rattle.decode.proofs.string.Tie as tie
 
 module _ (c : tie.After-len) where
+  -- The length was read.
   got : let a = c .before .before .before .before .args in
       run (field 2) (a .s .now) (a .at) ≡ whole (c .len .given .0 .0) (c .len .given .0 .1 .0)
   got = sym (c .before .before .field .ensures .0) ∙ ap outcome (c .len .given .1)
 
-  -- the place of the bytes lies within the dump
+  -- The bytes begin within the dump.
   placed : let a = c .before .before .before .before .args in c .len .given .0 .1 .0 ≤ length (a .s .now)
   placed = let a = c .before .before .before .before .args in end-in-bounds (field 2) (a .s .now) (a .at) _ _ (omega arith) got
 
@@ -51,7 +52,7 @@ all-within-requires c κs = let p = placed (c .before .before .before) in omega 
 add-t19 : tie.Need-add-t19
 add-t19 c = search needs
 
--- the bytes are there
+-- All bytes of the string are present.
 enough : (c : tie.After-all-within) → let w = c .before .before .before .before in let a = w .before .before .before .before .args in
     w .len .given .0 .1 .0 + w .len .given .0 .0 ≤ length (a .s .now)
 enough c = let p = placed (c .before .before .before .before) in omega arith

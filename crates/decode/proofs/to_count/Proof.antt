@@ -1,4 +1,4 @@
--- `counted` meets its contract.
+-- `to_count` satisfies its contract.
 use borrow.Author.Needs.{needs}
 use borrow.Author.Tests.{lt-ltb, le-ltb}
 use mathlib.Core.Path.{_≡_, sym, ap, _∙_}
@@ -9,7 +9,7 @@ use Rattle.decode.proofs.DecodeLaws.{to-count-nonneg, to-count-negsuc}
 use Rattle.decode.proofs.to_count.Statement.{statement}
 use Rattle.decode.proofs.to_count.Tie as tie
 
--- the number's sign, as it was found
+-- The sign case of the number is the one that `sign_case_of` returned.
 signs : (c : tie.After-sign-case-of) → sign-case (c .before .args .c) ≡ c .sign-case-of .result
 signs c = ap sign-case (sym (toZ-ofZ {w = w64} (c .before .fits .c))) ∙ sym (c .sign-case-of .ensures)
 

@@ -1,4 +1,4 @@
--- `be_u32` meets its contract: four digits, one after the other.
+-- `be_u32` satisfies its contract: four digits, one after the other.
 use borrow.Author.Needs.{needs}
 use Prim.Native.Nat.{ℕ, _+_, _*_, _^_, _<_}
 use native.Mathlib.Omega.{arith}
@@ -6,7 +6,7 @@ use Rattle.decode_fast.proofs.FastLaws.{value-four-bytes}
 use Rattle.decode_fast.proofs.be_u32.Statement.{statement}
 use Rattle.decode_fast.proofs.be_u32.Tie as tie
 
--- the bytes so far, and that their value is small
+-- The value of the bytes so far, and its bound.
 abbrev sum2 : tie.After-wide2 → ℕ
 sum2 c = c .before .before .wide .result * 256 + c .wide2 .result
 

@@ -1,4 +1,4 @@
--- `be_u64` meets its contract: four digits more.
+-- `be_u64` satisfies its contract: the value of the first four bytes, and four more digits.
 use borrow.Author.Needs.{needs}
 use Prim.Native.Nat.{ℕ, _+_, _*_, _^_, _<_}
 use native.Mathlib.Omega.{arith}
@@ -6,7 +6,7 @@ use Rattle.decode_fast.proofs.FastLaws.{value-eight-bytes}
 use Rattle.decode_fast.proofs.be_u64.Statement.{statement}
 use Rattle.decode_fast.proofs.be_u64.Tie as tie
 
--- the bytes so far, and that their value is small
+-- The value of the bytes so far, and its bound.
 abbrev sum : tie.After-wide → ℕ
 sum c = c .before .before .be-u32 .result * 256 + c .wide .result
 

@@ -1,4 +1,4 @@
--- `be_upto2` meets its contract: two digits, and a shift takes off those that are not asked for.
+-- `be_upto2` satisfies its contract: two digits, and a right shift that drops those after the first n.
 use borrow.Author.Needs.{needs}
 use mathlib.Core.Path.{_≡_, refl}
 use Prim.Native.Nat.{ℕ, _+_, _*_, _<_}
@@ -9,7 +9,7 @@ use Rattle.decode_fast.proofs.FastLaws.{value-two-bytes, value-lt, valu
 use Rattle.decode_fast.proofs.be_upto2.Statement.{statement}
 use Rattle.decode_fast.proofs.be_upto2.Tie as tie
 
--- a byte is small
+-- A byte is below 256.
 small : (c : tie.After-wide) → c .wide .result < 256
 small c = omega (arith, c .before .shared-slice-known2 .given (c .before .before .before .args .at))
 

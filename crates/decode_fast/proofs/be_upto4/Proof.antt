@@ -1,4 +1,4 @@
--- `be_upto4` meets its contract: a shift takes off the digits that are not asked for.
+-- `be_upto4` satisfies its contract: a right shift drops the bytes after the first n.
 use borrow.Author.Needs.{needs}
 use mathlib.Core.Path.{refl}
 use Prim.Native.Nat.{ℕ, _<_}

@@ -1,4 +1,4 @@
--- `placed` meets its contract: from the lowest address that w bytes can say, as far up as their value is above the lowest.
+-- `read_ref_unchecked` satisfies its contract: the lowest address in reach, plus 4 times the biased value, is the target.
 use borrow.Author.Needs.{needs}
 use mathlib.Core.Path.{_≡_}
 use Prim.Native.Nat.{_+_, _-_, _*_, _/_, _^_, _<_}
@@ -10,9 +10,11 @@ use Rattle.decode_fast.proofs.FastLaws.{gap-reach-shift, biased, biased
 use Rattle.decode_fast.proofs.read_ref_unchecked.Statement.{statement}
 use Rattle.decode_fast.proofs.read_ref_unchecked.Tie as tie
 
+-- The shifted constant is the reach of w bytes.
 far-is : (c : tie.After-be-u32) → let w = c .before .before .args .w in 0x200000000 / 2 ^ (32 - 8 * w) ≡ gap-reach w
 far-is c = let z = c .before .before in gap-reach-shift 4 (z .args .w) (z .pre .1)
 
+-- 4 times the biased value is less than twice the reach, so the sum does not wrap.
 up : (c : tie.After-be-u32) → let w = c .before .before .args .w in 4 * biased 4 w (c .be-u32 .result) < gap-reach w + gap-reach w
 up c =
     let z = c .before .before in

@@ -1,4 +1,4 @@
--- `clear` meets its contract: the shift is how far w bytes reach.
+-- `refs_in_range` satisfies its contract: the shifted constant is the reach of w bytes.
 use borrow.Author.Needs.{needs}
 use native.Mathlib.Omega.{arith}
 use Rattle.decode_fast.proofs.FastLaws.{gap-reach-shift, refs-in-range-wide, refs-in-range-small, refs-in-range-test}

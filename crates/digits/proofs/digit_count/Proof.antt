@@ -1,4 +1,4 @@
--- `digit-count` meets its contract: the digits counted and those of what is left are one more than the number's.
+-- `digit_count` satisfies its contract: the invariant is that the count so far and the digits left are one more than all digits.
 use borrow.Author.Needs.{needs}
 use mathlib.Core.Path.{_≡_}
 use Prim.Native.Nat.{_+_}

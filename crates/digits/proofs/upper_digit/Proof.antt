@@ -1,4 +1,4 @@
--- `upper_digit` meets its contract: the capitals stand 55 above their digits.
+-- `upper_digit` satisfies its contract: the code of an upper-case letter is its digit plus 55.
 use borrow.Author.Needs.{needs}
 use mathlib.Core.Path.{sym}
 use native.Mathlib.Omega.{arith}

@@ -1,4 +1,4 @@
--- `write_decimal` meets its contract: as many digits are put as the number has.
+-- `write_decimal` satisfies its contract: it writes as many digits as the number has.
 use borrow.Author.Needs.{needs}
 use native.Mathlib.Omega.{arith}
 use Rattle.digits.proofs.DigitLaws.{decimal-upper-digits}

@@ -1,4 +1,4 @@
--- `write_digits` meets its contract: storing the digits that are left, from the first on, is storing all of them.
+-- `write_digits` satisfies its contract: the invariant is that writing the digits left gives the output with all k digits.
 use borrow.Author.Needs.{needs}
 use mathlib.Core.Path.{_≡_, refl, sym, _∙_}
 use Prim.Native.Nat.{_+_, _≤_}

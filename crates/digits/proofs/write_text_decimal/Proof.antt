@@ -1,4 +1,4 @@
--- `write_text_decimal` meets its contract: the number is put after the text.
+-- `write_text_decimal` satisfies its contract: the number is written after the text.
 use borrow.Author.Needs.{needs}
 use Rattle.encode.specs.Writes.{writes-then, capacity-after, capacity-first}
 use Rattle.digits.specs.Digits.{decimal}

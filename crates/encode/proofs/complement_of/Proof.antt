@@ -1,4 +1,4 @@
--- `complement_of` meets its contract: a distance down is taken from the greatest word.
+-- `complement_of` satisfies its contract: a distance down is subtracted from 2^64 - 1.
 use borrow.Author.Needs.{needs}
 use native.Mathlib.Omega.{arith}
 use Rattle.encode.specs.Encode.{twos-complement}

@@ -1,4 +1,4 @@
--- `distance` meets its contract: the test of the code is that of the definition.
+-- `distance` satisfies its contract: the test of the code is the test of the definition.
 use borrow.Author.Tests.{le-leb, lt-leb}
 use borrow.Author.Needs.{needs}
 use Rattle.encode.specs.Encode.{gap}

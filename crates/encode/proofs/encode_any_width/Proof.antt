@@ -1,4 +1,5 @@
--- `encode_any_width` meets its contract: storing the bytes that are left, from the first on, is storing all of them.
+-- `encode_any_width` satisfies its contract: the invariant is that storing the bytes that are left gives the same output as
+-- storing all of them.
 use borrow.Author.Needs.{needs}
 use mathlib.Core.Path.{_≡_, refl, sym, _∙_}
 use Prim.Native.Nat.{_+_, _≤_}

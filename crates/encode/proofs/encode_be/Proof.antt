@@ -1,4 +1,4 @@
--- `push` meets its contract: a number's lowest n bytes are n bytes.
+-- `encode_be` satisfies its contract: the lowest n bytes of a number are n bytes, so the next offset is `at + n`.
 use borrow.Author.Needs.{needs}
 use native.Mathlib.Omega.{arith}
 use Rattle.encode.specs.NumberRoundTrip.{length-be}

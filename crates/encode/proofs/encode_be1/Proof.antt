@@ -1,4 +1,4 @@
--- `encode_be1` meets its contract.
+-- `encode_be1` satisfies its contract.
 use borrow.Author.Needs.{needs}
 use mathlib.Core.Path.{refl}
 use Rattle.encode.specs.Encode.{be}

@@ -1,4 +1,4 @@
--- `encode_be2` meets its contract: the bytes of a number are the highest, then the others.
+-- `encode_be2` satisfies its contract: the lowest two bytes of a number are the higher one and then the lower one.
 use borrow.Author.Needs.{needs}
 use mathlib.Core.Path.{refl}
 use mathlib.Core.List.{[], _∷_}

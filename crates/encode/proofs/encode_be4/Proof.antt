@@ -1,4 +1,4 @@
--- `encode_be4` meets its contract: the bytes of a number are the highest, then the others.
+-- `encode_be4` satisfies its contract: the lowest four bytes of a number are the higher two and then the lower two.
 use borrow.Author.Needs.{needs}
 use mathlib.Core.Path.{refl}
 use mathlib.Core.List.{[], _∷_}

@@ -1,4 +1,4 @@
--- `encode_by_width` meets its contract: each width is written as it is asked.
+-- `encode_by_width` satisfies its contract: each branch writes as many bytes as its test states.
 use borrow.Author.Needs.{needs}
 use mathlib.Core.Path.{_≡_, refl}
 use mathlib.Core.List.{[], _∷_}
@@ -11,7 +11,7 @@ use Rattle.encode.specs.WriteProgress.{WriteProgress, progress-start, ne
 use Rattle.encode.proofs.encode_by_width.Statement.{statement}
 use Rattle.encode.proofs.encode_by_width.Tie as tie
 
--- eight bytes: the highest four, and the others
+-- The progress of a write of eight bytes: none are written, or the higher four.
 abbrev none : tie.Then5 → WriteProgress
 none c =
     let s = c .before .before .before .before .before in

@@ -1,4 +1,4 @@
--- `encode_bytes` meets its contract: the part that is all of the bytes is written.
+-- `encode_bytes` satisfies its contract: the slice that is written is all of the bytes.
 use borrow.Author.Needs.{needs}
 use native.Mathlib.Omega.{arith}
 use lib.Seq.{take-length}

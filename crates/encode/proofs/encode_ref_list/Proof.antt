@@ -1,4 +1,5 @@
--- `put_links` meets its contract: writing the references that are left, from here, is writing all of them.
+-- `encode_ref_list` satisfies its contract: the invariant is that writing the references that are left from here writes all of
+-- them.
 use borrow.Author.Needs.{needs}
 use mathlib.Core.Path.{_≡_}
 use mathlib.Core.List.{List, _++_}
@@ -22,7 +23,7 @@ abbrev μ-loop : tie.MeasureT-loop
 abbrev start : tie.In-loop Inv-loop μ-loop → tie.Start Inv-loop μ-loop
 start c = c .before .before .before .before
 
--- what is left: the next reference and those after it
+-- The bytes that are left: those of the next reference, and those of the references after it.
 abbrev one : tie.In-loop Inv-loop μ-loop → List ℕ
 one c = let a = start c .args in be (a .w) (twos-complement (gap (a .a) (getD (a .refs .now) (a .first + c .before .loop .i) 0)))
 

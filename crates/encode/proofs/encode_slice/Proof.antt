@@ -1,4 +1,4 @@
--- `encode_slice` meets its contract: writing the bytes that are left, from here, is writing all of them.
+-- `encode_slice` satisfies its contract: the invariant is that writing the bytes that are left from here writes all of them.
 use borrow.Author.Needs.{needs}
 use mathlib.Core.Path.{_≡_, refl}
 use mathlib.Core.List.{[], _∷_}

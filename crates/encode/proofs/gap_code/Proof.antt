@@ -1,4 +1,4 @@
--- `gap_code` meets its contract: the code of a gap is that of its distance.
+-- `gap_code` satisfies its contract: the width code of a gap is that of its distance.
 use borrow.Author.Needs.{needs}
 use mathlib.Core.Path.{sym, _∙_}
 use Rattle.encode.proofs.EncodeLaws.{code-gap}

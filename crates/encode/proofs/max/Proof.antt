@@ -1,4 +1,4 @@
--- `max` meets its contract: the test of the code is the test of the definition.
+-- `max` satisfies its contract: the test of the code is the test of the definition.
 use borrow.Author.Tests.{le-leb, lt-leb}
 use Rattle.encode.proofs.max.Statement.{statement}
 use Rattle.encode.proofs.max.Tie as tie

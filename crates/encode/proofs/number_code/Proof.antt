@@ -1,4 +1,5 @@
--- `number_code` meets its contract: a number's code is how many codes have widths that do not hold it.
+-- `number_code` satisfies its contract: the width code of a number is how many of the codes 0, 1 and 2 have a width that does not
+-- hold it.
 use borrow.Author.Needs.{needs}
 use mathlib.Core.Path.{_≡_, refl, _∙_}
 use mathlib.Core.Bool.{cond}
@@ -10,7 +11,7 @@ use Rattle.encode.proofs.EncodeLaws.{half-le-fits}
 use Rattle.encode.proofs.number_code.Statement.{statement}
 use Rattle.encode.proofs.number_code.Tie as tie
 
--- each choice is 1 where the width of its code does not hold the number
+-- Each choice is 1 if the width of its code does not hold the number, else 0.
 byte : (c : tie.After-choice) → c .choice .result ≡ cond (fits 1 (pos (c .before .args .m))) 0 1
 byte c = c .choice .ensures ∙ half-le-fits 1 _ _ refl
 

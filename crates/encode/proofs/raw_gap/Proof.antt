@@ -1,4 +1,4 @@
--- `raw_gap` meets its contract: the distance, up or down.
+-- `raw_gap` satisfies its contract: a gap is its distance, up or down.
 use borrow.Author.Needs.{needs}
 use Rattle.encode.proofs.raw_gap.Statement.{statement}
 use Rattle.encode.proofs.raw_gap.Tie as tie

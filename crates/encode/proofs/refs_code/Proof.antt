@@ -1,5 +1,5 @@
--- `refs-code` meets its contract: the widest of those left, from the code of the greatest distance
--- on, is the widest of all.
+-- `refs_code` satisfies its contract: the invariant is that the width code of the references left, starting from that of the
+-- greatest distance so far, is the width code of all references.
 use borrow.Author.Needs.{needs}
 use mathlib.Core.Path.{_≡_, sym, _∙_}
 use Prim.Native.Nat.{_+_, _-_, _≤_}

@@ -1,4 +1,4 @@
--- `answer_numbers` meets its contract.
+-- `answer_numbers` satisfies its contract.
 use mathlib.Core.Path.{refl}
 use Rattle.phd_c.specs.Boundary.{answer-numbers}
 use Rattle.phd_c.proofs.answer_numbers.Statement.{statement}

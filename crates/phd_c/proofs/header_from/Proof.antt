@@ -1,4 +1,4 @@
--- `header_from` meets its contract: a flag's test in the code is that of the definition.
+-- `header_from` satisfies its contract: the test of a flag in the code is the test of the definition.
 use borrow.Author.Needs.{needs}
 use mathlib.Core.Path.{_≡_, refl}
 use mathlib.Core.Bool.{not}
@@ -10,7 +10,7 @@ use Rattle.phd_c.specs.Boundary.{header-from}
 use Rattle.phd_c.proofs.header_from.Statement.{statement}
 use Rattle.phd_c.proofs.header_from.Tie as tie
 
--- a number is not 0 where it is above 0
+-- A number is not 0 exactly if it is above 0.
 set-above : (n : ℕ) → not (eqb n 0) ≡ ltb 0 n
 set-above zero = refl
 set-above (suc n) = rw (ne-eqb (suc n) 0 (λ e. omega arith), lt-ltb 0 (suc n) (omega arith))

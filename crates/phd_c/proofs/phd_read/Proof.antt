@@ -1,4 +1,4 @@
--- `phd_read` meets its contract: the answer, the tables and the facts are those of `read`.
+-- `phd_read` satisfies its contract: the reply, the tables and the answer are those of `read`.
 use borrow.Author.Needs.{needs}
 use mathlib.Core.Path.{refl}
 use Rattle.phd_read.specs.ReadContract.{read-answer}

@@ -1,4 +1,5 @@
--- `phd_write` meets its contract: the answer, the bytes and the facts are those of `write`, called with the header that the numbers say.
+-- `phd_write` satisfies its contract: the reply, the bytes and the answer are those of `write`, called with the header that the
+-- numbers give.
 use borrow.Author.Needs.{needs}
 use mathlib.Core.Path.{refl}
 use Rattle.phd_c.proofs.phd_write.Statement.{statement}

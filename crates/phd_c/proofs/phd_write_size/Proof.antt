@@ -1,4 +1,5 @@
--- `phd_write_size` meets its contract: the answer and the facts are those of `write_size`, called with the header that the numbers say.
+-- `phd_write_size` satisfies its contract: the reply and the answer are those of `write_size`, called with the header that the
+-- numbers give.
 use borrow.Author.Needs.{needs}
 use mathlib.Core.Path.{refl}
 use Rattle.phd_c.proofs.phd_write_size.Statement.{statement}

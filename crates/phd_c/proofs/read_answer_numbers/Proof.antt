@@ -1,4 +1,4 @@
--- `read_answer_numbers` meets its contract: each flag is the number that `flag` gives.
+-- `read_answer_numbers` satisfies its contract: each flag is the number that `flag` returns.
 use borrow.Author.Needs.{needs}
 use Rattle.phd_c.specs.Boundary.{read-answer-numbers}
 use Rattle.phd_c.proofs.read_answer_numbers.Statement.{statement}

@@ -1,4 +1,4 @@
--- `check` meets its contract: the header, then the rows.
+-- `check` satisfies its contract: it checks the header, then the rows.
 use borrow.Author.Needs.{needs}
 use mathlib.Core.Path.{_≡_, sym, _∙_}
 use mathlib.Core.Bool.{true}
@@ -9,7 +9,7 @@ use Rattle.phd_check.specs.WellFormed.{header-bits-good}
 use Rattle.phd_check.proofs.check.Statement.{statement}
 use Rattle.phd_check.proofs.check.Tie as tie
 
--- the header was found good
+-- The header is good.
 good : (c : tie.Then1) → let a = c .before .before .before .before .before .args in good-header (a .header) (a .names .now) (rows-of (a .rows .now)) (a .refs .now) ≡ true
 good c = sym (c .before .header-good .ensures) ∙ c .if1 .taken
 

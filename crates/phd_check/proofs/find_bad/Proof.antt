@@ -1,4 +1,5 @@
--- `find_bad` meets its contract: what is left of the rows, of a row's references and of its name, from here, says what the whole says.
+-- `find_bad` satisfies its contract: the invariant of each loop is that the rows, references or name bytes that are left give the
+-- result of all of them.
 use mathlib.Core.Path.{_≡_, sym, ap, _∙_}
 use mathlib.Core.Bool.{true, false}
 use mathlib.Core.Logic.{⊎-elim}
@@ -38,19 +39,21 @@ Inv-rows header names refs rows n top index₀ i₀ index i =
 abbrev μ-rows : tie.MeasureT-rows
 μ-rows header names refs rows n top index₀ i₀ index i = n - i
 
--- back to the head of the outer loop, and to the function's entry
+-- The head of the outer loop.
 abbrev head : tie.Else1 Inv-loop μ-loop Inv-loop2 μ-loop2 Inv-rows μ-rows → tie.At-rows Inv-loop μ-loop Inv-loop2 μ-loop2 Inv-rows μ-rows
 head c = c .before .before .before .before
 
+-- The function's entry.
 abbrev start : tie.At-rows Inv-loop μ-loop Inv-loop2 μ-loop2 Inv-rows μ-rows → tie.Start Inv-loop μ-loop Inv-loop2 μ-loop2 Inv-rows μ-rows
 start w = w .before .before .before .before .before
 
--- a row whose numbers are good lies in the tables
+-- After the first test, the numbers of the row are good.
 numbers-good : (c : tie.Else1 Inv-loop μ-loop Inv-loop2 μ-loop2 Inv-rows μ-rows)
     → let a = start (head c) .args in
     good-numbers (a .header) (head c .rows .index) (length (a .refs .now)) (length (a .names .now)) (c .before .before .row-at .result) ≡ true
 numbers-good c = sym (c .before .numbers-good .ensures) ∙ not-false _ (c .if1 .left)
 
+-- The references and the name of the row lie within their tables.
 name-bound : (c : tie.Else1 Inv-loop μ-loop Inv-loop2 μ-loop2 Inv-rows μ-rows)
     → let a = start (head c) .args in SpansInBounds (a .names .now) (a .refs .now) (c .before .before .row-at .result)
 name-bound c =
@@ -123,7 +126,7 @@ loop2-again c =
     let l = c .before .before .before .before in
     (omega arith, omega arith, sym (name-bytes-next _ (l .loop2 .k) _ (omega arith) (omega arith) (c .if3 .left)) ∙ l .loop2 .inv .2)
 
--- from the end of a row's checks back to where its numbers were found good
+-- The point after the test of the row's numbers, from the end of its checks.
 abbrev good-from : tie.After-struct-known3 Inv-loop μ-loop Inv-loop2 μ-loop2 Inv-rows μ-rows → tie.Else1 Inv-loop μ-loop Inv-loop2 μ-loop2 Inv-rows μ-rows
 good-from c = c .before .before .before .before .before .before .before
 
@@ -139,7 +142,7 @@ add-i c = omega (arith, start (head (good-from c)) .good .1 .1 .1 .0)
 rows-less : tie.Need-rows-less Inv-loop μ-loop Inv-loop2 μ-loop2 Inv-rows μ-rows
 rows-less c = search needs
 
--- a row that was passed is good
+-- A row that passed all checks is good.
 row-checked : (c : tie.After-struct-known3 Inv-loop μ-loop Inv-loop2 μ-loop2 Inv-rows μ-rows)
     → let w = head (good-from c) in
     let a = start w .args in
@@ -167,7 +170,7 @@ rows-again c =
     let l = first-bad-later (a .header) (a .names .now) (a .refs .now) (a .rows .now) (w .rows .i) (w .rows .index) (omega arith) (row-checked c) in
     (omega arith, rw (d .before .before .row-at .ensures) (sym l ∙ w .rows .inv .1))
 
--- the row at which the loop was left before its end is bad: by each of the three ways out
+-- If the loop ended early, the row at which it ended is bad: by its numbers, a reference or a name byte.
 left-at : (c : tie.Left-rows Inv-loop μ-loop Inv-loop2 μ-loop2 Inv-rows μ-rows)
     → let w = c .before in
     let a = start w .args in
@@ -184,7 +187,7 @@ left-at c more =
     (λ o. rw (← o .1 .ensures) (all-true-false _ 2 (sym (o .8 .inv .2) ∙ name-bytes-false _ (o .8 .k) _ (omega arith) (omega arith) (o .12 .taken))))))
     (c .rows-test .came)
 
--- the row returned is the one at which the loop was left
+-- The row returned is the one at which the loop ended.
 returns : tie.Need-returns Inv-loop μ-loop Inv-loop2 μ-loop2 Inv-rows μ-rows
 unfolding row-count
 returns c =

@@ -1,4 +1,4 @@
--- `header_good` meets its contract: its tests, joined.
+-- `header_good` satisfies its contract: it is the conjunction of its tests.
 use lib.Dec.{eqb}
 use borrow.Author.Needs.{needs}
 use Rattle.table.specs.Table.{row-count}

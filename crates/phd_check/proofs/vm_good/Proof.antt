@@ -1,4 +1,4 @@
--- `vm_good` meets its contract: there is none, or its tests hold one by one.
+-- `vm_good` satisfies its contract: without a VM string it is true, else it makes the tests of `good-vm` in order.
 use native.Mathlib.Omega.{arith}
 use borrow.Author.Needs.{needs}
 use Rattle.phd_check.specs.GoodRows.{good-vm}

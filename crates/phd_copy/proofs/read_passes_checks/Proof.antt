@@ -1,4 +1,5 @@
--- `read_passes_checks` meets its contract: what a call of `read` filled passes every check, since a dump is bytes.
+-- `read_passes_checks` satisfies its contract: the tables that `read` filled pass every check, because each number of a dump is
+-- below 256.
 use borrow.Author.Needs.{needs}
 use native.Mathlib.Omega.{arith}
 use Rattle.decode.specs.ByteValues.{AllBytes}

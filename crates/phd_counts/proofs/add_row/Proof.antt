@@ -1,4 +1,4 @@
--- `counted` meets its contract: what is added to a count is 0 or 1, and references and nulls are few.
+-- `add_row` satisfies its contract: 0 or 1 is added to each count of a kind, and `NoOverflow` bounds the references and nulls.
 use borrow.Author.Needs.{needs}
 use native.Mathlib.Omega.{arith}
 use Rattle.decode.specs.Values.{bit-le-one}
@@ -7,7 +7,7 @@ use Rattle.phd_counts.specs.CountLoop.{add-row-is}
 use Rattle.phd_counts.proofs.add_row.Statement.{statement}
 use Rattle.phd_counts.proofs.add_row.Tie as tie
 
--- the calls before, from each call of `choice`
+-- The point after the previous call, seen from after each call of `choice`; `begin` is after the first call, of `row_nulls`.
 abbrev first : tie.After-choice → tie.After-row-nulls
 first c = c .before .before
 

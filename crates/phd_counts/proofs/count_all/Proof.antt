@@ -1,4 +1,5 @@
--- `count_all` meets its contract: what is counted, and what the rows that are left add to it, is the sum over all.
+-- `count_all` satisfies its contract: the invariant is that each count so far, plus what the remaining rows add to it, is the sum
+-- over all rows.
 use borrow.Author.Needs.{needs}
 use Prim.Native.Nat.{_-_}
 use Rattle.table.specs.Table.{row-count}

@@ -1,4 +1,4 @@
--- `nulls` meets its contract: only an object array has nulls, and where its count is not below its length the difference is 0.
+-- `row_nulls` satisfies its contract: only an object array has nulls, and if its length is below its count the difference is 0.
 use native.Mathlib.Omega.{arith}
 use borrow.Author.Tests.{eq-eqb, ne-eqb}
 use Rattle.phd_counts.specs.Counts.{nulls-of}

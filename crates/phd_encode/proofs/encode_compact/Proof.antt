@@ -1,4 +1,4 @@
--- `encode_compact` meets its contract: the tag, the gap, the class word, the hash and the references, one after the other.
+-- `encode_compact` satisfies its contract: it writes the tag, the gap, the class word, the hash and the references in order.
 use borrow.Author.Needs.{needs}
 use mathlib.Core.Path.{refl}
 use Rattle.encode.specs.WriteProgress.{WriteProgress, progress-start, next-part-fits, progress-next, progress-next-eq, progress-done}
@@ -10,7 +10,7 @@ use Rattle.phd_encode.proofs.encode_compact.Tie as tie
 abbrev start : tie.After-hash-bytes-of → tie.Start
 start c = c .before .before .before .before .before
 
--- what is left before the tag, and after each field
+-- The progress before the tag and after each field.
 abbrev none : tie.After-hash-bytes-of → WriteProgress
 none c =
     let a = start c .args in

@@ -1,4 +1,4 @@
--- `encode_record` meets its contract: a lean record by `encode_compact`, another by its parts, one after the other.
+-- `encode_record` satisfies its contract: `encode_compact` writes a compact record; any other is written part by part, in order.
 use borrow.Author.Needs.{needs}
 use mathlib.Core.Path.{_≡_, refl}
 use mathlib.Core.List.{List, [], _∷_}
@@ -16,11 +16,12 @@ abbrev parts : ℕ → Plan → Row → (refs name : List ℕ) → List (List �
 parts before p r refs name =
     encode-tag p ∷ encode-front before (p .shape) r ∷ encode-middle (p .shape) r ∷ encode-name (p .shape) r name ∷ encode-refs (p .shape) r refs ∷ encode-tail (p .shape) r ∷ []
 
+-- The record is these parts, joined.
 in-parts : (before : ℕ) (p : Plan) (r : Row) (refs name : List ℕ) → encode-planned before p r refs name ≡ join (parts before p r refs name)
 unfolding encode-planned encode-fields
 in-parts before p r refs name = refl
 
--- what is left at the entry, and after each call
+-- The progress at the entry and after each call.
 abbrev none : tie.Start → WriteProgress
 none c =
     let a = c .args in

@@ -1,4 +1,4 @@
--- `is_compact` meets its contract: its tests, joined.
+-- `is_compact` satisfies its contract: it is the conjunction of its tests.
 use Rattle.phd_encode.proofs.CompactRecord.{compact-of-tests}
 use Rattle.phd_encode.proofs.is_compact.Statement.{statement}
 use Rattle.phd_encode.proofs.is_compact.Tie as tie

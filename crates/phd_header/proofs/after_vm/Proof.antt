@@ -1,4 +1,4 @@
--- `after_vm` meets its contract: the tag, and then its two tests.
+-- `after_vm` satisfies its contract: the tag is read, then its two checks are made.
 use borrow.Author.Needs.{needs}
 use borrow.Author.Tests.{eq-eqb, ne-eqb}
 use mathlib.Core.Path.{_≡_, sym, ap, _∙_}

@@ -1,4 +1,4 @@
--- `word_of` meets its contract, by the flag.
+-- `bits_of` satisfies its contract, whether the flag is set or not.
 use borrow.Author.Needs.{needs}
 use Rattle.phd_header.proofs.bits_of.Statement.{statement}
 use Rattle.phd_header.proofs.bits_of.Tie as tie

@@ -1,4 +1,4 @@
--- `header_records` meets its contract: the tag; behind the tag 4 the VM string and the byte after it.
+-- `header_records` satisfies its contract: the tag is read, and after tag 4 the VM string and the tag that follows it.
 use borrow.Author.Needs.{needs}
 use borrow.Author.Tests.{eq-eqb, ne-eqb}
 use mathlib.Core.Path.{_≡_, sym, ap, _∙_}
@@ -18,7 +18,7 @@ module _ (c : tie.After-x) where
   tag-in : c .x .given .0 .1 .0 ≤ length (c .before .before .before .before .args .s .now)
   tag-in = end-in-bounds (field 1) _ _ _ _ (c .before .before .before .before .pre) tag-got
 
--- the tag before the VM string
+-- The program point after the tag was read, before the VM string.
 abbrev tag-of : tie.After-vm → tie.After-x
 tag-of c = c .before .before .before .before .before .before
 

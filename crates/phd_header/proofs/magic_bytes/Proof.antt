@@ -1,4 +1,4 @@
--- `magic_bytes` meets its contract: the bytes there or lacking, and their test.
+-- `magic_bytes` satisfies its contract: the bytes are cut, or they are present and compared.
 use borrow.Author.Needs.{needs}
 use mathlib.Core.Path.{_≡_}
 use Prim.Native.Nat.{_+_, _-_, _≤_, _<_}
@@ -29,7 +29,7 @@ magic-matches-requires c κs = search needs
 add-t9 : tie.Need-add-t9
 add-t9 c = search needs
 
--- the bytes are there
+-- All 18 bytes are present.
 enough : (c : tie.After-magic-matches) → let a = c .before .before .before .args in a .at + 18 ≤ length (a .s .now)
 enough c = omega arith
 

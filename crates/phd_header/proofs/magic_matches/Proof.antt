@@ -1,4 +1,4 @@
--- `magic_matches` meets its contract: what is left, from here, says what the whole says.
+-- `magic_matches` satisfies its contract: the invariant is that comparing the bytes from i on gives the answer of the whole.
 use borrow.Author.Needs.{needs}
 use mathlib.Core.Path.{_≡_, sym, _∙_}
 use Prim.Native.Nat.{_+_, _-_, _≤_}

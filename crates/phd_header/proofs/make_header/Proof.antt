@@ -1,4 +1,4 @@
--- `make_header` meets its contract, flag by flag.
+-- `make_header` satisfies its contract, flag by flag.
 use borrow.Author.Needs.{needs}
 use Rattle.phd.specs.Phd.{make-header}
 use Rattle.phd_header.proofs.make_header.Statement.{statement}

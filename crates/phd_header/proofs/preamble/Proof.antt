@@ -1,4 +1,4 @@
--- `preamble` meets its contract: each part in turn is read whole, and the next begins within the dump; or reading stops in it.
+-- `preamble` satisfies its contract: each part is read whole and ends within the dump, or reading stops in it.
 use borrow.Author.Needs.{needs}
 use mathlib.Core.Path.{_≡_, sym, ap, _∙_}
 use mathlib.Core.List.{List}
@@ -15,7 +15,7 @@ use Rattle.phd_header.proofs.preamble.Tie as tie
 abbrev dump : tie.After-len → List ℕ
 dump c = c .before .before .before .before .args .s .now
 
--- the part before each
+-- Earlier program points: after the length, after the opening string, after the version.
 abbrev len-of : tie.After-next → tie.After-len
 len-of c = c .before .before .before .before
 

@@ -1,4 +1,4 @@
--- `read_header` meets its contract: the preamble, the header records and the second byte 2, each read whole, or reading stops in it.
+-- `read_header` satisfies its contract: preamble, header records and the start of the body are each read whole, or reading stops.
 use borrow.Author.Needs.{needs}
 use mathlib.Core.Path.{_≡_, sym, ap, _∙_}
 use Prim.Native.Nat.{_≤_}
@@ -17,7 +17,7 @@ module _ (c : tie.After-x) where
   flags-in : c .x .given .0 .1 .0 ≤ length (c .before .before .before .before .args .s .now)
   flags-in = end-in-bounds preamble _ _ _ _ (omega arith) flags-got
 
--- the flags before the VM string
+-- The program point after the flags were read, before the VM string.
 abbrev flags-of : tie.After-vm → tie.After-x
 flags-of c = c .before .before .before .before
 

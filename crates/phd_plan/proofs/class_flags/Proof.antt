@@ -1,4 +1,4 @@
--- `class_flags` meets its contract.
+-- `class_flags` satisfies its contract.
 use borrow.Author.Tests.{eq-eqb, ne-eqb}
 use Rattle.phd_plan.specs.FormChoice.{class-flags}
 use Rattle.phd_plan.proofs.class_flags.Statement.{statement}

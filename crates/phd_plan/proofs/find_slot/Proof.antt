@@ -1,4 +1,4 @@
--- `find_slot` meets its contract: each choice is one of the definition.
+-- `find_slot` satisfies its contract: each choice of the code is a choice of the definition.
 use borrow.Author.Needs.{needs}
 use Rattle.phd_plan.specs.FormChoice.{find-slot}
 use Rattle.phd_plan.proofs.find_slot.Statement.{statement}

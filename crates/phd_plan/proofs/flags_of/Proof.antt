@@ -1,4 +1,4 @@
--- `flags_of` meets its contract: each arm is a line of the definition.
+-- `flags_of` satisfies its contract: each match arm is a line of the definition.
 use borrow.Author.Needs.{needs}
 use borrow.Author.Tests.{eq-eqb, ne-eqb}
 use mathlib.Core.Bool.{Bool, true, false, cond}
@@ -9,7 +9,7 @@ use Rattle.phd_plan.specs.FormChoice.{hash-flags, class-flags, flags-of}
 use Rattle.phd_plan.proofs.flags_of.Statement.{statement}
 use Rattle.phd_plan.proofs.flags_of.Tie as tie
 
--- the bits of a hash kind are few
+-- The flag bits for a hash kind are at most 3, those of a class at most 8.
 hash-most : (k : ℕ) → hash-flags k ≤ 3
 unfolding hash-flags
 hash-most k = by (eqb k 2) (eqb k 1)

@@ -1,4 +1,4 @@
--- `form_of` meets its contract: each test of the code is one of the definition.
+-- `form_of` satisfies its contract: each test of the code is a test of the definition.
 use borrow.Author.Needs.{needs}
 use borrow.Author.Tests.{eq-eqb, ne-eqb}
 use mathlib.Core.Path.{_≡_, sym, _∙_}
@@ -8,7 +8,7 @@ use Rattle.phd.specs.declared.Form.the-variants.{Primitive, LongPrimitive}
 use Rattle.phd_plan.proofs.form_of.Statement.{statement}
 use Rattle.phd_plan.proofs.form_of.Tie as tie
 
--- what is left behind the tests of the kind
+-- After the tests of the kind, only the forms of a primitive array are left.
 primitive : (c : tie.Else3) → let m = c .before .before .before .before .before .before .args .m in form-of m ≡ cond (needs-flag-byte (m .hashkind)) LongPrimitive Primitive
 unfolding form-of
 primitive c =

@@ -1,4 +1,4 @@
--- `hash_flags` meets its contract.
+-- `hash_flags` satisfies its contract.
 use borrow.Author.Tests.{eq-eqb, ne-eqb}
 use Rattle.phd_plan.specs.FormChoice.{hash-flags}
 use Rattle.phd_plan.proofs.hash_flags.Statement.{statement}

@@ -1,4 +1,4 @@
--- `make_plan` meets its contract: each field is what its call gives.
+-- `make_plan` satisfies its contract: each field is the result of its call.
 use borrow.Author.Needs.{needs}
 use Rattle.phd_plan.specs.FormChoice.{make-plan}
 use Rattle.phd_plan.proofs.make_plan.Statement.{statement}

@@ -1,4 +1,4 @@
--- `needs-flag-byte` meets its contract: its tests, joined.
+-- `needs_flag_byte` satisfies its contract: its two tests joined are those of the definition.
 use lib.Dec.{eqb}
 use Rattle.phd_check.proofs.CheckLaws.{either-joined}
 use Rattle.phd_plan.specs.FormChoice.{needs-flag-byte}

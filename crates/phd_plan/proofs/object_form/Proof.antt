@@ -1,4 +1,4 @@
--- `object_form` meets its contract: each test of the code is one of the definition.
+-- `object_form` satisfies its contract: each test of the code is a test of the definition.
 use borrow.Author.Needs.{needs}
 use borrow.Author.Tests.{le-leb, lt-leb}
 use lib.Dec.{leb, ltb}
@@ -9,7 +9,7 @@ use Rattle.phd_plan.specs.FormChoice.{needs-flag-byte, object-form}
 use Rattle.phd_plan.proofs.object_form.Statement.{statement}
 use Rattle.phd_plan.proofs.object_form.Tie as tie
 
--- the tests that failed
+-- The tests that failed.
 plain : (c : tie.Else1) → needs-flag-byte (c .before .before .args .m .hashkind) ≡ false
 plain c = sym (c .before .needs-flag-byte .ensures) ∙ c .if1 .left
 

@@ -1,4 +1,4 @@
--- `plan_input_of` meets its contract: each field is what its call gives.
+-- `plan_input_of` satisfies its contract: each field is the result of its call.
 use borrow.Author.Needs.{needs}
 use Rattle.phd_plan.specs.FormChoice.{plan-input}
 use Rattle.table.specs.Rows.{refs-of}

@@ -1,4 +1,4 @@
--- `slot-holds` meets its contract: the two tests of the code are those of the definition.
+-- `slot_holds` satisfies its contract: its two tests joined are those of the definition.
 use borrow.Author.Needs.{needs}
 use lib.Dec.{ltb}
 use Rattle.phd_check.proofs.CheckLaws.{both-joined}

@@ -1,4 +1,4 @@
--- `tag_of` meets its contract: each arm is a line of the definition.
+-- `tag_of` satisfies its contract: each match arm is a line of the definition.
 use borrow.Author.Needs.{needs}
 use Rattle.phd_plan.specs.FormChoice.{tag-of}
 use Rattle.phd_plan.proofs.tag_of.Statement.{statement}

@@ -1,4 +1,4 @@
--- `nothing` meets its contract.
+-- `no_records` satisfies its contract.
 use mathlib.Core.Path.{refl}
 use Rattle.phd.specs.Phd.{empty-header}
 use Rattle.reader.specs.Reader.{no-records as no-records-of}

@@ -1,4 +1,4 @@
--- `read` meets its contract: the size limit, the header, and then the records.
+-- `read` satisfies its contract: it checks the size limit, reads the header, and then the records.
 use borrow.Author.Needs.{needs}
 use mathlib.Core.Path.{_≡_, refl, sym, ap, _∙_}
 use Prim.Native.Nat.{_≤_}
@@ -15,15 +15,16 @@ use Rattle.reader.specs.Steps.{read-over-limit, read-header-whole, read-header-
 use Rattle.phd_read.proofs.read.Statement.{statement}
 use Rattle.phd_read.proofs.read.Tie as tie
 
--- the dump is not too long
+-- The dump is within the size limit.
 within : (c : tie.Else1) → length (c .before .before .before .before .args .dump .now) ≤ limit
 unfolding limit
 within c = c .if1 .left
 
--- the header was read, or stops
+-- The header was read.
 opened : (c : tie.After-header) → run header (c .before .before .before .before .before .before .before .args .dump .now) 0 ≡ whole (c .header .given .0 .0) (c .header .given .0 .1 .0)
 opened c = sym (c .before .before .read-header .ensures) ∙ ap header-outcome (c .header .given .1)
 
+-- The header stops the reading.
 refused : (c : tie.After-w) → run header (c .before .before .before .before .before .before .before .args .dump .now) 0 ≡ stops (c .w .given .0 .0)
 refused c = sym (c .before .before .read-header .ensures) ∙ ap header-outcome (c .w .given .1)
 

@@ -1,4 +1,4 @@
--- `no-record` meets its contract.
+-- `no_record` satisfies its contract.
 use mathlib.Core.Path.{refl}
 use Rattle.phd_record.specs.RecordOutcomes.{no-record}
 use Rattle.phd_record.proofs.no_record.Statement.{statement}

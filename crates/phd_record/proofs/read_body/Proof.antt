@@ -1,4 +1,4 @@
--- `read_body` meets its contract: the form, the class, the flag byte and then the fields.
+-- `read_body` satisfies its contract: the form and the class are found, the flag byte is read, then the fields.
 use borrow.Author.Needs.{needs}
 use mathlib.Core.Path.{_≡_, sym, ap, _∙_}
 use mathlib.Core.Logic.{⊎-elim}
@@ -13,7 +13,7 @@ use Rattle.phd_record.specs.RecordOutcomes.{record-read-of}
 use Rattle.phd_record.proofs.read_body.Statement.{statement}
 use Rattle.phd_record.proofs.read_body.Tie as tie
 
--- the form
+-- The form was found.
 abbrev start : tie.After-form → tie.Start
 start c = c .before .before .before .before
 
@@ -22,7 +22,7 @@ got-form : (c : tie.After-form) → let a = start c .args in
 unfolding need-form
 got-form c = rw (sym (c .before .before .tag-form .ensures) ∙ c .form .given .1, run-yield)
 
--- the class of a short record
+-- The class was found, for a short object in its slot.
 abbrev form-of : tie.After-class → tie.After-form
 form-of c = c .before .before .before .before
 
@@ -30,7 +30,7 @@ got-class : (c : tie.After-class) → let a = start (form-of c) .args in
     run (need 10 (slot-class (a .cache) (a .tag))) (a .s .now) (a .at) ≡ whole (c .class .given .0 .0) (a .at)
 got-class c = rw (run-need, sym (c .before .before .slot-class-of .ensures) ∙ c .class .given .1)
 
--- the flag byte
+-- The flag byte was read.
 abbrev class-of : tie.After-f → tie.After-class
 class-of c = c .before .before .before .before
 
@@ -45,7 +45,7 @@ module _ (c : tie.After-f) where
       let a = b .args in
       end-in-bounds (flag-byte (a .header) (a .tag)) (a .s .now) (a .at) _ _ (b .pre .0) got-flags
 
--- W in bytes
+-- W in bytes is at most 8.
 bits-bytes-le-8 : (w : ℕ) → ValidBits w → w / 8 ≤ 8
 bits-bytes-le-8 w h = ⊎-elim (λ e. omega arith) (λ e. omega arith) h
 

@@ -1,4 +1,4 @@
--- `read_record` meets its contract: what a quick reading took, or the tag, and then the end or a record.
+-- `read_record` satisfies its contract: the fast path has a hit, or the tag is read and then the end or a record.
 use borrow.Author.Needs.{needs}
 use mathlib.Core.Path.{_≡_, sym, ap, _∙_}
 use Prim.Native.Nat.{_≤_}
@@ -13,7 +13,7 @@ use Rattle.phd_record.specs.RecordOutcomes.{record-read-of}
 use Rattle.phd_record.proofs.read_record.Statement.{statement}
 use Rattle.phd_record.proofs.read_record.Tie as tie
 
--- the tag
+-- The tag was read.
 abbrev start : tie.After-tag → tie.Start
 start c = c .before .before .before .before .before
 

@@ -1,4 +1,4 @@
--- `count` meets its contract: the header and the rows are sized, and the sum is held against the size limit.
+-- `dump_size` satisfies its contract: it adds the sizes of header and rows and compares the sum with the size limit.
 use mathlib.Core.Path.{_≡_}
 use native.Mathlib.Omega.{arith}
 use lib.ListN.{length}
@@ -12,10 +12,11 @@ use Rattle.phd_write.proofs.DumpSize.{dump-size-sum}
 use Rattle.phd_write.proofs.dump_size.Statement.{statement}
 use Rattle.phd_write.proofs.dump_size.Tie as tie
 
+-- The VM string, if present, lies within the name bytes.
 vm : (c : tie.Start) → VmInBounds (c .args .names .now) (c .args .header .vm)
 vm c = vm-in-bounds _ _ (header-vm-good _ _ _ _ (c .pre .0))
 
--- the size that was found is the dump's
+-- The size computed is that of the dump.
 size-is : (c : tie.After-rows-size) → let a = c .before .before .before .before .before .args in c .rows-size .result ≡ length (dump-of (a .header) (a .names .now) (a .refs .now) (rows-of (a .rows .now)))
 size-is c = dump-size-sum _ _ _ _ _ _ (c .before .header-size .ensures) (c .rows-size .ensures)
 

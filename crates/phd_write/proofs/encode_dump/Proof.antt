@@ -1,4 +1,4 @@
--- `push` meets its contract: the header, and the rows after it.
+-- `encode_dump` satisfies its contract: it writes the header, then the rows.
 use borrow.Author.Needs.{needs}
 use mathlib.Core.Path.{_≡_, refl}
 use mathlib.Core.List.{List, [], _∷_, append-nil}
@@ -22,7 +22,7 @@ in-parts : (h : Header) (names refs : List ℕ) (rows : List Row) → dump-of h 
 unfolding encode-dump
 in-parts h names refs rows = rw append-nil
 
--- what is left at the entry, and after the header
+-- The progress at the entry and after each call.
 abbrev none : tie.Start → WriteProgress
 none c =
     let a = c .args in

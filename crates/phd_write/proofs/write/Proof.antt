@@ -1,4 +1,4 @@
--- `write` meets its contract: what asking for the size answers, then the room.
+-- `write` satisfies its contract: it makes the size query, then checks the capacity of the output.
 use borrow.Author.Needs.{needs}
 use mathlib.Core.Path.{_≡_, sym}
 use native.Mathlib.Omega.{arith}
@@ -18,7 +18,7 @@ returns c = refused-unchanged _ _ _ _ (size-query-agrees _ _ _ _ _ _ (c .before 
 returns-2 : tie.Need-returns-2
 returns-2 c = refused-unchanged _ _ 17 0 (size-query-agrees _ _ _ _ _ _ (c .before .before .before .before .write-size .ensures) .too-small (omega arith) (omega arith))
 
--- the dump is put only where the output holds it: there the writing answers 0
+-- Where the dump is encoded, the size query succeeded and the output can hold it, so the reply is 0.
 writes : (c : tie.Else2) → let a = c .before .before .before .before .before .before .before .before .before .args in
     write-result (a .header) (a .names .now) (a .refs .now) (a .rows .now) (length (a .out .now)) .answer .reply ≡ 0
 writes c = size-query-agrees _ _ _ _ _ _ (c .before .before .before .before .write-size .ensures) .done .1 (omega arith, omega arith)

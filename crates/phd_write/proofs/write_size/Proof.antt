@@ -1,4 +1,4 @@
--- `write_size` meets its contract: the header and the rows, then the size limit.
+-- `write_size` satisfies its contract: it checks the header and the rows, then the size limit.
 use borrow.Author.Needs.{needs}
 use Rattle.table.specs.CheckOrder.{checked-input-ok}
 use Rattle.phd_write.specs.WriteOutcomes.{check-refusal}

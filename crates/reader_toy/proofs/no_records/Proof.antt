@@ -1,4 +1,4 @@
--- `nothing` meets its contract.
+-- `no_records` satisfies its contract.
 use mathlib.Core.Path.{refl}
 use Rattle.reader.specs.Reader.{no-records as no-records-of}
 use Rattle.table.specs.Table.{row-count}

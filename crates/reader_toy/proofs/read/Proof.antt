@@ -1,4 +1,4 @@
--- `read` meets its contract: the size limit, the header, and then the records.
+-- `read` satisfies its contract: it checks the size limit, then reads the header, then the records.
 use borrow.Author.Needs.{needs}
 use mathlib.Core.Path.{_≡_, refl, sym, ap, _∙_}
 use Prim.Native.Nat.{_≤_}
@@ -16,16 +16,17 @@ use Rattle.reader_toy.proofs.read.Tie as tie
 abbrev start : tie.Else1 → tie.Start
 start c = c .before .before .before .before
 
--- the dump is not too long
+-- The dump is within the size limit.
 within : (c : tie.Else1) → length (start c .args .dump .now) ≤ limit
 unfolding limit
 within c = c .if1 .left
 
--- the header was read, or stops
+-- The header was read whole.
 header-whole : (c : tie.After-letter)
     → run (toy .header) (start (c .before .before .before) .args .dump .now) 0 ≡ whole (c .letter .given .0 .0) (c .letter .given .0 .1 .0)
 header-whole c = sym (c .before .before .exactly .ensures) ∙ ap outcome (c .letter .given .1)
 
+-- The header stops.
 header-stops : (c : tie.After-w) → run (toy .header) (start (c .before .before .before) .args .dump .now) 0 ≡ stops (c .w .given .0 .0)
 header-stops c = sym (c .before .before .exactly .ensures) ∙ ap outcome (c .w .given .1)
 

@@ -1,4 +1,4 @@
--- `read_records` meets its contract: what is left, from here, is read as the whole.
+-- `read_records` satisfies its contract: the invariant is that reading from the cursor on gives the result of the whole.
 use borrow.Author.Needs.{needs}
 use mathlib.Core.Path.{_≡_, subst}
 use Prim.Native.Nat.{_-_, _≤_}
@@ -19,14 +19,14 @@ Inv-loop s letter at rows₀ refs₀ cursor₀ rows refs cursor = LoopInvariant 
 abbrev μ-loop : tie.MeasureT-loop
 μ-loop s letter at rows₀ refs₀ cursor₀ rows refs cursor = length s - cursor .at
 
--- the turn and the entry, from the step
+-- The current iteration and the function's entry, seen from after the call of `step`.
 abbrev head : tie.After-step Inv-loop μ-loop → tie.At-loop Inv-loop μ-loop
 head c = c .before .before .before
 
 abbrev start : tie.After-step Inv-loop μ-loop → tie.Start Inv-loop μ-loop
 start c = head c .before .before .before .before
 
--- what the step did, by how it says that it went
+-- The contract of the step, for the result that it returned.
 did : (c : tie.After-step Inv-loop μ-loop) (result : StepResult) → c .step .result .result ≡ result → let l = head c .loop in let a = start c .args in
     StepContract (a .letter) (a .s .now) (l .cursor) (l .rows) (l .refs) (c .step .last .1 .1 .0) (c .step .last .1 .1 .1 .0) (c .step .result .cursor) result
 did c result e =

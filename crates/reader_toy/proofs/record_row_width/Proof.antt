@@ -1,4 +1,4 @@
--- `record_row_width` meets its contract.
+-- `record_row_width` satisfies its contract.
 use borrow.Author.Tests.{eq-eqb, ne-eqb}
 use Rattle.reader_toy.proofs.record_row_width.Statement.{statement}
 use Rattle.reader_toy.proofs.record_row_width.Tie as tie

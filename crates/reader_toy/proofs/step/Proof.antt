@@ -1,4 +1,4 @@
--- `step` meets its contract: the end, a record, or a stop.
+-- `step` satisfies its contract in each case: the end, a record, a record that is cut, and a length that is missing.
 use borrow.Author.Needs.{needs}
 use mathlib.Core.Path.{_≡_, sym, ap, _∙_}
 use Prim.Native.Nat.{_+_, _-_, _≤_}
@@ -10,7 +10,7 @@ use Rattle.reader_toy.proofs.ToyStepLaws.{step-ends-end, step-ends-cut,
 use Rattle.reader_toy.proofs.step.Statement.{statement}
 use Rattle.reader_toy.proofs.step.Tie as tie
 
--- the length that was read, and the offset after it
+-- The length that was read, and the offset after it.
 module _ (c : tie.After-n) where
   abbrev begin : tie.Start
   begin = c .before .before .before .before .before .before

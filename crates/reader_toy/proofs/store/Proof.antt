@@ -1,11 +1,11 @@
--- `store` meets its contract: capacity is checked, for the row and then for the references, and the record is stored.
+-- `store` satisfies its contract: it checks capacity, for the row and then for the references, and stores the record.
 use borrow.Author.Needs.{needs}
 use native.Mathlib.Omega.{arith}
 use Rattle.reader_toy.proofs.ToyStepLaws.{step-ends-rows, step-ends-refs, step-continues}
 use Rattle.reader_toy.proofs.store.Statement.{statement}
 use Rattle.reader_toy.proofs.store.Tie as tie
 
--- the entry, from where the row's width is known
+-- The function's entry, seen from after the call of `record_row_width`.
 abbrev start : tie.After-record-row-width → tie.Start
 start c = c .before .before .before .before .before .before
 

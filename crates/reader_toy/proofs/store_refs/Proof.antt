@@ -1,4 +1,4 @@
--- `store_refs` meets its contract: storing what is left of the bytes, from here, is storing all of them.
+-- `store_refs` satisfies its contract: the invariant is that storing the bytes that are left gives the same table as storing all.
 use borrow.Author.Needs.{needs}
 use mathlib.Core.Path.{_≡_, refl, sym, _∙_}
 use Prim.Native.Nat.{_+_, _-_, _≤_}

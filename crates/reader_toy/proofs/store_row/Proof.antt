@@ -1,4 +1,4 @@
--- `store_row` meets its contract: nothing is stored, or a row.
+-- `store_row` satisfies its contract: it stores nothing or one row, by the record's first byte.
 use borrow.Author.Needs.{needs}
 use borrow.Author.Tests.{eq-eqb, ne-eqb}
 use mathlib.Core.Path.{refl}

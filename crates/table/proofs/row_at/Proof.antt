@@ -1,4 +1,4 @@
--- `row_at` meets its contract: the numbers of the row's part of the table.
+-- `row_at` satisfies its contract: the numbers of the row's slice are the numbers of the row.
 use Prim.Native.Nat.{_*_}
 use native.Mathlib.Omega.{arith}
 use borrow.Author.Needs.{needs}

@@ -1,4 +1,5 @@
--- `store_row` meets its contract: storing what is left of the row, from here, is storing all of it.
+-- `store_row` satisfies its contract: the invariant is that storing the rest of the row from here gives the same table as storing
+-- all of it.
 use borrow.Author.Needs.{needs}
 use mathlib.Core.Path.{_≡_, refl, sym, _∙_}
 use Prim.Native.Nat.{_+_, _-_, _≤_}

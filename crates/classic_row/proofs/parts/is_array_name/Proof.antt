@@ -1,4 +1,4 @@
--- `is_array_name` meets its contract: a name's first byte is the one at its place, and an empty name has none.
+-- `is_array_name` satisfies its contract: a name's first byte is the one at its place, and an empty name has none.
 use borrow.Author.Needs.{needs}
 use native.Mathlib.Nat.{add-zero}
 use native.Mathlib.Omega.{arith}

@@ -1,4 +1,4 @@
--- `type_size` meets its contract: it is by the kind, and by whether the name begins with `[`, as the type is.
+-- `type_size` satisfies its contract: it distinguishes the cases of the type, by the kind and whether the name begins with `[`.
 use borrow.Author.Needs.{needs}
 use borrow.Author.Tests.{ne-eqb}
 use native.Mathlib.Omega.{arith}

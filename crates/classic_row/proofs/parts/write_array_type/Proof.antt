@@ -1,4 +1,5 @@
--- `write_array_type` meets its contract: each call puts the next part of the type, which is by whether the name begins with `[`.
+-- `write_array_type` satisfies its contract: in both cases, whether the name begins with `[` or not, each call writes the next
+-- part of the type.
 use borrow.Author.Needs.{needs}
 use mathlib.Core.Path.{_≡_, refl, _∙_, sym}
 use mathlib.Core.Bool.{true, false}
@@ -17,16 +18,17 @@ use Rattle.classic_row.proofs.parts.write_array_type.Tie as tie
 abbrev name : tie.Start → List ℕ
 name s = label-name (s .args .names .now) (s .args .e)
 
--- the parts, by whether the name begins with `[`
+-- The parts of the type if the name begins with `[`.
 starting : (n : List ℕ) → eqb (getD n 0 0) 0x5B ≡ true → object-array-type n ≡ join (ascii "[" ∷ n ∷ [])
 unfolding object-array-type
 starting n e = rw (e, append-nil)
 
+-- The parts of the type if it does not.
 other : (n : List ℕ) → eqb (getD n 0 0) 0x5B ≡ false → object-array-type n ≡ join (ascii "[L" ∷ n ∷ ascii ";" ∷ [])
 unfolding object-array-type
 other n e = rw e
 
--- what is left at the start of a branch, and after each call
+-- The progress at the start of a branch and after each call.
 abbrev inner : tie.Then1 → WriteProgress
 inner t =
     let s = t .before .before .before .before in

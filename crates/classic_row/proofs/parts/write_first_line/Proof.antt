@@ -1,4 +1,4 @@
--- `write_first_line` meets its contract: each call puts the next part of the line.
+-- `write_first_line` satisfies its contract: each call writes the next part of the line.
 use borrow.Author.Needs.{needs}
 use mathlib.Core.Path.{_≡_, refl}
 use mathlib.Core.List.{List, [], _∷_}
@@ -21,7 +21,7 @@ in-parts : (bits : ℕ) (names : List ℕ) (r : Row) (e : TypeLabel) → label-l
 unfolding label-line
 in-parts bits names r e = refl
 
--- what is left at the entry, and after each call
+-- The progress at the start and after each call.
 abbrev none : tie.Start → WriteProgress
 none c =
     let a = c .args in

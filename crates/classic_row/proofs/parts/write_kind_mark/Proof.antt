@@ -1,4 +1,4 @@
--- `write_kind_mark` meets its contract: the branch that is taken puts the mark's bytes.
+-- `write_kind_mark` satisfies its contract: in each branch it writes the bytes of the mark.
 use borrow.Author.Needs.{needs}
 use borrow.Author.Tests.{ne-eqb}
 use Rattle.classic_row.specs.RowText.{kind-mark}

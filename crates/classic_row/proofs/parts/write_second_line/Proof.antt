@@ -1,4 +1,4 @@
--- `write_second_line` meets its contract: the references are put behind the class word.
+-- `write_second_line` satisfies its contract: it writes the class word and, after it, the references.
 use borrow.Author.Needs.{needs}
 use mathlib.Core.List.{List}
 use Prim.Native.Nat.{ℕ}
@@ -8,7 +8,7 @@ use Rattle.classic.specs.ClassicText.{address, refs-text}
 use Rattle.classic_row.proofs.parts.write_second_line.Statement.{statement}
 use Rattle.classic_row.proofs.parts.write_second_line.Tie as tie
 
--- the references, as they are listed
+-- The bytes after the class word: the references.
 abbrev bytes-after : tie.Start → List ℕ
 bytes-after s = refs-text (s .args .bits) (refs-of (s .args .refs .now) (s .args .row))
 

@@ -1,4 +1,4 @@
--- `write_type` meets its contract: the branch that is taken puts the type's bytes.
+-- `write_type` satisfies its contract: in each branch it writes the bytes of the type.
 use borrow.Author.Needs.{needs}
 use borrow.Author.Tests.{ne-eqb}
 use mathlib.Core.List.{[], _∷_, _++_}
@@ -9,7 +9,7 @@ use Rattle.classic_row.specs.RowText.{label-type}
 use Rattle.classic_row.proofs.parts.write_type.Statement.{statement}
 use Rattle.classic_row.proofs.parts.write_type.Tie as tie
 
--- the room for a signature
+-- The output has capacity for the type of a primitive array: `[` (91) and the letter.
 in-bounds : (t : tie.Then1) → let s = t .before .before .before in HasCapacity (s .args .out .now) (s .args .at) ((91 ∷ []) ++ (getD letters (s .args .prim) 0 ∷ []))
 unfolding label-type primitive-array-type
 in-bounds t = rw (t .if1 .taken) at (t .before .before .before .pre .1 .1)

@@ -1,5 +1,5 @@
--- `size` meets its contract: the bytes so far and those of the rows left are those of all rows, after the version line, and no row so
--- far is lost.
+-- `rows_text_size` satisfies its contract: the invariant is that the total so far and the size of the rows that are left give the
+-- size of the version line and all rows, and that no class row is missing so far.
 use borrow.Author.Needs.{needs}
 use mathlib.Core.Path.{sym, _∙_}
 use Prim.Native.Nat.{_-_, _<_}
@@ -18,7 +18,7 @@ Inv-loop bits names rows first n total₀ i₀ total i = SizeLoop bits names row
 abbrev μ-loop : tie.MeasureT-loop
 μ-loop bits names rows first n total₀ i₀ total i = n - i
 
--- the beginning of the function, from a turn of the loop
+-- The start of the function, seen from an iteration of the loop.
 abbrev start : tie.In-loop Inv-loop μ-loop → tie.Start Inv-loop μ-loop
 start c = c .before .before .before .before
 
@@ -26,7 +26,7 @@ inside : (c : tie.In-loop Inv-loop μ-loop) → c .before .loop .i < row-count (
 unfolding row-count
 inside c = omega arith
 
--- what a turn found of its row
+-- The size that an iteration found is its row's, whose class row is not missing.
 means : (c : tie.After-bytes Inv-loop μ-loop) → let d = c .before .before .before in let a = start (d .before) .args in
     SizeMeans (a .bits) (a .names .now) (rows-of (a .rows .now)) (d .row-at .result) (Bytes (c .bytes .given .0 .0))
 means c = size-means _ _ _ _ _ (sym (c .bytes .given .1) ∙ c .before .before .row-text-size .ensures)

@@ -1,4 +1,4 @@
--- `push` meets its contract: putting the rows that are left, from here, is putting all of them.
+-- `write_rows_text` satisfies its contract: the invariant is that writing the rows that are left completes the text of all rows.
 use borrow.Author.Needs.{needs}
 use Prim.Native.Nat.{_-_, _<_}
 use native.Mathlib.Omega.{arith}
@@ -13,7 +13,7 @@ Inv-loop out₀ at bits names refs rows n to₀ i₀ out to i = WriteLoop bits n
 abbrev μ-loop : tie.MeasureT-loop
 μ-loop out₀ at bits names refs rows n to₀ i₀ out to i = n - i
 
--- the beginning of the function, from a turn of the loop
+-- The start of the function, seen from an iteration of the loop.
 abbrev start : tie.In-loop Inv-loop μ-loop → tie.Start Inv-loop μ-loop
 start c = c .before .before .before .before .before .before
 

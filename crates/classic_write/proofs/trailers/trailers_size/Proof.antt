@@ -1,4 +1,4 @@
--- `size` meets its contract: each number has at most 20 digits, so no sum leaves 64 bits.
+-- `trailers_size` satisfies its contract: each number has at most 20 digits, so no sum overflows.
 use borrow.Author.Needs.{needs}
 use Prim.Native.Nat.{_+_, _≤_}
 use native.Mathlib.Omega.{arith}
@@ -8,11 +8,11 @@ use Rattle.classic_write.specs.TextSizes.{length-trailers}
 use Rattle.classic_write.proofs.trailers.trailers_size.Statement.{statement}
 use Rattle.classic_write.proofs.trailers.trailers_size.Tie as tie
 
--- the beginning of the function, from where all digits are counted
+-- The start of the function, seen from where all digits are counted.
 abbrev start : tie.After-digit-count7 → tie.Start
 start c = c .before .before .before .before .before .before .before .before
 
--- each number is below 2^64
+-- Each number is below 2^64, so it has at most 20 digits.
 most : (c : tie.Start) → let t = c .args .t in
     (digit-count (t .classes) ≤ 20) × (digit-count (t .objects) ≤ 20) × (digit-count (t .arrays) ≤ 20) × (digit-count (t .primitives) ≤ 20)
     × (digit-count (t .rows) ≤ 20) × (digit-count (t .refs + t .nulls) ≤ 20) × (digit-count (t .nulls) ≤ 20)

@@ -1,4 +1,4 @@
--- `write_breakdown` meets its contract: figures, one behind the other.
+-- `write_breakdown` satisfies its contract: it writes the four counts, each after its fixed text.
 use borrow.Author.Needs.{needs}
 use mathlib.Core.Path.{_≡_, refl}
 use mathlib.Core.List.{List, [], _∷_}
@@ -22,7 +22,7 @@ in-parts : (t : Tally) → tally-breakdown t ≡ join (parts t)
 unfolding tally-breakdown
 in-parts t = refl
 
--- what is left at the entry, and after each call
+-- The progress at the start and after each call.
 abbrev none : tie.Start → WriteProgress
 none c = progress-start (c .args .out .now) (c .args .at) (parts (c .args .t)) (in-parts (c .args .t)) (c .pre)
 

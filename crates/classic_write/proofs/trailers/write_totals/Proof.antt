@@ -1,4 +1,4 @@
--- `write_totals` meets its contract: figures, one behind the other, and the parenthesis that closes.
+-- `write_totals` satisfies its contract: it writes the three totals, each after its fixed text, and the closing parenthesis.
 use borrow.Author.Needs.{needs}
 use mathlib.Core.Path.{_≡_, refl}
 use mathlib.Core.List.{List, [], _∷_}
@@ -19,7 +19,7 @@ in-parts : (t : Tally) → tally-totals t ≡ join (parts t)
 unfolding tally-totals
 in-parts t = refl
 
--- what is left at the entry, and after each call
+-- The progress at the start and after each call.
 abbrev none : tie.Start → WriteProgress
 none c = progress-start (c .args .out .now) (c .args .at) (parts (c .args .t)) (in-parts (c .args .t)) (c .pre .1)
 

@@ -1,4 +1,4 @@
--- `push` meets its contract: the two trailers, each with its end behind it.
+-- `write_trailers` satisfies its contract: it writes the two trailers, each with its line end after it.
 use borrow.Author.Needs.{needs}
 use mathlib.Core.Path.{_≡_, refl}
 use mathlib.Core.List.{List, [], _∷_}
@@ -18,7 +18,7 @@ in-parts : (t : Tally) → tally-trailers t ≡ join (parts t)
 unfolding tally-trailers unlines
 in-parts t = refl
 
--- what is left at the entry, and after each call
+-- The progress at the start and after each call.
 abbrev none : tie.Start → WriteProgress
 none c = progress-start (c .args .out .now) (c .args .at) (parts (c .args .t)) (in-parts (c .args .t)) (c .pre .1)
 

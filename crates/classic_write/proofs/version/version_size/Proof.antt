@@ -1,4 +1,4 @@
--- `size` meets its contract: the words, the VM string if there is one, and the end.
+-- `version_size` satisfies its contract: the line is `// Version: `, the VM string if there is one, and the line end.
 use mathlib.Core.Path.{sym, ap, _∙_}
 use mathlib.Core.Bool.{cond}
 use Prim.Native.Nat.{_+_}

@@ -1,4 +1,4 @@
--- `push` meets its contract: the words, the VM string if there is one, and the end.
+-- `write_version` satisfies its contract: it writes `// Version: `, the VM string if there is one, and the line end.
 use borrow.Author.Needs.{needs}
 use mathlib.Core.Path.{refl}
 use Rattle.encode.specs.Writes.{writes-none}
@@ -7,7 +7,7 @@ use Rattle.classic_write.proofs.VersionParts.{parts, version-in-parts}
 use Rattle.classic_write.proofs.version.write_version.Statement.{statement}
 use Rattle.classic_write.proofs.version.write_version.Tie as tie
 
--- what is left at the entry, after the words, and after the VM string or without one
+-- The progress at the start, after `// Version: `, after the VM string, and without a VM string.
 abbrev none : tie.Start → WriteProgress
 none c = let a = c .args in progress-start (a .out .now) 0 (parts (a .names .now) (a .vm)) (version-in-parts (a .names .now) (a .vm)) (c .pre .1)
 

@@ -1,4 +1,4 @@
--- `bit` meets its contract.
+-- `bit` satisfies its contract.
 use borrow.Author.Needs.{needs}
 use mathlib.Core.Path.{refl}
 use Rattle.phd.specs.Phd.{bit}

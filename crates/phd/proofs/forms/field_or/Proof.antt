@@ -1,4 +1,4 @@
--- `field-or` meets its contract.
+-- `field_or` satisfies its contract.
 use borrow.Author.Tests.{eq-eqb, ne-eqb}
 use Rattle.phd.specs.Phd.{field-or}
 use Rattle.phd.proofs.forms.field_or.Statement.{statement}

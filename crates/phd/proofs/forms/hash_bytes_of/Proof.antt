@@ -1,4 +1,4 @@
--- `hash_bytes_of` meets its contract.
+-- `hash_bytes_of` satisfies its contract.
 use borrow.Author.Tests.{eq-eqb, ne-eqb}
 use Rattle.phd.specs.Phd.{hash-bytes}
 use Rattle.phd.proofs.forms.hash_bytes_of.Statement.{statement}

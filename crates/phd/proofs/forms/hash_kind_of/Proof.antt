@@ -1,4 +1,4 @@
--- `hash_kind_of` meets its contract.
+-- `hash_kind_of` satisfies its contract.
 use borrow.Author.Needs.{needs}
 use Rattle.phd.specs.Phd.{hash-kind}
 use mathlib.Core.Path.{sym, _∙_}

@@ -1,4 +1,4 @@
--- `is_hashed` meets its contract.
+-- `is_hashed` satisfies its contract.
 use borrow.Author.Needs.{needs}
 use borrow.Author.Tests.{eq-eqb, ne-eqb}
 use Rattle.phd.specs.Phd.{hashed-bit}

@@ -1,4 +1,4 @@
--- `is_moved` meets its contract.
+-- `is_moved` satisfies its contract.
 use borrow.Author.Needs.{needs}
 use borrow.Author.Tests.{eq-eqb, ne-eqb}
 use Rattle.phd.specs.Phd.{moved-bit}

@@ -1,4 +1,4 @@
--- `long_width` meets its contract.
+-- `long_width` satisfies its contract.
 use borrow.Author.Needs.{needs}
 use mathlib.Core.Path.{sym, _∙_}
 use Rattle.phd.proofs.forms.long_width.Statement.{statement}

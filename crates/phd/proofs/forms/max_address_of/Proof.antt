@@ -1,4 +1,4 @@
--- `max_address_of` meets its contract.
+-- `max_address_of` satisfies its contract.
 use mathlib.Core.Logic.{⊎-elim}
 use Rattle.phd.specs.Phd.{max-address}
 use Rattle.phd.proofs.forms.max_address_of.Statement.{statement}

@@ -1,4 +1,4 @@
--- `flags` meets its contract: no flag byte, or the byte and then the test of its bits.
+-- `read_flag_byte` satisfies its contract: there is no flag byte, or it is read and then its hash bits are checked.
 use borrow.Author.Needs.{needs}
 use mathlib.Core.Path.{_≡_, refl, sym, ap, _∙_}
 use mathlib.Core.Bool.{Bool, true, false, not, cond, _&&_, _||_}
@@ -13,13 +13,13 @@ use Rattle.phd.specs.Phd.{flag-byte, moved-bit, hashed-bit, bit}
 use Rattle.phd.proofs.forms.read_flag_byte.Statement.{statement}
 use Rattle.phd.proofs.forms.read_flag_byte.Tie as tie
 
--- no flag byte sets no bit
+-- Without a flag byte no hash bit is set.
 none-set : (h : Bool) (t : ℕ) → 0x20 ≤ t → not (h && (moved-bit t 0 || hashed-bit t 0)) ≡ true
 unfolding moved-bit hashed-bit bit
 none-set true t l = rw (ne-eqb t 6 (λ e. omega arith))
 none-set false t l = refl
 
--- the byte was read, and its test is what is left
+-- After the flag byte is read, only the check of its hash bits is left.
 module _ (c : tie.After-f) where
   got : let a = c .before .before .before .before .before .args in
       run (field 1) (a .s .now) (a .at) ≡ whole (c .f .given .0 .0) (c .f .given .0 .1 .0)

@@ -1,4 +1,4 @@
--- `shape_of` meets its contract: each arm is a line of the table.
+-- `shape_of` satisfies its contract: each arm is one line of the definition `shape`.
 use borrow.Author.Needs.{needs}
 use Rattle.phd.specs.Phd.{shape}
 use Rattle.phd.proofs.forms.shape_of.Statement.{statement}

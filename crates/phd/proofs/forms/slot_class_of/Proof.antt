@@ -1,4 +1,4 @@
--- `known` meets its contract.
+-- `slot_class_of` satisfies its contract.
 use borrow.Author.Needs.{needs}
 use borrow.Author.Tests.{le-leb, lt-leb}
 use Rattle.phd.specs.Phd.{slot-class}

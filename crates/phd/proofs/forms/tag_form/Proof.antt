@@ -1,4 +1,4 @@
--- `tag-form` meets its contract.
+-- `tag_form` satisfies its contract: each test of the code is one of the definition.
 use borrow.Author.Tests.{le-leb, lt-leb, eq-eqb, ne-eqb}
 use Rattle.phd.specs.Phd.{tag-form}
 use Rattle.phd.proofs.forms.tag_form.Statement.{statement}

@@ -1,4 +1,4 @@
--- `width_of` meets its contract.
+-- `width_of` satisfies its contract.
 use borrow.Author.Needs.{needs}
 use Rattle.phd.specs.Phd.{width}
 use Prim.Native.Nat.{_^_, _<_}

@@ -1,4 +1,4 @@
--- `magic_byte` meets its contract: the table is the opening string.
+-- `magic_byte` satisfies its contract: the array is the opening string.
 use borrow.Author.Needs.{needs}
 use mathlib.Core.Path.{refl}
 use Rattle.phd.specs.Phd.{magic}

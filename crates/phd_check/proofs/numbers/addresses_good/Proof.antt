@@ -1,4 +1,4 @@
--- `place` meets its contract: its tests, joined.
+-- `addresses_good` satisfies its contract: it is the conjunction of its tests.
 use Rattle.phd_check.specs.GoodRows.{good-addresses}
 use Rattle.phd_check.proofs.CheckLaws.{all-of-all-true}
 use Rattle.phd_check.proofs.numbers.addresses_good.Statement.{statement}

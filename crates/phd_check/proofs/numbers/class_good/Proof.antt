@@ -1,4 +1,4 @@
--- `class` meets its contract: its tests, joined; a sum is compared by its first part.
+-- `class_good` satisfies its contract: it is the conjunction of its tests, one of which compares a difference instead of a sum.
 use mathlib.Core.Path.{sym}
 use Prim.Native.Nat.{_+_}
 use native.Mathlib.Omega.{arith}

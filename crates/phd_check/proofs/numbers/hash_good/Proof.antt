@@ -1,4 +1,4 @@
--- `hash` meets its contract: by the hash kind.
+-- `hash_good` satisfies its contract, by cases of the hash kind.
 use Rattle.phd_check.specs.GoodRows.{good-hash}
 use Rattle.phd_check.proofs.CheckLaws.{hash-3, hash-2, hash-none}
 use Rattle.phd_check.proofs.numbers.hash_good.Statement.{statement}

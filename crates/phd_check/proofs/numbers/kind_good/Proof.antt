@@ -1,4 +1,4 @@
--- `kind` meets its contract: what the row's kind asks.
+-- `kind_good` satisfies its contract, by cases of the kind.
 use borrow.Author.Needs.{needs}
 use Rattle.phd_check.specs.GoodRows.{good-kind}
 use borrow.Author.Tests.{eq-eqb, ne-eqb}

@@ -1,4 +1,4 @@
--- `unnamed` meets its contract: its tests, joined.
+-- `name_absent` satisfies its contract: it is the conjunction of its tests.
 use lib.Dec.{eqb}
 use Rattle.phd_check.specs.GoodRows.{no-name}
 use Rattle.phd_check.proofs.CheckLaws.{both-joined}

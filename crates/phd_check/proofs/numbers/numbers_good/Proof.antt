@@ -1,4 +1,4 @@
--- `all` meets its contract: its parts, joined.
+-- `numbers_good` satisfies its contract: it is the conjunction of its four checks.
 use borrow.Author.Needs.{needs}
 use Rattle.phd_check.specs.GoodRows.{good-numbers}
 use Rattle.phd_check.proofs.CheckLaws.{all-of-all-true}

@@ -1,4 +1,4 @@
--- `object` meets its contract: its tests, joined.
+-- `object_good` satisfies its contract: it is the conjunction of its tests.
 use borrow.Author.Needs.{needs}
 use Rattle.phd_check.specs.GoodRows.{good-object}
 use Rattle.phd_check.proofs.CheckLaws.{all-of-all-true}

@@ -1,4 +1,4 @@
--- `primitive` meets its contract: its tests, joined.
+-- `primitive_good` satisfies its contract: it is the conjunction of its tests.
 use borrow.Author.Needs.{needs}
 use Rattle.phd_check.specs.GoodRows.{good-primitive}
 use Rattle.phd_check.proofs.CheckLaws.{all-of-all-true}

@@ -1,4 +1,4 @@
--- `ref-field` meets its contract: its tests, joined.
+-- `ref_good` satisfies its contract: it is the conjunction of its tests.
 use Rattle.phd_check.specs.GoodRows.{good-ref}
 use Rattle.phd_check.proofs.CheckLaws.{all-of-all-true}
 use Rattle.phd_check.proofs.numbers.ref_good.Statement.{statement}

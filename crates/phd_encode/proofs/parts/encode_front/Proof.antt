@@ -1,4 +1,4 @@
--- `encode_front` meets its contract: the gap, the class word and the length, one after the other.
+-- `encode_front` satisfies its contract: it writes the gap, the class word and the length in order.
 use borrow.Author.Needs.{needs}
 use mathlib.Core.Path.{_≡_, refl}
 use mathlib.Core.List.{List, [], _∷_}
@@ -11,7 +11,7 @@ use Rattle.phd_encode.specs.EncodeRecord.{encode-front}
 use Rattle.phd_encode.proofs.parts.encode_front.Statement.{statement}
 use Rattle.phd_encode.proofs.parts.encode_front.Tie as tie
 
--- with the gap as its bytes hold it
+-- The fields; g is the gap in two's complement.
 abbrev parts : ℕ → Shape → Row → List (List ℕ)
 parts g sh r = be (sh .gap) g ∷ be (sh .class) (r .class) ∷ be (sh .len) (r .len) ∷ []
 
@@ -19,7 +19,7 @@ in-parts : (before : ℕ) (sh : Shape) (r : Row) (g : ℕ) → g ≡ twos-comple
 unfolding encode-front
 in-parts before sh r g e = rw e
 
--- what is left before the first field, and after each
+-- The progress before the first field and after each.
 abbrev none : tie.After-raw-gap → WriteProgress
 none c =
     let s = c .before .before .before in

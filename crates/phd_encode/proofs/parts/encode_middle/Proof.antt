@@ -1,4 +1,4 @@
--- `encode_middle` meets its contract: the instance size, the hash and the superclass word, one after the other.
+-- `encode_middle` satisfies its contract: it writes the instance size, the hash and the superclass word in order.
 use borrow.Author.Needs.{needs}
 use mathlib.Core.Path.{_≡_, refl}
 use mathlib.Core.List.{List, [], _∷_}
@@ -12,7 +12,7 @@ use Rattle.phd_encode.specs.EncodeRecord.{encode-middle}
 use Rattle.phd_encode.proofs.parts.encode_middle.Statement.{statement}
 use Rattle.phd_encode.proofs.parts.encode_middle.Tie as tie
 
--- with b bytes of the hash
+-- The fields; the hash has b bytes.
 abbrev parts : Shape → Row → ℕ → List (List ℕ)
 parts sh r b = be (sh .inst) (r .size) ∷ be b (r .hash) ∷ be (sh .superclass) (r .class) ∷ []
 
@@ -20,7 +20,7 @@ in-parts : (sh : Shape) (r : Row) (b : ℕ) → b ≡ hash-bytes (r .hashkind) �
 unfolding encode-middle
 in-parts sh r b e = rw e
 
--- what is left before the first field, and after each
+-- The progress before the first field and after each.
 abbrev none : tie.After-hash-bytes-of → WriteProgress
 none c =
     let s = c .before .before in

@@ -1,4 +1,4 @@
--- `encode_name` meets its contract: the length, and the bytes of the name after it.
+-- `encode_name` satisfies its contract: it writes the length, then the bytes of the name.
 use borrow.Author.Needs.{needs}
 use mathlib.Core.Path.{_≡_, refl}
 use mathlib.Core.List.{List, [], _∷_, append-nil}

@@ -1,4 +1,4 @@
--- `put_links` meets its contract: the count, and the references after it.
+-- `encode_refs` satisfies its contract: it writes the count, then the references.
 use borrow.Author.Needs.{needs}
 use mathlib.Core.Path.{_≡_, refl}
 use mathlib.Core.List.{List, [], _∷_, append-nil}

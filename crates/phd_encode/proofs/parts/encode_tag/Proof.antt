@@ -1,4 +1,4 @@
--- `encode_tag` meets its contract: the tag, and a flag byte after it where the form has one.
+-- `encode_tag` satisfies its contract: it writes the tag, then the flag byte if the form has one.
 use borrow.Author.Needs.{needs}
 use mathlib.Core.Path.{_≡_, refl}
 use mathlib.Core.List.{List, [], _∷_, append-nil}

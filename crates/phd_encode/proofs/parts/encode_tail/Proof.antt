@@ -1,4 +1,4 @@
--- `encode_tail` meets its contract: the size, and the true length after it.
+-- `encode_tail` satisfies its contract: it writes the size, then the true length.
 use borrow.Author.Needs.{needs}
 use mathlib.Core.Path.{_≡_, refl}
 use mathlib.Core.List.{List, [], _∷_, append-nil}

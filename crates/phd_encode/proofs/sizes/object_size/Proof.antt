@@ -1,4 +1,4 @@
--- `object` meets its contract: each test of the code is one of the definition.
+-- `object_size` satisfies its contract: the code makes the tests of the definition `object-size`.
 use borrow.Author.Needs.{needs}
 use mathlib.Core.Path.{_≡_}
 use mathlib.Core.Bool.{false, _||_}
@@ -8,7 +8,7 @@ use Rattle.phd_encode.specs.SizeFromRow.{encoded-size-ext, object-size}
 use Rattle.phd_encode.proofs.sizes.object_size.Statement.{statement}
 use Rattle.phd_encode.proofs.sizes.object_size.Tie as tie
 
--- the long form is passed over
+-- The form is not the long one.
 not-long : (c : tie.Else1) → let a = c .before .before .before .args in needs-flag-byte (a .row .hashkind) || leb 2 (a .gap) || ltb 7 (a .row .count) ≡ false
 not-long c = rw (c .before .before .needs-flag-byte .ensures) at (c .if1 .left)
 

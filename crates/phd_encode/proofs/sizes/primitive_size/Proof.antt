@@ -1,4 +1,4 @@
--- `primitive` meets its contract: each test of the code is one of the definition.
+-- `primitive_size` satisfies its contract: the code makes the tests of the definition `primitive-size`.
 use borrow.Author.Needs.{needs}
 use mathlib.Core.Path.{_≡_, sym, _∙_}
 use Prim.Native.Nat.{_≤_, _<_}
@@ -12,7 +12,7 @@ use Rattle.phd_encode.specs.SizeFromRow.{encoded-size-ext, primitive-siz
 use Rattle.phd_encode.proofs.sizes.primitive_size.Statement.{statement}
 use Rattle.phd_encode.proofs.sizes.primitive_size.Tie as tie
 
--- the code of the gap and the length
+-- The width code of the gap and the length.
 pair-is : (c : tie.After-max) → let a = c .before .before .args in c .max .result ≡ max (a .gap) (width-code (pos (a .row .len)))
 pair-is c = rw (c .before .number-code .ensures) at (c .max .ensures)
 

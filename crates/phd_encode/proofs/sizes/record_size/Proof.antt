@@ -1,4 +1,4 @@
--- `record` meets its contract: by the kind, a law of Sized each.
+-- `record_size` satisfies its contract, by a law of SizeFromRow for each kind.
 use borrow.Author.Needs.{needs}
 use mathlib.Core.Path.{_≡_}
 use Prim.Native.Nat.{_+_, _*_, _^_, _≤_, _<_}
@@ -13,13 +13,15 @@ use Rattle.phd_encode.specs.SizeFromRow.{encoded-size-ext, payload-size,
 use Rattle.phd_encode.proofs.sizes.record_size.Statement.{statement}
 use Rattle.phd_encode.proofs.sizes.record_size.Tie as tie
 
+-- The plan input of the row.
 abbrev input : tie.Start → PlanInput
 input c = let a = c .args in plan-input (a .cache) (a .before) (a .row) (refs-of (a .refs .now) (a .row))
 
--- the beginning of the function, and the bytes of the hash and the name
+-- The function's entry.
 abbrev start : tie.After-hash-bytes-of → tie.Start
 start c = c .before .before .before
 
+-- The point after the hash's width is known.
 abbrev hashed : tie.After-width-of2 → tie.After-hash-bytes-of
 hashed c = c .before .before .before .before .before
 
@@ -40,7 +42,7 @@ ref-code-small c = let e = ref-code-is c in let b = c .before .before .before .b
 hash-small : (c : tie.After-hash-bytes-of) → c .hash-bytes-of .result ≤ 8
 hash-small c = let e = c .hash-bytes-of .ensures in let h = hash-bytes-le-8 (start c .args .row .hashkind) in omega arith
 
--- the widths of the gap and of the references
+-- The gap takes at most 8 bytes.
 near-small : (c : tie.After-width-of) → c .width-of .result ≤ 8
 near-small c =
     let g = c .before .before .before .before .before in
@@ -48,6 +50,7 @@ near-small c =
     let l = width-le-8 (g .gap-code .result) (gap-small g) in
     omega arith
 
+-- The references take fewer than 2^34 bytes.
 refs-small : (c : tie.After-width-of2) → start (hashed c) .args .row .count * c .width-of2 .result < 2 ^ 34
 unfolding plan-input
 refs-small c =
@@ -58,7 +61,7 @@ refs-small c =
     let p : n * c .width-of2 .result ≤ n * 8 = mul-le-mul-left n (omega arith) in
     omega arith
 
--- the bytes that do not go by the kind
+-- The payload in the code is `payload-size`.
 rest-is : (c : tie.After-width-of2) → let r = start (hashed c) .args .row in
     c .before .width-of .result + (hashed c .hash-bytes-of .result + r .namelen) + r .count * c .width-of2 .result ≡ payload-size (input (start (hashed c))) r
 rest-is c = cc (ref-code-is (c .before .before), gap-is (hashed c .before), c .before .width-of .ensures, hashed c .hash-bytes-of .ensures)

@@ -1,4 +1,5 @@
--- `read_records` meets its contract: what is left, from here, is read as the whole.
+-- `read_records` satisfies its contract: the invariant is that reading the records that are left, from here, gives the result of
+-- the whole.
 use borrow.Author.Needs.{needs}
 use mathlib.Core.Path.{_≡_, subst}
 use Prim.Native.Nat.{ℕ, _-_}
@@ -19,14 +20,14 @@ Inv-loop s header at rows₀ refs₀ cursor₀ rows refs cursor = LoopInvariant 
 abbrev μ-loop : tie.MeasureT-loop
 μ-loop s header at rows₀ refs₀ cursor₀ rows refs cursor = length s - cursor .at
 
--- the turn and the entry, from the step
+-- The iteration and the start of the function, from the point after the step.
 abbrev head : tie.After-step Inv-loop μ-loop → tie.At-loop Inv-loop μ-loop
 head c = c .before .before .before
 
 abbrev start : tie.After-step Inv-loop μ-loop → tie.Start Inv-loop μ-loop
 start c = c .before .before .before .before .before .before .before .before
 
--- what the step did
+-- The contract of the step, for each result.
 module _ (c : tie.After-step Inv-loop μ-loop) where
   continued : c .step .result .result ≡ Continue → let l = head c in let a = start c .args in
       StepContinues (a .header) (a .s .now) (l .loop .cursor) (l .loop .rows) (l .loop .refs) (c .step .last .1 .1 .0) (c .step .last .1 .1 .1 .0) (c .step .result .cursor)

@@ -1,4 +1,4 @@
--- `step` meets its contract: the end, a record, or a stop.
+-- `step` satisfies its contract in each case: the end tag, a record, or a stop.
 use borrow.Author.Needs.{needs}
 use Rattle.phd_record.specs.RecordOutcomes.{record-read-over, record-read-stops}
 use Rattle.phd_read.proofs.StepLaws.{ends-at-end-tag, ends-at-stop}

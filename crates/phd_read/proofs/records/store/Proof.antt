@@ -1,4 +1,4 @@
--- `store` meets its contract: the row, and then the references that were judged.
+-- `store` satisfies its contract: it stores the row, and then the references, which were checked when the record was read.
 use borrow.Author.Needs.{needs}
 use Rattle.phd_read.proofs.StepLaws.{span-in-dump, span-width-le-8, refs-all-read, continues}
 use Rattle.phd_read.proofs.records.store.Statement.{statement}

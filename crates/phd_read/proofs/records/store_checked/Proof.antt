@@ -1,4 +1,4 @@
--- `store_checked` meets its contract: room is asked, rows before references, and then the record is stored.
+-- `store_checked` satisfies its contract: it checks capacity, for the row before the references, and then stores the record.
 use borrow.Author.Needs.{needs}
 use Prim.Native.Nat.{_+_, _*_, _≤_}
 use native.Mathlib.Omega.{arith}
@@ -8,11 +8,11 @@ use Rattle.phd_read.proofs.StepLaws.{ends-rows-full, ends-refs-full}
 use Rattle.phd_read.proofs.records.store_checked.Statement.{statement}
 use Rattle.phd_read.proofs.records.store_checked.Tie as tie
 
--- the entry, from where there is room
+-- The start of the function, from the point after both checks.
 abbrev start : tie.Else2 → tie.Start
 start c = c .before .before .before .before .before .before .before .before .before
 
--- there is room for the row and for the references
+-- The tables have capacity for the row and for the references.
 has-capacity : (c : tie.Else2) → let a = start c .args in
     (a .k .rows * row-width + row-width ≤ length (a .rows .now)) × (a .k .refs + a .found .span .count ≤ length (a .refs .now))
 has-capacity c = (omega arith, omega arith)

@@ -1,4 +1,5 @@
--- `store_refs` meets its contract: storing what is left, from here, is storing all of them.
+-- `store_refs` satisfies its contract: the invariant is that storing the references that are left, from here, gives the table
+-- with all of them.
 use borrow.Author.Needs.{needs}
 use mathlib.Core.Path.{_≡_, sym, ap, _∙_}
 use mathlib.Core.Bool.{true}
@@ -24,12 +25,12 @@ Inv-loop s at w base top count table₀ to here₀ left₀ place₀ table here l
 abbrev μ-loop : tie.MeasureT-loop
 μ-loop s at w base top count table₀ to here₀ left₀ place₀ table here left place = left
 
--- the reference that a turn read
+-- The reference that an iteration read.
 got : (c : tie.After-a Inv-loop μ-loop) → let l = c .before .before .before .before in let a = l .before .before .before .before .before .args in
     run (ref-field (a .w) (a .base) (a .top)) (a .s .now) (l .loop .here) ≡ whole (c .a .given .0 .0) (c .a .given .0 .1 .0)
 got c = sym (c .before .before .ref-field .ensures) ∙ ap outcome (c .a .given .1)
 
--- what is known where the quick way is taken
+-- Bounds on the fast path.
 module _ (c : tie.Then1 Inv-loop μ-loop) where
   fast : let a = c .before .before .before .before .args in (1 ≤ a .w) × (a .count < 0x10000000) × (c .before .refs-in-range .result ≡ true)
   fast = let a = c .before .before .before .before .args in fast-path-tests (a .w) (a .count) (c .before .refs-in-range .result) (c .if1 .taken)

@@ -1,4 +1,5 @@
--- `store_refs_in_range` meets its contract: storing what is left, from here, is storing all of them.
+-- `store_refs_in_range` satisfies its contract: the invariant is that storing the references that are left, from here, gives the
+-- table with all of them.
 use borrow.Author.Needs.{needs}
 use mathlib.Core.Path.{_≡_}
 use Prim.Native.Nat.{_+_, _-_, _*_, _≤_, _<_}

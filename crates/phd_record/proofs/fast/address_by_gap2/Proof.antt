@@ -1,4 +1,4 @@
--- `address_by_gap2` meets its contract.
+-- `address_by_gap2` satisfies its contract.
 use borrow.Author.Needs.{needs}
 use mathlib.Core.Path.{ap, _∙_}
 use mir.Syntax.{w64}

@@ -1,4 +1,4 @@
--- `add-gap` meets its contract.
+-- `address_by_gap4` satisfies its contract.
 use borrow.Author.Needs.{needs}
 use mathlib.Core.Path.{ap, _∙_}
 use mir.Syntax.{w64}

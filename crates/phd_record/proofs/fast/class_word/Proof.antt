@@ -1,4 +1,4 @@
--- `word` meets its contract.
+-- `class_word` satisfies its contract.
 use borrow.Author.Needs.{needs}
 use mathlib.Core.Logic.{⊎-elim}
 use mathlib.Core.Path.{_≡_, sym, ap, _∙_}

@@ -1,4 +1,4 @@
--- `count_of4` meets its contract.
+-- `count_of4` satisfies its contract.
 use borrow.Author.Needs.{needs}
 use mathlib.Core.Path.{ap, _∙_}
 use mir.Syntax.{w64}

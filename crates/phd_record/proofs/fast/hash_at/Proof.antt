@@ -1,4 +1,4 @@
--- `hash_at` meets its contract: no bytes are 0.
+-- `hash_at` satisfies its contract: the value of no bytes is 0.
 use borrow.Author.Needs.{needs}
 use Rattle.phd_record.proofs.FastRecordLaws.{value-no-bytes}
 use Rattle.phd_record.proofs.fast.hash_at.Statement.{statement}

@@ -1,4 +1,4 @@
--- `object_form` meets its contract.
+-- `object_form` satisfies its contract.
 use borrow.Author.Tests.{le-leb, lt-leb}
 use Rattle.phd.specs.Phd.{tag-form}
 use Rattle.phd_record.proofs.fast.object_form.Statement.{statement}

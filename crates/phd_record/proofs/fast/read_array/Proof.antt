@@ -1,4 +1,4 @@
--- `array` meets its contract: what stands up to its hash, and then what `from-ref-count` says.
+-- `read_array` satisfies its contract: the fields up to the hash are read, the rest is left to `read_array_from_hash`.
 use borrow.Author.Needs.{needs}
 use mathlib.Core.Path.{_≡_, sym, ap, _∙_}
 use Prim.Native.Nat.{_+_, _^_, _≤_, _<_}
@@ -15,7 +15,7 @@ use Rattle.phd_record.proofs.ArrayLaws.{flag-byte-end, array-shape, arr
 use Rattle.phd_record.proofs.fast.read_array.Statement.{statement}
 use Rattle.phd_record.proofs.fast.read_array.Tie as tie
 
--- the flag byte
+-- The flag byte was read.
 abbrev start : tie.After-flags → tie.Start
 start c = c .before .before .before .before
 
@@ -27,7 +27,7 @@ module _ (c : tie.After-flags) where
   next : c .flags .given .0 .1 .0 ≡ start c .args .at + 1
   next = let a = start c .args in flag-byte-end (a .header) (a .s .now) (a .at) _ _ (omega (arith, start c .pre .0)) got-flags
 
--- the shape, and the room for it
+-- The shape, and enough bytes for its fields up to the hash and 70 more.
 abbrev shape-of : tie.Else1 → tie.After-shape-of
 shape-of c = c .before .before .before .before
 

@@ -1,4 +1,4 @@
--- `from-ref-count` meets its contract: the record is taken where its bytes are there and its true length is enough.
+-- `read_array_from_hash` satisfies its contract: a hit has all its bytes, and a true length of at least the reference count.
 use borrow.Author.Needs.{needs}
 use mathlib.Core.Path.{sym, _∙_}
 use Prim.Native.Nat.{_*_, _^_, _≤_, _<_}
@@ -17,7 +17,7 @@ hash-le-4 c = rw (c .hash-bytes-of .ensures) (hash-width-le-4 _)
 abbrev hash-of : tie.After-n → tie.After-hash-bytes-of
 hash-of c = c .before .before .before .before
 
--- the references' bytes are no more than 2^33
+-- The references take at most 2^33 bytes.
 refs-bytes-le : (c : tie.After-n) → let b = hash-of c .before .before in (c .n .given .0 .0) * (b .args .sh .refwidth) ≤ 2 ^ 31 * 4
 refs-bytes-le c =
     let b = hash-of c .before .before in

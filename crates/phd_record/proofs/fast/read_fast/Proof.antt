@@ -1,4 +1,4 @@
--- `record` meets its contract: the tag, and then an object or an array, or nothing is taken.
+-- `read_fast` satisfies its contract: the tag is read, then an object or an array, or the fast path declines.
 use borrow.Author.Needs.{needs}
 use mathlib.Core.Path.{_≡_, sym, ap, _∙_}
 use Prim.Native.Nat.{ℕ, _+_}
@@ -15,11 +15,11 @@ use Rattle.phd_record.proofs.fast.read_fast.Tie as tie
 abbrev start : tie.After-be-upto4 → tie.Start
 start c = c .before .before
 
--- where the record stands
+-- The origin of the record.
 abbrev origin-of : tie.After-be-upto4 → Origin
 origin-of c = let a = start c .args in origin-at (a .at) (a .index)
 
--- what stands behind the tag
+-- A tag other than the end tag is followed by the body of a record.
 entry-is-body : (c : tie.After-be-upto4) → (c .be-upto4 .result ≡ 3 → ⊥) → let a = start c .args in
     run (entry (a .header) (a .before) (a .cache) (a .index)) (a .s .now) (a .at)
     ≡ run (record-body (a .header) (a .before) (a .cache) (origin-of c) (c .be-upto4 .result)) (a .s .now) (a .at + 1)

@@ -1,4 +1,4 @@
--- `object` meets its contract: the class, the gap, the class word, the hash and references that need no judging.
+-- `read_object` satisfies its contract: a hit has its class, an address in range, and references in range by that address.
 use borrow.Author.Needs.{needs}
 use mathlib.Core.Path.{refl, sym, ap, _∙_}
 use Prim.Native.Nat.{_+_, _*_, _/_, _^_, _≤_, _<_}
@@ -17,7 +17,7 @@ bytes-at c = c .before .before .before
 abbrev start : tie.After-shape-of → tie.Start
 start c = bytes-at c .before .before .before .before
 
--- the sizes of the parts, and the room for them
+-- The sizes of the parts, and enough bytes for them and 20 more.
 module _ (c : tie.After-shape-of) where
   wide : ClassWidth (start c .args .header .bits / 8)
   wide = bits-class-width _ (start c .pre .1)

@@ -1,4 +1,4 @@
--- `primitive` meets its contract: the array is taken where its gap is short.
+-- `read_primitive` satisfies its contract: a hit has a gap of at most 4 bytes.
 use borrow.Author.Needs.{needs}
 use mathlib.Core.Path.{sym, _∙_}
 use Prim.Native.Nat.{_+_, _^_, _≤_, _<_}
@@ -9,7 +9,7 @@ use Rattle.phd_record.proofs.ArrayLaws.{PrimitiveShape, primitive-shape
 use Rattle.phd_record.proofs.fast.read_primitive.Statement.{statement}
 use Rattle.phd_record.proofs.fast.read_primitive.Tie as tie
 
--- the gap is short, so the length and the hash are, and there is room
+-- The gap has at most 4 bytes, so the length and the hash do too, and enough bytes follow.
 abbrev shape-of : tie.Else1 → tie.After-shape-of
 shape-of c = c .before .before
 

@@ -1,4 +1,4 @@
--- `make-record` meets its contract.
+-- `make_record` satisfies its contract.
 use borrow.Author.Needs.{needs}
 use Rattle.phd_record.specs.RecordOutcomes.{make-record}
 use Rattle.phd_record.proofs.fields.make_record.Statement.{statement}

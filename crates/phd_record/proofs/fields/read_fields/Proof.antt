@@ -1,4 +1,4 @@
--- `read_fields` meets its contract: its parts, one after another.
+-- `read_fields` satisfies its contract: its parts are read one after another.
 use borrow.Author.Needs.{needs}
 use mathlib.Core.Path.{_≡_, sym, ap, _∙_}
 use Prim.Native.Nat.{_≤_}
@@ -12,7 +12,7 @@ use Rattle.phd_record.specs.RecordOutcomes.{record-read-of, front-outcom
 use Rattle.phd_record.proofs.fields.read_fields.Statement.{statement}
 use Rattle.phd_record.proofs.fields.read_fields.Tie as tie
 
--- the front
+-- The front part was read.
 abbrev start : tie.After-f → tie.Start
 start c = c .before .before .before .before
 
@@ -24,13 +24,13 @@ module _ (c : tie.After-f) where
   in-front : let a = start c .args in (c .f .given .0 .1 .0) ≤ length (a .s .now)
   in-front = let a = start c .args in end-in-bounds (front (a .top) (a .before) (a .sh)) (a .s .now) (a .at) _ _ (omega arith) got-front
 
--- the bytes of the hash are those of its kind
+-- The bytes of the hash follow from its kind.
 hashed : (c : tie.After-read-middle) → let w = c .before .before .before in let a = start w .args in
     run (middle (a .sh) (hash-bytes (a .hk))) (a .s .now) (w .f .given .0 .1 .0)
     ≡ run (middle (a .sh) (c .before .hash-bytes-of .result)) (a .s .now) (w .f .given .0 .1 .0)
 hashed c = rw (c .before .hash-bytes-of .ensures)
 
--- the middle
+-- The middle part was read.
 abbrev front-of : tie.After-q → tie.After-f
 front-of c = c .before .before .before .before .before
 
@@ -42,7 +42,7 @@ module _ (c : tie.After-q) where
   in-middle : let a = start (front-of c) .args in (c .q .given .0 .1 .0) ≤ length (a .s .now)
   in-middle = let a = start (front-of c) .args in end-in-bounds (middle (a .sh) (hash-bytes (a .hk))) (a .s .now) (front-of c .f .given .0 .1 .0) _ _ (in-front (front-of c)) got-middle
 
--- the name
+-- The name was read.
 abbrev middle-of : tie.After-name → tie.After-q
 middle-of c = c .before .before .before .before
 

@@ -1,4 +1,4 @@
--- `read_from_ref_count` meets its contract: its parts, one after another.
+-- `read_from_ref_count` satisfies its contract: its parts are read one after another.
 use borrow.Author.Needs.{needs}
 use mathlib.Core.Path.{_≡_, sym, ap, _∙_}
 use Prim.Native.Nat.{ℕ, _≤_}
@@ -15,7 +15,7 @@ use Rattle.phd_record.proofs.RefsLaws.{refs-read-whole, refs-read-stops
 use Rattle.phd_record.proofs.fields.read_from_ref_count.Statement.{statement}
 use Rattle.phd_record.proofs.fields.read_from_ref_count.Tie as tie
 
--- the count
+-- The reference count was read.
 abbrev start : tie.After-k → tie.Start
 start c = c .before .before .before .before
 
@@ -27,12 +27,12 @@ module _ (c : tie.After-k) where
   in-count : let a = start c .args in (c .k .given .0 .1 .0) ≤ length (a .s .now)
   in-count = let a = start c .args in end-in-bounds (ref-count (a .sh .countwidth) (a .sh .count)) (a .s .now) (a .at) _ _ (omega arith) got-count
 
--- the references, where they stop
+-- Reading stops in the references.
 refs-stop : (c : tie.After-check-refs) (w : Stop) → c .check-refs .result ≡ Stops w → let k = c .before .before in let a = start k .args in
     run (ref-list (a .sh .refwidth) (a .v .address) (a .top) (k .k .given .0 .0)) (a .s .now) (k .k .given .0 .1 .0) ≡ stops w
 refs-stop c w e = refs-read-stops _ _ (sym (c .check-refs .ensures) ∙ e)
 
--- the references, with their values
+-- The references were read, with values that the code does not keep.
 abbrev count-of : tie.After-e → tie.After-k
 count-of c = c .before .before .before .before
 
@@ -53,7 +53,7 @@ module _ (c : tie.After-e) where
       let a = start k .args in
       end-in-bounds (spanned-refs (a .sh .refwidth) (a .v .address) (a .top) (k .k .given .0 .0)) (a .s .now) (k .k .given .0 .1 .0) _ _ (in-count k) got-refs
 
--- the tail
+-- The tail was read.
 abbrev refs-at : tie.After-t → tie.After-e
 refs-at c = c .before .before .before .before
 

@@ -1,4 +1,4 @@
--- `class_name` meets its contract.
+-- `class_name` satisfies its contract.
 use borrow.Author.Needs.{needs}
 use borrow.Author.Tests.{eq-eqb, ne-eqb}
 use Rattle.decode.specs.Layout.{run-yield}

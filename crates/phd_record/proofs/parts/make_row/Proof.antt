@@ -1,4 +1,4 @@
--- `make_row` meets its contract.
+-- `make_row` satisfies its contract.
 use borrow.Author.Needs.{needs}
 use Rattle.phd.specs.Phd.{row}
 use Rattle.phd_record.proofs.parts.make_row.Statement.{statement}

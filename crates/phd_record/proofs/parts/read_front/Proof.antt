@@ -1,4 +1,4 @@
--- `read_front` meets its contract: its three fields, one after another.
+-- `read_front` satisfies its contract: its three fields are read one after another.
 use borrow.Author.Needs.{needs}
 use mathlib.Core.Path.{_≡_, sym, ap, _∙_}
 use Prim.Native.Nat.{_≤_}
@@ -10,7 +10,7 @@ use Rattle.phd.specs.Phd.{front}
 use Rattle.phd_record.proofs.parts.read_front.Statement.{statement}
 use Rattle.phd_record.proofs.parts.read_front.Tie as tie
 
--- the gap
+-- The gap was read.
 abbrev start : tie.After-a → tie.Start
 start c = c .before .before .before .before
 
@@ -22,7 +22,7 @@ module _ (c : tie.After-a) where
   in-address : let a = start c .args in (c .a .given .0 .1 .0) ≤ length (a .s .now)
   in-address = let a = start c .args in end-in-bounds (address (a .sh .gap) (a .before) (a .top)) (a .s .now) (a .at) _ _ (omega arith) got-address
 
--- the class word
+-- The class word was read.
 abbrev address-of : tie.After-c → tie.After-a
 address-of c = c .before .before .before .before
 
@@ -34,7 +34,7 @@ module _ (c : tie.After-c) where
   in-class : let a = start (address-of c) .args in (c .c .given .0 .1 .0) ≤ length (a .s .now)
   in-class = let a = start (address-of c) .args in end-in-bounds (field (a .sh .class)) (a .s .now) (address-of c .a .given .0 .1 .0) _ _ (in-address (address-of c)) got-class
 
--- the array length
+-- The array length was read.
 abbrev class-at : tie.After-len → tie.After-c
 class-at c = c .before .before .before .before
 

@@ -1,4 +1,4 @@
--- `read_middle` meets its contract: its three fields, one after another.
+-- `read_middle` satisfies its contract: its three fields are read one after another.
 use borrow.Author.Needs.{needs}
 use mathlib.Core.Path.{_≡_, sym, ap, _∙_}
 use Prim.Native.Nat.{_≤_}
@@ -10,7 +10,7 @@ use Rattle.phd.specs.Phd.{middle}
 use Rattle.phd_record.proofs.parts.read_middle.Statement.{statement}
 use Rattle.phd_record.proofs.parts.read_middle.Tie as tie
 
--- the instance size
+-- The instance size was read.
 abbrev start : tie.After-i → tie.Start
 start c = c .before .before .before .before
 
@@ -22,7 +22,7 @@ module _ (c : tie.After-i) where
   in-inst : let a = start c .args in (c .i .given .0 .1 .0) ≤ length (a .s .now)
   in-inst = let a = start c .args in end-in-bounds (count (a .sh .inst)) (a .s .now) (a .at) _ _ (omega arith) got-inst
 
--- the hash
+-- The hash was read.
 abbrev inst-of : tie.After-h → tie.After-i
 inst-of c = c .before .before .before .before
 
@@ -34,7 +34,7 @@ module _ (c : tie.After-h) where
   in-hash : let a = start (inst-of c) .args in (c .h .given .0 .1 .0) ≤ length (a .s .now)
   in-hash = let a = start (inst-of c) .args in end-in-bounds (field (a .hb)) (a .s .now) (inst-of c .i .given .0 .1 .0) _ _ (in-inst (inst-of c)) got-hash
 
--- the superclass word
+-- The superclass word was read.
 abbrev hash-of : tie.After-superclass → tie.After-h
 hash-of c = c .before .before .before .before
 

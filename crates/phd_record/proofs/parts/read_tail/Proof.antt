@@ -1,4 +1,4 @@
--- `read_tail` meets its contract: its two fields, one after another.
+-- `read_tail` satisfies its contract: its two fields are read one after another.
 use borrow.Author.Needs.{needs}
 use mathlib.Core.Path.{_≡_, sym, ap, _∙_}
 use Prim.Native.Nat.{_≤_}
@@ -10,7 +10,7 @@ use Rattle.phd.specs.Phd.{true-length, tail}
 use Rattle.phd_record.proofs.parts.read_tail.Statement.{statement}
 use Rattle.phd_record.proofs.parts.read_tail.Tie as tie
 
--- the size
+-- The size was read.
 abbrev start : tie.After-v → tie.Start
 start c = c .before .before .before .before
 
@@ -22,7 +22,7 @@ module _ (c : tie.After-v) where
   in-size : let a = start c .args in (c .v .given .0 .1 .0) ≤ length (a .s .now)
   in-size = let a = start c .args in end-in-bounds (field (a .size)) (a .s .now) (a .at) _ _ (omega arith) got-size
 
--- the true length
+-- The true length was read.
 abbrev size-of : tie.After-t → tie.After-v
 size-of c = c .before .before .before .before
 

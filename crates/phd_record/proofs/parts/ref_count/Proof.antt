@@ -1,4 +1,4 @@
--- `ref_count` meets its contract.
+-- `ref_count` satisfies its contract.
 use borrow.Author.Needs.{needs}
 use borrow.Author.Tests.{eq-eqb, ne-eqb}
 use Rattle.decode.specs.Layout.{run-yield}

@@ -1,4 +1,4 @@
--- `true_length` meets its contract: no field, or the count and then its test.
+-- `true_length` satisfies its contract: there is no such field, or the count is read and then compared.
 use borrow.Author.Needs.{needs}
 use mathlib.Core.Path.{_≡_, sym, ap, _∙_}
 use borrow.Author.Tests.{eq-eqb, ne-eqb, le-leb, lt-leb}

@@ -1,4 +1,4 @@
--- `check_refs` meets its contract: what is left, from here, gives the answer of the whole.
+-- `check_refs` satisfies its contract: the invariant is that what is left from here gives the answer of the whole.
 use borrow.Author.Needs.{needs}
 use mathlib.Core.Path.{_≡_, sym, ap, _∙_}
 use Prim.Native.Nat.{_-_, _≤_}
@@ -20,7 +20,7 @@ Inv-loop s at w base top count here₀ left₀ here left =
 abbrev μ-loop : tie.MeasureT-loop
 μ-loop s at w base top count here₀ left₀ here left = left
 
--- the whole, after a reference was read
+-- The answer of the whole, after one reference was read.
 module _ (c : tie.After-ref-field Inv-loop μ-loop) where
   whole-by : let l = c .before .before in let a = l .before .before .args in
       refs-read-of (run (ref-list (a .w) (a .base) (a .top) (a .count)) (a .s .now) (a .at))

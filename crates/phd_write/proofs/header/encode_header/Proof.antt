@@ -1,4 +1,4 @@
--- `push` meets its contract: the preamble, the VM string and the two bytes 2, one after the other.
+-- `encode_header` satisfies its contract: it writes the preamble, the VM string and the two bytes 2 in order.
 use borrow.Author.Needs.{needs}
 use mathlib.Core.Path.{_≡_, refl}
 use mathlib.Core.List.{List, [], _∷_}
@@ -20,7 +20,7 @@ in-parts names h flags e = rw e
 abbrev start : tie.After-header-flags → tie.Start
 start c = c .before .before .before .before
 
--- what is left with the flags, and after each call
+-- The progress after the flags are computed and after each call.
 abbrev none : tie.After-header-flags → WriteProgress
 none c =
     let a = start c .args in

@@ -1,4 +1,4 @@
--- `encode_preamble` meets its contract: the parts, one after the other.
+-- `encode_preamble` satisfies its contract: it writes its five parts in order.
 use borrow.Author.Needs.{needs}
 use mathlib.Core.Path.{_≡_, refl}
 use mathlib.Core.List.{List, [], _∷_}
@@ -18,13 +18,14 @@ in-parts : (flags : ℕ) → encode-preamble flags ≡ join (parts flags)
 unfolding encode-preamble
 in-parts flags = refl
 
--- what is left at the entry, and after each call
+-- The progress at the entry and after each call.
 abbrev none : tie.Start → WriteProgress
 none c = progress-start (c .args .out .now) 0 (parts (c .args .flags)) (in-parts (c .args .flags)) (c .pre)
 
 abbrev len : tie.After-encode-be → WriteProgress
 len c = progress-next (none (c .before .before .before)) (c .encode-be .ensures)
 
+-- The bytes written after the length are the opening string.
 opened : (c : tie.After-encode-bytes) → let p = len (c .before .before .before .before .before) in
     Writes (p .out) (p .at) magic (c .encode-bytes .last .0) (c .encode-bytes .result)
 unfolding magic

@@ -1,4 +1,4 @@
--- `encode_vm` meets its contract: the tag, the length and the bytes of the VM string, one after the other, or nothing.
+-- `encode_vm` satisfies its contract: it writes the tag, the length and the bytes of the VM string in order, or nothing.
 use borrow.Author.Needs.{needs}
 use mathlib.Core.Path.{_≡_, refl}
 use mathlib.Core.Bool.{true}
@@ -20,7 +20,7 @@ in-parts : (names : List ℕ) (t : StringSpan) → t .present ≡ true → encod
 unfolding encode-vm
 in-parts names t e = rw e
 
--- what is left where there is a string, and after each call
+-- The progress before the tag, if there is a VM string, and after each call.
 abbrev none : tie.Then1 → WriteProgress
 none c =
     let s = c .before .before .before in

@@ -1,4 +1,4 @@
--- `flags` meets its contract: the sum of what each flag adds.
+-- `header_flags` satisfies its contract: it is the sum of the values of the three flags.
 use borrow.Author.Needs.{needs}
 use native.Mathlib.Omega.{arith}
 use Rattle.phd_write.specs.Write.{header-flags}

@@ -1,4 +1,4 @@
--- `size` meets its contract: the VM string's record, if there is one, and 31 bytes.
+-- `header_size` satisfies its contract: the header has 31 bytes, and those of the VM string's record if there is one.
 use native.Mathlib.Omega.{arith}
 use Rattle.phd_write.specs.HeaderBytes.{vm-size, header-size, length-header}
 use Rattle.phd_write.proofs.header.header_size.Statement.{statement}

@@ -1,4 +1,4 @@
--- `push` meets its contract: putting the rows that are left, from here, is putting all of them.
+-- `encode_rows` satisfies its contract: the invariant is that writing the rows that are left completes the whole.
 use borrow.Author.Needs.{needs}
 use Prim.Native.Nat.{_-_, _≤_, _<_}
 use native.Mathlib.Omega.{arith}
@@ -19,10 +19,11 @@ abbrev μ-loop : tie.MeasureT-loop
 bits-good : (c : tie.Start Inv-loop μ-loop) → ValidBits (c .args .h .bits)
 bits-good c = header-bits-good _ _ _ _ (c .pre .0)
 
--- a turn of the loop, and the beginning of the function
+-- The head of the loop.
 abbrev head : tie.In-loop Inv-loop μ-loop → tie.At-loop Inv-loop μ-loop
 head c = c .before
 
+-- The function's entry.
 abbrev start : tie.In-loop Inv-loop μ-loop → tie.Start Inv-loop μ-loop
 start c = c .before .before .before .before .before .before .before
 
@@ -30,12 +31,12 @@ inside : (c : tie.In-loop Inv-loop μ-loop) → head c .loop .i < row-count (sta
 unfolding row-count
 inside c = omega arith
 
--- the next row
+-- What holds of the next row.
 this-step : (c : tie.In-loop Inv-loop μ-loop) → let a = start c .args in let l = head c .loop in
     RowStep (a .h) (a .names .now) (a .refs .now) (a .rows .now) (l .i) (l .inv .index) (l .before) (l .cache)
 this-step c = row-step _ _ _ _ _ _ _ _ (bits-good (start c)) (head c .loop .inv .between) (inside c)
 
--- no row is left, and what is left is the end tag
+-- After the loop no row is left.
 over : (c : tie.After-loop Inv-loop μ-loop) → row-count (c .before .before .before .before .before .before .before .args .rows .now) ≤ c .before .loop .i
 unfolding row-count
 over c = omega arith

@@ -1,4 +1,4 @@
--- `plan_row` meets its contract: the measure, and the plan by it.
+-- `plan_row` satisfies its contract: it computes the plan input, then the plan.
 use borrow.Author.Needs.{needs}
 use mathlib.Core.Path.{sym, ap, subst, _∙_}
 use Rattle.phd_plan.specs.FormChoice.{Bounded, make-plan}

@@ -1,4 +1,4 @@
--- `new` meets its contract.
+-- `new` satisfies its contract.
 use mathlib.Core.Path.{refl}
 use Rattle.phd.specs.Phd.{empty-cache}
 use Rattle.phd.proofs.cache.Cache.new.Statement.{statement}

@@ -1,4 +1,4 @@
--- `push` meets its contract.
+-- `push` satisfies its contract.
 use borrow.Author.Needs.{needs}
 use borrow.Author.Tests.{lt-ltb, le-ltb}
 use Rattle.phd.specs.Phd.{push}

@@ -1,4 +1,4 @@
--- `after` meets its contract, by whether the record puts its class word.
+-- `push_if` satisfies its contract, whether the class word is pushed or not.
 use borrow.Author.Needs.{needs}
 use Rattle.phd.proofs.cache.Cache.push_if.Statement.{statement}
 use Rattle.phd.proofs.cache.Cache.push_if.Tie as tie
