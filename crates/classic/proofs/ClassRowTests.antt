@@ -1,7 +1,7 @@
 -- The tests of a row that the functions compute are `is-class-at` and `is-class-named`.
 -- Assumes nothing.
 use mathlib.Core.Path.{_≡_, refl, sym, ap, _∙_}
-use mathlib.Core.Bool.{Bool, true, false, _&&_}
+use mathlib.Core.Bool.{Bool, true, false, _&&_, and-false}
 use mathlib.Core.List.{List, [], _∷_}
 use Prim.Native.Nat.{ℕ, suc, _+_, _≤_, _<_}
 use native.Mathlib.Numerals.{add-one}
@@ -16,19 +16,15 @@ use Rattle.table.specs.Rows.{name-of}
 use Rattle.phd_check.specs.GoodRows.{all-true}
 use Rattle.phd_check.specs.WellFormed.{length-name-of}
 use Rattle.table.specs.declared.Row.{Row}
-use Rattle.phd_check.proofs.CheckLaws.{all-of-all-true, both-joined}
+use Rattle.phd_check.proofs.CheckLaws.{all-of-all-true}
 use Rattle.classic.specs.ClassicText.{letters, primitive-array-type, is-class-at, is-class-named}
 
 -- The test of kind and address is `is-class-at`.
 pub is-class-at-test : (a : ℕ) (r : Row) → eqb (r .kind) 1 && eqb (r .address) a ≡ is-class-at a r
 unfolding is-class-at
-is-class-at-test a r = both-joined (eqb (r .kind) 1) (eqb (r .address) a)
+is-class-at-test a r = refl
 
 -- ---- class rows by name
-
-both-false : (b : Bool) → b && false ≡ false
-both-false true = refl
-both-false false = refl
 
 -- Lists of different lengths are not equal.
 different-lengths-differ : (xs ys : List ℕ) → (length xs ≡ length ys → ⊥) → bytes-equal xs ys ≡ false
@@ -36,7 +32,7 @@ unfolding bytes-equal
 different-lengths-differ [] [] n = absurd (n refl)
 different-lengths-differ [] (y ∷ ys) n = refl
 different-lengths-differ (x ∷ xs) [] n = refl
-different-lengths-differ (x ∷ xs) (y ∷ ys) n = rw (different-lengths-differ xs ys (λ e. n (ap suc e))) (both-false (eqb x y))
+different-lengths-differ (x ∷ xs) (y ∷ ys) n = rw (different-lengths-differ xs ys (λ e. n (ap suc e))) (and-false (eqb x y))
 
 length-primitive-array-type : (prim : ℕ) → length (primitive-array-type prim) ≡ 2
 unfolding primitive-array-type
@@ -47,8 +43,7 @@ pub class-name-two-bytes : (r : Row) → eqb (r .kind) 1 && eqb (r .namelen) 2 �
 class-name-two-bytes r e =
     let k : Bool = eqb (r .kind) 1 in
     let n : Bool = eqb (r .namelen) 2 in
-    let b = sym (both-joined k n) ∙ e in
-    (and-left k n b, eqb-true _ _ (and-right k n b))
+    (and-left k n e, eqb-true _ _ (and-right k n e))
 
 -- Let r be a row whose name lies in the name bytes.
 module _ (names : List ℕ) (r : Row) (prim : ℕ) (in-bounds : r .place + r .namelen ≤ length names) where

@@ -3,7 +3,7 @@
 use mathlib.Core.Path.{_≡_, refl, sym, ap}
 use Prim.Native.Nat.{ℕ, _+_, _^_, _<_}
 use native.Mathlib.Omega.{arith}
-use mathlib.Core.Bool.{Bool, true, false, _&&_}
+use mathlib.Core.Bool.{true, _&&_, and-true}
 use mathlib.Core.List.{List}
 use lib.ListN.{length}
 use lib.Dec.{leb}
@@ -54,10 +54,6 @@ unfolding checked-write refused
 refusal-is-18 (At i) n w bytes e = let q : w ≡ record { reply = 18; place = i } = cc in (q, λ z. omega (arith, rw q at z))
 refusal-is-18 NotFound n w bytes e = let z : _≡_ {A = ℕ} 0 1 = cc in absurd (omega arith)
 
-both-true-right : (b : Bool) → b ≡ b && true
-both-true-right true = refl
-both-true-right false = refl
-
 module _ (h : Header) (names refs : List ℕ) (rows : List Row) where
   -- A refusal by the first two checks (15, 16) is the answer of the size query.
   pub check-refusal : (w : Answer) → w ≡ checked-input (good-header h names rows refs) (first-bad h names refs rows) → (w .reply ≡ 0 → ⊥) → w ≡ text-rows-size h names refs rows
@@ -89,7 +85,7 @@ module _ (h : Header) (names refs : List ℕ) (rows : List Row) where
   unfolding text-rows
   text-as-size-query out-capacity =
       ap (λ b. checked-write (good-header h names rows refs) (first-bad h names refs rows) (first-row (class-missing rows) rows) b (text-of h names refs rows))
-      (both-true-right (leb (length (text-of h names refs rows)) out-capacity))
+      (sym (and-true (leb (length (text-of h names refs rows)) out-capacity)))
 
   -- The answer w of the size query agrees with writing the text to an output of any length.
   pub size-query-agrees : (w : Answer) (out-capacity : ℕ) → w ≡ text-rows-size h names refs rows → QueryAgrees w out-capacity (text-rows h names refs rows out-capacity)

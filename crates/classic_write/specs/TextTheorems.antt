@@ -1,6 +1,6 @@
 -- The theorems about the text and its size query, `text-rows` and `text-rows-size`, in reading order.
--- A reader must believe the statements and their records, those of Search, SizeQuery and OffsetsIgnored (table), and those of
--- ClassRows (classic). Assumes nothing.
+-- A reader must believe the statements and their records, those of Search, SizeQuery and OffsetsIgnored (table), those of
+-- ClassRows (classic), and `with-nulls` (ExactCounts). Assumes nothing.
 use mathlib.Core.Path.{_≡_, refl, ap, _∙_}
 use mathlib.Core.Logic.{_↔_, _⊎_}
 use Prim.Native.Nat.{ℕ, _+_, _*_, _≤_, _<_}

@@ -41,7 +41,7 @@ value-after-step s at n i v h in-bounds = rw (slice-next s at n i h in-bounds)
 
 -- ---- two's complement
 
-byte-bits : (n : ℕ) → 256 ^ n ≡ 2 ^ (8 * n)
+pub byte-bits : (n : ℕ) → 256 ^ n ≡ 2 ^ (8 * n)
 byte-bits zero = refl
 byte-bits (suc n) = pow-suc 256 n ∙ ap (λ (x : ℕ). x * 256) (byte-bits n) ∙ sym (ap (λ (x : ℕ). 2 ^ x) (mul-suc 8 n) ∙ pow-add 2 (8 * n) 8)
 

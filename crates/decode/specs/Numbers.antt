@@ -1,7 +1,8 @@
 -- Numbers as a dump stores them: big-endian bytes, two's complement, and the exact sums that give an address.
--- A reader must believe that `value`, `signed` and `add-gap` state what docs/FORMAT.md 1.1, 1.2 and 3.4 require.
+-- A reader must believe that `value`, `signed`, `add-gap`, `to-count` and `all-within` state what docs/FORMAT.md 1.1 to 1.3, 3.4 and
+-- 3.6 require.
 use Prim.Native.Nat.{ℕ, suc, _+_, _-_, _*_, _^_}
-use mathlib.Core.Bool.{Bool, true, false, cond, _&&_}
+use mathlib.Core.Bool.{Bool, true, cond, _&&_}
 use mathlib.Core.List.{List, [], _∷_}
 use lib.Dec.{leb, ltb}
 use lib.IntN.{ℤ, pos, negsuc}

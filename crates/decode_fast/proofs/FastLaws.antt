@@ -3,7 +3,7 @@ use mathlib.Core.Path.{_≡_, refl, ap, _∙_}
 use mathlib.Core.Bool.{Bool, true, false, _&&_}
 use mathlib.Core.List.{List}
 use Prim.Native.Nat.{ℕ, zero, suc, _+_, _-_, _*_, _/_, _%_, _^_, _≤_, _<_}
-use native.Mathlib.Nat.{add-zero, add-suc, add-mul, mul-assoc, pow-suc, pow-succ', one-le-pow, mod-lt, mod-eq-of-lt, add-mod-right, div-one, div-div-eq-div-mul, div-lt-iff-lt-mul, mul-div-cancel, add-mul-div-right}
+use native.Mathlib.Nat.{add-zero, add-suc, add-mul, mul-assoc, pow-succ', one-le-pow, mod-lt, mod-eq-of-lt, add-mod-right, div-one, div-div-eq-div-mul, div-lt-iff-lt-mul, mul-div-cancel, add-mul-div-right}
 use native.Mathlib.Omega.{arith}
 use native.Mathlib.Decide.{decLt}
 use lib.Arith.{digits-div, mod-mul}
@@ -14,22 +14,16 @@ use borrow.Author.Tests.{lt-ltb, le-ltb, le-leb, lt-leb}
 use Rattle.decode.specs.Numbers.{value-after, value}
 use Rattle.decode.specs.Slices.{slice-cons}
 use Rattle.decode.specs.ByteValues.{value-next, value-below}
+use Rattle.decode.proofs.DecodeLaws.{byte-bits}
 use Rattle.decode_fast.specs.RefsInRange.{gap-reach, refs-in-range, target}
 
 -- ---- powers of 256
-
--- A byte has eight bits.
-eight-bits : (k : ℕ) → 2 ^ (8 * k) ≡ 256 ^ k
-eight-bits zero = refl
-eight-bits (suc k) =
-    let e : 8 * suc k ≡ 8 * k + 8 = omega arith in
-    rw (e, pow-add 2 (8 * k) 8, eight-bits k, pow-suc 256 k)
 
 -- A right shift that leaves n of m bytes divides by 256 ^ (m - n).
 shift-pow : (m n : ℕ) → 2 ^ (8 * m - 8 * n) ≡ 256 ^ (m - n)
 shift-pow m n =
     let e : 8 * m - 8 * n ≡ 8 * (m - n) = omega arith in
-    rw (e, eight-bits (m - n))
+    rw (e, byte-bits (m - n))
 
 -- 256 ^ m is the product of 256 ^ n, for the first n bytes, and 256 ^ (m - n), for the others.
 pow-split : (m n : ℕ) → n ≤ m → 256 ^ m ≡ 256 ^ n * 256 ^ (m - n)
@@ -49,24 +43,21 @@ pow-even (suc n) h = omega arith
 
 -- The bytes at offset `at` of s, read one by one.
 module _ (s : List ℕ) (at : ℕ) where
-  value-more : (n : ℕ) → at + n < length s → value (take (suc n) (drop at s)) ≡ value (take n (drop at s)) * 256 + getD s (at + n) 0
-  value-more = value-next s at
-
   value-one-byte : at < length s → value (take 1 (drop at s)) ≡ getD s at 0
   unfolding value-after
   value-one-byte h = rw (slice-cons s at 0 h) (omega arith)
 
   pub value-two-bytes : at + 2 ≤ length s → getD s at 0 * 256 + getD s (at + 1) 0 ≡ value (take 2 (drop at s))
-  value-two-bytes h = omega (arith, value-one-byte (omega arith), value-more 1 (omega arith))
+  value-two-bytes h = omega (arith, value-one-byte (omega arith), value-next s at 1 (omega arith))
 
   pub value-four-bytes : at + 4 ≤ length s
       → ((getD s at 0 * 256 + getD s (at + 1) 0) * 256 + getD s (at + 2) 0) * 256 + getD s (at + 3) 0 ≡ value (take 4 (drop at s))
-  value-four-bytes h = omega (arith, value-two-bytes (omega arith), value-more 2 (omega arith), value-more 3 (omega arith))
+  value-four-bytes h = omega (arith, value-two-bytes (omega arith), value-next s at 2 (omega arith), value-next s at 3 (omega arith))
 
   pub value-eight-bytes : at + 8 ≤ length s
       → (((value (take 4 (drop at s)) * 256 + getD s (at + 4) 0) * 256 + getD s (at + 5) 0) * 256 + getD s (at + 6) 0) * 256 + getD s (at + 7) 0
       ≡ value (take 8 (drop at s))
-  value-eight-bytes h = omega (arith, value-more 4 (omega arith), value-more 5 (omega arith), value-more 6 (omega arith), value-more 7 (omega arith))
+  value-eight-bytes h = omega (arith, value-next s at 4 (omega arith), value-next s at 5 (omega arith), value-next s at 6 (omega arith), value-next s at 7 (omega arith))
 
   module _ (byte : (i : ℕ) → getD s i 0 < 256) where
     -- The value of n bytes is below 256 ^ n.
@@ -78,7 +69,7 @@ module _ (s : List ℕ) (at : ℕ) where
     value-div-pow n zero h = rw (add-zero n, div-one)
     value-div-pow n (suc k) h = rw (
       add-suc n k,
-      value-more (n + k) (omega arith),
+      value-next s at (n + k) (omega arith),
       pow-succ' 256 k,
       ← div-div-eq-div-mul (value (take (n + k) (drop at s)) * 256 + getD s (at + (n + k)) 0) 256 (256 ^ k),
       digits-div (value (take (n + k) (drop at s))) (byte (at + (n + k))),
@@ -97,14 +88,10 @@ pub gap-reach-shift : (m w : ℕ) → w ≤ m → 2 * 256 ^ m / 2 ^ (8 * m - 8 *
 unfolding gap-reach
 gap-reach-shift m w l = rw (shift-pow m w, pow-split m w l, ← mul-assoc 2 (256 ^ w) (256 ^ (m - w))) (mul-div-cancel (2 * 256 ^ w) (pow-pos (m - w)))
 
-false-both : (x y : Bool) → false ≡ x && (y && false)
-false-both true true = refl
-false-both true false = refl
-false-both false y = refl
-
-and-both : (x y : Bool) → x && y ≡ x && y
-and-both true y = refl
-and-both false y = refl
+false-and-and : (x y : Bool) → false ≡ x && (y && false)
+false-and-and true true = refl
+false-and-and true false = refl
+false-and-and false y = refl
 
 -- a < top - m and a + m < top are the same test; the first one does not overflow.
 ltb-sub : (a m top : ℕ) → m ≤ top → ltb a (top - m) ≡ ltb (a + m) top
@@ -121,12 +108,12 @@ refs-in-range-wide w a top h = rw (lt-leb w 4 h)
 -- If top is below the reach, `refs-in-range` is false.
 pub refs-in-range-small : (w a top : ℕ) → top < gap-reach w → false ≡ refs-in-range w a top
 unfolding refs-in-range
-refs-in-range-small w a top h = rw (le-ltb (a + gap-reach w) top (omega arith)) (false-both (leb w 4) (ltb (gap-reach w) a))
+refs-in-range-small w a top h = rw (le-ltb (a + gap-reach w) top (omega arith)) (false-and-and (leb w 4) (ltb (gap-reach w) a))
 
 -- Otherwise `refs-in-range` is the two comparisons that the function makes.
 pub refs-in-range-test : (w a top : ℕ) → w ≤ 4 → gap-reach w ≤ top → ltb (gap-reach w) a && ltb a (top - gap-reach w) ≡ refs-in-range w a top
 unfolding refs-in-range
-refs-in-range-test w a top h k = rw (le-leb w 4 h, ltb-sub a (gap-reach w) top k) (and-both (ltb (gap-reach w) a) (ltb (a + gap-reach w) top))
+refs-in-range-test w a top h k = rw (le-leb w 4 h, ltb-sub a (gap-reach w) top k)
 
 -- The first w bytes of the m-byte value x, as a signed number plus half of 256 ^ w, so that the lowest is 0.
 abbrev pub biased : ℕ → ℕ → ℕ → ℕ

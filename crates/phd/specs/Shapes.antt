@@ -125,7 +125,7 @@ hash-cond-le-4 false true = omega arith
 hash-cond-le-4 false false = omega arith
 
 -- A hash has at most 4 bytes.
-hash-bytes-le-4 : (k : ℕ) → hash-bytes k ≤ 4
+pub hash-bytes-le-4 : (k : ℕ) → hash-bytes k ≤ 4
 unfolding hash-bytes
 hash-bytes-le-4 k = hash-cond-le-4 (eqb k 2) (eqb k 3)
 

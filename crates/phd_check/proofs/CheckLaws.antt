@@ -1,7 +1,7 @@
 -- Laws of the tests of GoodRows, in the form in which the functions compute them.
 -- Assumes nothing.
 use mathlib.Core.Path.{_≡_, refl, sym}
-use mathlib.Core.Bool.{Bool, true, false, not, _&&_, _||_, cond}
+use mathlib.Core.Bool.{Bool, true, false, not, _&&_, _||_, cond, and-true}
 use mathlib.Core.List.{List, [], _∷_}
 use Prim.Native.Nat.{ℕ, zero, suc, _+_, _-_, _^_, _≤_, _<_}
 use native.Mathlib.Omega.{arith}
@@ -48,21 +48,6 @@ all-true-false (true ∷ bs) zero e = let z : _≡_ {A = ℕ} 0 1 = cc in absurd
 all-true-false (false ∷ bs) zero e = refl
 all-true-false (true ∷ bs) (suc i) e = all-true-false bs i e
 all-true-false (false ∷ bs) (suc i) e = refl
-
--- Conjunction with true changes nothing.
-both-true : (b : Bool) → b ≡ b && true
-both-true true = refl
-both-true false = refl
-
--- Reflexivity, of a conjunction.
-pub both-joined : (a b : Bool) → a && b ≡ a && b
-both-joined true b = refl
-both-joined false b = refl
-
--- Reflexivity, of a disjunction.
-pub either-joined : (a b : Bool) → a || b ≡ a || b
-either-joined true b = refl
-either-joined false b = refl
 
 -- ---- comparisons
 
@@ -124,7 +109,7 @@ module _ (names : List ℕ) (t : StringSpan) (there : t .present ≡ true) where
   -- Any other VM string is good exactly if its bytes are.
   pub vm-by-bytes : t .len < 65536 → t .place + t .len ≤ length names → all-within 0x20 0x7E (take (t .len) (drop (t .place) names)) ≡ good-vm names t
   unfolding good-vm all-true
-  vm-by-bytes h k = rw (there, lt-ltb _ _ h, le-leb _ _ k) (both-true _)
+  vm-by-bytes h k = rw (there, lt-ltb _ _ h, le-leb _ _ k) (sym (and-true _))
 
 -- ---- first bad row
 

@@ -1,5 +1,5 @@
 -- Every row that a reading of bytes stores passes the writer's checks: the invariant `GoodState` holds after each record.
--- A reader must believe `GoodState`.
+-- Assumes nothing.
 use mathlib.Core.Path.{_≡_, refl}
 use Prim.Native.Nat.{ℕ, suc, _+_, _-_, _/_, _%_, _≤_}
 use native.Mathlib.Nat.{zero-add, add-zero}

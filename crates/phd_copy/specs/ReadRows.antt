@@ -1,6 +1,6 @@
 -- The row of a record that was read from bytes satisfies the bounds of its shape (`RowBounds`). GoodForms derives the writer's
 -- checks from them.
--- A reader must believe `GoodContext`.
+-- Assumes nothing.
 use mathlib.Core.Path.{_≡_, refl, sym, ap, _∙_}
 use Prim.Native.Nat.{ℕ, zero, suc, _/_, _%_, _^_, _≤_, _<_}
 use native.Mathlib.Decide.{decLt, ℕ-discrete}

@@ -1,9 +1,9 @@
 -- Every stored reference lies in 1 to 2^W - 1, and the address of every stored row in 0 to 2^W - 1, where W is that of the header
 -- that the reading returns.
 -- Assumes nothing.
-use mathlib.Core.Path.{_≡_, refl, _∙_}
+use mathlib.Core.Path.{_≡_, refl, sym, _∙_}
 use Prim.Native.Nat.{ℕ, _≤_, _<_}
-use mathlib.Core.Bool.{Bool, true, false, _&&_}
+use mathlib.Core.Bool.{true, _&&_, and-assoc}
 use mathlib.Core.List.{List, [], _∷_, _++_}
 use lib.ListN.{length}
 use lib.Dec.{leb}
@@ -17,14 +17,10 @@ use Rattle.reader.specs.Steps.{read-tables}
 
 -- ---- references
 
-both-assoc : (a b c : Bool) → a && (b && c) ≡ (a && b) && c
-both-assoc true b c = refl
-both-assoc false b c = refl
-
 within-append : (low high : ℕ) (xs ys : List ℕ) → all-within low high (xs ++ ys) ≡ all-within low high xs && all-within low high ys
 unfolding all-within
 within-append low high [] ys = refl
-within-append low high (x ∷ xs) ys = rw (within-append low high xs ys) (both-assoc (leb low x && leb x high) (all-within low high xs) (all-within low high ys))
+within-append low high (x ∷ xs) ys = rw (within-append low high xs ys) (sym (and-assoc (leb low x && leb x high) (all-within low high xs) (all-within low high ys)))
 
 -- Every stored reference lies in 1 to 2^W - 1.
 pub refs-within : (s : List ℕ) (R F : ℕ) → all-within 1 (max-address (read-result s R F .header .bits)) (read-result s R F .refs) ≡ true

@@ -1,23 +1,23 @@
 -- If the bytes of a record are present and its references are in range by its address alone, its layout gives the record that the
 -- fast path makes, part by part.
 use mathlib.Core.Path.{_≡_, refl, sym, ap, _∙_}
-use mathlib.Core.Bool.{Bool, true, false, not, cond, _&&_, _||_}
+use mathlib.Core.Bool.{Bool, true, false, cond}
 use mathlib.Core.List.{List, [], _∷_}
 use mathlib.Core.Logic.{_⊎_, inl, inr, ⊎-elim}
 use Prim.Native.Nat.{ℕ, zero, suc, _+_, _-_, _*_, _/_, _%_, _≤_, _<_}
 use native.Mathlib.Nat.{suc-mul, mul-le-mul}
 use native.Mathlib.Omega.{arith}
-use borrow.Author.Tests.{le-ltb, le-leb, lt-leb, ne-eqb}
-use lib.Dec.{eqb, leb}
+use borrow.Author.Tests.{le-leb, lt-leb, ne-eqb}
+use lib.Dec.{leb}
 use lib.ListN.{length, take, drop}
 use Rattle.decode.specs.Numbers.{value, value-after, signed, add-gap, to-count}
-use Rattle.decode.specs.Layout.{Outcome, whole, and-then, run, field, run-then, run-yield, run-position, run-field, run-field-empty, run-need, run-check}
+use Rattle.decode.specs.Layout.{Outcome, whole, and-then, run, field, run-then, run-yield, run-position, run-field, run-field-empty, run-need}
 use Rattle.decode.specs.Fields.{address, count, no-string}
 use Rattle.decode.specs.declared.Maybe.the-variants.{Just}
 use Rattle.decode.specs.declared.StringSpan.{StringSpan}
 use Rattle.decode_fast.specs.RefsInRange.{refs-in-range, target, run-ref-in-range}
-use Rattle.phd.specs.Phd.{Item, max-address, bit, width, tag-form, need-form, slot-class, moved-bit, hashed-bit, flag-byte, hash-kind, hash-bytes, shape, front, middle, class-name, ref-count, ref-list, spanned-refs, true-length, tail, from-ref-count, fields, record-body, from-tag, entry}
-use Rattle.phd.specs.EntryLaws.{origin-at, entry-from-tag}
+use Rattle.phd.specs.Phd.{Item, max-address, width, tag-form, need-form, slot-class, hash-kind, hash-bytes, shape, front, middle, class-name, ref-count, ref-list, spanned-refs, true-length, tail, from-ref-count, fields, record-body, from-tag, entry}
+use Rattle.phd.specs.EntryLaws.{origin-at, no-flag-byte, entry-from-tag}
 use Rattle.phd.specs.RefList.{prepend, ref-list-none, ref-list-next}
 use Rattle.phd.specs.Shapes.{ValidBits, width-mono}
 use Rattle.phd.specs.declared.cache.Cache.{Cache}
@@ -143,23 +143,13 @@ module _ (top before : ℕ) (c : Cache) (origin : Origin) (known hk : ℕ) (sh :
 
 -- ---- records without a flag byte
 
--- Without a flag byte no hash bit is set.
-no-hash-bits : (h : Bool) (t : ℕ) → 0x20 ≤ t → not (h && (moved-bit t 0 || hashed-bit t 0)) ≡ true
-unfolding moved-bit hashed-bit bit
-no-hash-bits true t l = rw (ne-eqb t 6 (λ e. omega arith))
-no-hash-bits false t l = refl
-
 module _ (h : Header) (before : ℕ) (c : Cache) (origin : Origin) (t : ℕ) (s : List ℕ) (at : ℕ) where
-  flag-byte-absent : 0x20 ≤ t → at ≤ length s → run (flag-byte h t) s at ≡ whole 0 at
-  unfolding flag-byte
-  flag-byte-absent l i = rw (le-ltb t 0x20 l, run-then, run-field-empty s at i, run-then, run-check, no-hash-bits (h .hashed) t l, run-yield)
-
   -- After a tag from 0x20 on, the fields follow directly.
   pub record-body-no-flags : (fm : Form) (known : ℕ) → 0x20 ≤ t → at ≤ length s → tag-form t ≡ Begins fm → slot-class c t ≡ Just known
       → run (record-body h before c origin t) s at
       ≡ run (fields (max-address (h .bits)) before c origin known (hash-kind h t 0) (shape (h .bits / 8) fm t 0)) s at
   unfolding record-body need-form
-  record-body-no-flags fm known l i f k = rw (run-then, f, run-yield, run-then, run-need, k, run-then, flag-byte-absent l i)
+  record-body-no-flags fm known l i f k = rw (run-then, f, run-yield, run-then, run-need, k, run-then, no-flag-byte h t s at l i)
 
 -- An entry whose tag is not the end tag is the tag and the record after it.
 pub entry-body : (h : Header) (before : ℕ) (c : Cache) (index t : ℕ) (s : List ℕ) (at : ℕ) → at + 1 ≤ length s → t ≡ value (take 1 (drop at s)) → (t ≡ 3 → ⊥)
@@ -233,16 +223,6 @@ module _ (w t : ℕ) (fm : Form) (l : 0x40 ≤ t) (g : tag-form t ≡ Begins fm)
   pub object-class-width : ClassWidth (shape w fm t 0 .class)
   unfolding shape
   object-class-width = ⊎-elim (λ e. rw e (inl refl)) (λ e. rw e h) object-forms
-
-pick-few : (a b : Bool) → cond a 4 (cond b 2 0) ≤ 4
-pick-few true b = omega arith
-pick-few false true = omega arith
-pick-few false false = omega arith
-
--- A hash has at most 4 bytes.
-pub hash-width-le-4 : (k : ℕ) → hash-bytes k ≤ 4
-unfolding hash-bytes
-hash-width-le-4 k = pick-few (eqb k 2) (eqb k 3)
 
 -- A tag below 0x80 names no slot.
 pub slot-class-none : (c : Cache) (t : ℕ) → t < 0x80 → slot-class c t ≡ Just 0

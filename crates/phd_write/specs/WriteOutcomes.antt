@@ -1,9 +1,9 @@
 -- The outcomes of a write: which check decides, and how a size query agrees with it.
 -- Assumes nothing.
-use mathlib.Core.Path.{_≡_, refl, ap, _∙_}
+use mathlib.Core.Path.{_≡_, refl, sym, ap, _∙_}
 use mathlib.Core.Logic.{_⊎_, inl, inr}
 use Prim.Native.Nat.{ℕ, _≤_, _<_}
-use mathlib.Core.Bool.{Bool, true, false, _&&_}
+use mathlib.Core.Bool.{Bool, true, false, _&&_, and-self}
 use mathlib.Core.List.{List, [], _∷_, _++_, append-assoc}
 use lib.ListN.{length}
 use lib.Dec.{leb}
@@ -98,11 +98,6 @@ module _ (h : Header) (names refs : List ℕ) (rows : List Row) (out-capacity : 
 
 -- ---- size query
 
--- Conjunction of a test with itself changes nothing.
-both-self : (b : Bool) → b ≡ b && b
-both-self true = refl
-both-self false = refl
-
 module _ (h : Header) (names refs : List ℕ) (rows : List Row) where
   -- If the check of header or rows refuses, the size query gives the same answer.
   pub check-refusal : (w : Answer) → w ≡ checked-input (good-header h names rows refs) (first-bad h names refs rows) → (w .reply ≡ 0 → ⊥) → w ≡ write-rows-size h names refs rows
@@ -125,7 +120,7 @@ module _ (h : Header) (names refs : List ℕ) (rows : List Row) where
   unfolding write-rows write-rows-size fits-capacity
   size-query-as-write =
       ap (λ b. checked-write (good-header h names rows refs) (first-bad h names refs rows) NotFound b (dump-of h names refs rows) .answer)
-      (both-self (leb (length (dump-of h names refs rows)) limit))
+      (sym (and-self (leb (length (dump-of h names refs rows)) limit)))
 
   -- A size query agrees with a write of the same rows into an output of any capacity.
   pub size-query-agrees : (w : Answer) (out-capacity : ℕ) → w ≡ write-rows-size h names refs rows → QueryAgrees w out-capacity (write-rows h names refs rows out-capacity)

@@ -1,10 +1,9 @@
 -- `header_good` satisfies its contract: it is the conjunction of its tests.
-use lib.Dec.{eqb}
 use borrow.Author.Needs.{needs}
 use Rattle.table.specs.Table.{row-count}
 use Rattle.table.specs.Rows.{length-rows}
 use Rattle.phd_check.specs.GoodRows.{good-header}
-use Rattle.phd_check.proofs.CheckLaws.{all-of-all-true, either-joined}
+use Rattle.phd_check.proofs.CheckLaws.{all-of-all-true}
 use Rattle.phd_check.proofs.header_good.Statement.{statement}
 use Rattle.phd_check.proofs.header_good.Tie as tie
 
@@ -13,9 +12,7 @@ vm-good-requires c κs = search needs
 
 returns : tie.Need-returns
 unfolding good-header row-count
-returns c =
-    let f = c .before .before .before .before .before .before .args .header in
-    rw (length-rows, either-joined (eqb (f .bits) 32) (eqb (f .bits) 64), c .vm-good .ensures) (all-of-all-true _ _)
+returns c = rw (length-rows, c .vm-good .ensures) (all-of-all-true _ _)
 
 pub header-good-spec : {M : Type 1} → statement M
 header-good-spec = tie.close (tie.spec vm-good-requires returns)

@@ -1,23 +1,16 @@
 -- `read_flag_byte` satisfies its contract: there is no flag byte, or it is read and then its hash bits are checked.
 use borrow.Author.Needs.{needs}
-use mathlib.Core.Path.{_≡_, refl, sym, ap, _∙_}
+use mathlib.Core.Path.{_≡_, sym, ap, _∙_}
 use mathlib.Core.Bool.{Bool, true, false, not, cond, _&&_, _||_}
-use Prim.Native.Nat.{ℕ, _≤_}
 use native.Mathlib.Omega.{arith}
-use lib.ListN.{length}
-use borrow.Author.Tests.{le-ltb, lt-ltb, ne-eqb}
-use Rattle.decode.specs.Layout.{whole, stops, run, field, run-then, run-check, run-yield, run-field-empty}
+use borrow.Author.Tests.{lt-ltb}
+use Rattle.decode.specs.Layout.{whole, stops, run, field, run-then, run-check, run-yield}
 use Rattle.decode.specs.Fields.{outcome}
 use Rattle.decode.specs.declared.Stop.the-variants.{Refused}
-use Rattle.phd.specs.Phd.{flag-byte, moved-bit, hashed-bit, bit}
+use Rattle.phd.specs.Phd.{flag-byte, moved-bit, hashed-bit}
+use Rattle.phd.specs.EntryLaws.{no-flag-byte}
 use Rattle.phd.proofs.forms.read_flag_byte.Statement.{statement}
 use Rattle.phd.proofs.forms.read_flag_byte.Tie as tie
-
--- Without a flag byte no hash bit is set.
-none-set : (h : Bool) (t : ℕ) → 0x20 ≤ t → not (h && (moved-bit t 0 || hashed-bit t 0)) ≡ true
-unfolding moved-bit hashed-bit bit
-none-set true t l = rw (ne-eqb t 6 (λ e. omega arith))
-none-set false t l = refl
 
 -- After the flag byte is read, only the check of its hash bits is left.
 module _ (c : tie.After-f) where
@@ -33,11 +26,9 @@ module _ (c : tie.After-f) where
   tested false e = rw (lt-ltb _ _ (c .before .before .before .if1 .left), run-then, got, run-then, run-check, e)
 
 returns : tie.Need-returns
-unfolding flag-byte
 returns c =
     let a = c .before .before .args in
-    let h : a .at ≤ length (a .s .now) = omega arith in
-    rw (le-ltb _ _ (c .if1 .taken), run-then, run-field-empty _ _ h, run-then, run-check, none-set (a .header .hashed) (a .tag) (c .if1 .taken), run-yield)
+    sym (no-flag-byte (a .header) (a .tag) (a .s .now) (a .at) (c .if1 .taken) (omega arith))
 
 field-requires : tie.Need-field-requires
 field-requires c κs = search needs

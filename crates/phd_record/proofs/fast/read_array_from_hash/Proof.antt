@@ -6,13 +6,14 @@ use native.Mathlib.Nat.{mul-le-mul}
 use native.Mathlib.Omega.{arith}
 use Rattle.decode.specs.Values.{to-count-lt}
 use Rattle.decode_fast.specs.RefsInRange.{refs-in-range-width}
-use Rattle.phd_record.proofs.FastRecordLaws.{hash-width-le-4, miss-agrees}
+use Rattle.phd.specs.Shapes.{hash-bytes-le-4}
+use Rattle.phd_record.proofs.FastRecordLaws.{miss-agrees}
 use Rattle.phd_record.proofs.ArrayLaws.{array-after-front}
 use Rattle.phd_record.proofs.fast.read_array_from_hash.Statement.{statement}
 use Rattle.phd_record.proofs.fast.read_array_from_hash.Tie as tie
 
 hash-le-4 : (c : tie.After-hash-bytes-of) → c .hash-bytes-of .result ≤ 4
-hash-le-4 c = rw (c .hash-bytes-of .ensures) (hash-width-le-4 _)
+hash-le-4 c = rw (c .hash-bytes-of .ensures) (hash-bytes-le-4 _)
 
 abbrev hash-of : tie.After-n → tie.After-hash-bytes-of
 hash-of c = c .before .before .before .before

@@ -7,7 +7,8 @@ use lib.ListN.{length}
 use borrow.Author.Tests.{not-false}
 use Rattle.phd.specs.declared.Shape.{Shape}
 use Rattle.phd_record.specs.FastPath.{ClassWidth}
-use Rattle.phd_record.proofs.FastRecordLaws.{ObjectShape, object-shape, object-class-width, bits-class-width, hash-width-le-4, miss-agrees, object-record-read}
+use Rattle.phd.specs.Shapes.{hash-bytes-le-4}
+use Rattle.phd_record.proofs.FastRecordLaws.{ObjectShape, object-shape, object-class-width, bits-class-width, miss-agrees, object-record-read}
 use Rattle.phd_record.proofs.fast.read_object.Statement.{statement}
 use Rattle.phd_record.proofs.fast.read_object.Tie as tie
 
@@ -30,7 +31,7 @@ module _ (c : tie.After-shape-of) where
       rw (ap (λ (q : Shape). q .class) (c .shape-of .ensures)) (object-class-width _ _ _ (start c .pre .2) (c .before .object-form .ensures) wide)
 
   hash-le-4 : bytes-at c .hash-bytes-of .result ≤ 4
-  hash-le-4 = rw (bytes-at c .hash-bytes-of .ensures) (hash-width-le-4 _)
+  hash-le-4 = rw (bytes-at c .hash-bytes-of .ensures) (hash-bytes-le-4 _)
 
   in-bounds : let sh = c .shape-of .result in
       start c .args .at + sh .gap + sh .class + bytes-at c .hash-bytes-of .result + sh .count * sh .refwidth + 20 ≤ length (start c .args .s .now)

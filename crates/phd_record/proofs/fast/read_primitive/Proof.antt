@@ -4,7 +4,8 @@ use mathlib.Core.Path.{sym, _∙_}
 use Prim.Native.Nat.{_+_, _^_, _≤_, _<_}
 use native.Mathlib.Omega.{arith}
 use lib.ListN.{length}
-use Rattle.phd_record.proofs.FastRecordLaws.{hash-width-le-4, miss-agrees}
+use Rattle.phd.specs.Shapes.{hash-bytes-le-4}
+use Rattle.phd_record.proofs.FastRecordLaws.{miss-agrees}
 use Rattle.phd_record.proofs.ArrayLaws.{PrimitiveShape, primitive-shape, primitive-whole}
 use Rattle.phd_record.proofs.fast.read_primitive.Statement.{statement}
 use Rattle.phd_record.proofs.fast.read_primitive.Tie as tie
@@ -27,7 +28,7 @@ module _ (c : tie.Else1) where
   short = omega (arith, like .len, c .if1 .left)
 
   hash-le-4 : hash-of c .hash-bytes-of .result ≤ 4
-  hash-le-4 = rw (hash-of c .hash-bytes-of .ensures) (hash-width-le-4 _)
+  hash-le-4 = rw (hash-of c .hash-bytes-of .ensures) (hash-bytes-le-4 _)
 
   in-bounds : let sh = shape-of c .shape-of .result in let a = start c .args in
       a .at + sh .gap + sh .len + hash-of c .hash-bytes-of .result + 70 ≤ length (a .s .now)
