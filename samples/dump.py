@@ -1,25 +1,24 @@
-"""A portable heap dump in the making, and what a reading of it must give.
+"""A portable heap dump that is built record by record, and the answers that reading it must give.
 
-A dump is described record by record, in the terms of the format's paper. Each record adds its bytes, field by field, its row
-and its references, and what a reading must answer where the file is cut right behind it. Nothing here takes bytes apart: what
-is expected comes from what was put in.
+Each record adds its bytes, field by field (docs/FORMAT.md 3), its row and its references, and the answer of reading the dump cut
+right after the record. Nothing here decodes bytes: the expected answers follow from what was added.
 """
 
-# The numbers of a row, in their order. One that a record does not name is 0.
+# The numbers of a row, in their order (docs/FORMAT.md 4.1); `class_` is the class word. Those that a record does not name are 0.
 ROW = (
-    "kind", "address", "word", "hash_kind", "hash", "first", "count", "size", "length", "name_place", "name_length", "type",
+    "kind", "address", "class_", "hash_kind", "hash", "first", "count", "size", "length", "name_place", "name_length", "type",
     "offset",
 )  # fmt: skip
 WIDTH = len(ROW)
 
-# The room that a program has if nothing else is said: whole rows, and references.
+# The capacity of the programs that read dumps and write tables: whole rows, and references.
 ROWS, REFS = 48, 70
 
-# the two fields that a dump begins with
+# The first two fields of a dump: the length of the opening string, and the string.
 OPENING = b"\x00\x12", b"portable heap dump"
 
-# The dump that the paper has whole.
-PAPER = bytes.fromhex(
+# The worked example of docs/FORMAT.md 9.
+EXAMPLE = bytes.fromhex(
     """
     00 12 70 6F 72 74 61 62 6C 65 20 68 65 61 70 20 64 75 6D 70 00 00 00 06 00 00 00 04 01 04 00 04 54 65 73 74 02 02
     06 40 04 00 00 00 00 10 00 00 00 00 00 01 41 00 00 00 00
@@ -30,212 +29,232 @@ PAPER = bytes.fromhex(
     """
 )
 
-# A hash is a number; in a dump that is not all hashed also NONE, or ASKED for with none stored. There a record without a
-# flag byte has NONE.
-NONE, ASKED = "none", "asked"
+# The hash of a record is a number; in a dump that is not all-hashed also NONE (hash kind 0), or HASHED (hash kind 1: hashed, but
+# no hash is stored). There a record without a flag byte has NONE.
+NONE, HASHED = "none", "hashed"
 
 
-def unsigned(n, size):
+def encode_unsigned(n, size):
     return n.to_bytes(size, "big")
 
 
-def signed(n, size):
+def encode_signed(n, size):
     return n.to_bytes(size, "big", signed=True)
 
 
-def gap(address, base, code):
-    """From one address to another, in fours, in the bytes of a width code."""
+def encode_gap(address, base, code):
+    """Encodes the gap from the address `base` to another, with a width code."""
     assert (address - base) % 4 == 0
-    return signed((address - base) // 4, 2**code)
+    return encode_signed((address - base) // 4, 2**code)
 
 
-def links(address, refs, code):
-    return [gap(r, address, code) for r in refs]
+def encode_refs(address, refs, code):
+    return [encode_gap(r, address, code) for r in refs]
 
 
-def line(answer):
-    return "reply {} place {} missing {} rows {} refs {} word {}".format(*answer)
+def answer_line(answer):
+    """Returns the line that a program prints for the answer of a reading."""
+    return "reply {} place {} missing {} rows {} refs {} bits {}".format(*answer)
+
+
+def file_label(number):
+    """Returns the name of a number as file names have it."""
+    return number.rstrip("_").replace("_", "-")
 
 
 class Dump:
-    def __init__(self, room_rows=ROWS, room_refs=REFS):
-        self.room_rows, self.room_refs = room_rows, room_refs
+    def __init__(self, row_capacity=ROWS, ref_capacity=REFS):
+        self.row_capacity, self.ref_capacity = row_capacity, ref_capacity
         self.bytes = b""
-        # where each field ends
+        # the offset at which each field ends
         self.ends = []
-        self.facts = dict(word=0, hashed=0, openj9=0, vm=0, place=0, len=0)
+        self.header = dict(bits=0, all_hashed=0, openj9=0, vm=0, place=0, len=0)
         self.rows, self.refs = [], []
+        # the address of the last record
         self.address = 0
         # the class words of all medium and long objects, in order
-        self.put = []
-        # from which length on a cut gives which reply, place, row count, reference count and W
+        self.pushed = []
+        # from which length on a cut has which reply, place, row count, reference count and W
         self.cuts = []
-        self.over = False
-        self.answer(1, 0)
+        # whether the last answer is final
+        self.stopped = False
+        self.set_answer(1, 0)
 
-    def answer(self, reply, place):
-        if not self.over:
-            self.cuts.append((len(self.bytes), reply, place, len(self.rows), len(self.refs), self.facts["word"]))
+    def set_answer(self, reply, place):
+        """Sets the answer of every cut from the present length on, unless the last one is final."""
+        if not self.stopped:
+            self.cuts.append((len(self.bytes), reply, place, len(self.rows), len(self.refs), self.header["bits"]))
 
     def stop(self, reply, place):
-        """From here on the answer stays, whatever follows."""
-        self.answer(reply, place)
-        self.over = True
+        """Sets the final answer: bytes that are added later do not change it."""
+        self.set_answer(reply, place)
+        self.stopped = True
 
-    def add(self, *fields):
-        """Bytes, field by field. A field that a record lacks has none."""
+    def add_fields(self, *fields):
+        """Adds bytes, field by field. A field that a record lacks is empty."""
         for field in fields:
             self.bytes += field
             self.ends.append(len(self.bytes))
 
     # ---- the header
 
-    def header(self, word=32, hashed=False, openj9=True, vm=b"Test"):
-        flags = (word == 64) * 1 + hashed * 2 + openj9 * 4
-        self.add(*OPENING, unsigned(6, 4), unsigned(flags, 4), b"\x01")
-        self.facts.update(word=word, hashed=int(hashed), openj9=int(openj9))
+    def with_header(self, bits=32, all_hashed=False, openj9=True, vm=b"Test"):
+        flags = (bits == 64) * 1 + all_hashed * 2 + openj9 * 4
+        self.add_fields(*OPENING, encode_unsigned(6, 4), encode_unsigned(flags, 4), b"\x01")
+        self.header.update(bits=bits, all_hashed=int(all_hashed), openj9=int(openj9))
         if vm is not None:
-            self.add(b"\x04", unsigned(len(vm), 2))
-            self.facts.update(vm=1, place=len(self.bytes), len=len(vm))
-            self.add(vm)
-        self.add(b"\x02", b"\x02")
-        self.answer(1, len(self.bytes))
+            self.add_fields(b"\x04", encode_unsigned(len(vm), 2))
+            self.header.update(vm=1, place=len(self.bytes), len=len(vm))
+            self.add_fields(vm)
+        self.add_fields(b"\x02", b"\x02")
+        self.set_answer(1, len(self.bytes))
         return self
 
-    def bad_header(self, reply, judged, rest):
-        """A header that is refused, by its fields. What is judged ends with the field at fault."""
-        self.add(*judged)
+    def bad_header(self, reply, checked, rest):
+        """Adds a header that is refused: the fields that are checked, the last of them at fault, and the bytes after them."""
+        self.add_fields(*checked)
         self.stop(reply, 0)
         self.bytes += rest
         return self
 
-    # ---- records, as the paper lists their layouts: code and width are the width codes of gap and references, bits are
-    # flag bits beside those that follow from the rest
+    # ---- records, by the forms of docs/FORMAT.md 3.3: `code` and `width` are the width codes of the gap and of a reference,
+    # `extra_flags` are flag bits besides those that follow from the other arguments
 
     def short(self, address, slot, refs=(), code=0, width=0, hash=NONE):
-        data = [unsigned(0x80 | slot << 5 | len(refs) << 3 | code << 2 | width, 1)]
-        data += [gap(address, self.address, code), self.hash(hash), *links(address, refs, width)]
-        return self.record(data, refs, kind=2, address=address, word=self.put[slot::4][-1], **self.hashes(hash))
+        data = [encode_unsigned(0x80 | slot << 5 | len(refs) << 3 | code << 2 | width, 1)]
+        data += [self.encode_gap(address, code), self.encode_hash(hash), *encode_refs(address, refs, width)]
+        class_ = self.pushed[slot::4][-1]
+        return self.add_record(data, refs, kind=2, address=address, class_=class_, **self.hash_numbers(hash))
 
-    def medium(self, address, word, refs=(), code=0, width=0, hash=NONE):
-        data = [unsigned(0x40 | len(refs) << 3 | code << 2 | width, 1)]
-        data += [gap(address, self.address, code), self.word(word), self.hash(hash), *links(address, refs, width)]
-        self.put.append(word)
-        return self.record(data, refs, kind=2, address=address, word=word, **self.hashes(hash))
+    def medium(self, address, class_, refs=(), code=0, width=0, hash=NONE):
+        data = [encode_unsigned(0x40 | len(refs) << 3 | code << 2 | width, 1)]
+        data += [self.encode_gap(address, code), self.encode_word(class_), self.encode_hash(hash)]
+        data += encode_refs(address, refs, width)
+        self.pushed.append(class_)
+        return self.add_record(data, refs, kind=2, address=address, class_=class_, **self.hash_numbers(hash))
 
-    def long(self, address, word, refs=(), code=0, width=0, hash=NONE, bits=0):
-        data = [b"\x04", unsigned(code << 6 | width << 4 | self.hash_bits(hash) | bits, 1)]
-        data += [gap(address, self.address, code), self.word(word), self.hash(hash)]
-        data += [signed(len(refs), 4), *links(address, refs, width)]
-        self.put.append(word)
-        return self.record(data, refs, kind=2, address=address, word=word, **self.hashes(hash))
+    def long(self, address, class_, refs=(), code=0, width=0, hash=NONE, extra_flags=0):
+        data = [b"\x04", encode_unsigned(code << 6 | width << 4 | self.hash_flags(hash) | extra_flags, 1)]
+        data += [self.encode_gap(address, code), self.encode_word(class_), self.encode_hash(hash)]
+        data += [encode_signed(len(refs), 4), *encode_refs(address, refs, width)]
+        self.pushed.append(class_)
+        return self.add_record(data, refs, kind=2, address=address, class_=class_, **self.hash_numbers(hash))
 
     def primitive(self, address, type, length, size, code=0, hash=NONE):
-        data = [unsigned(0x20 | type << 2 | code, 1)]
-        data += [gap(address, self.address, code), signed(length, 2**code), self.hash(hash), unsigned(size, 4)]
-        return self.record(data, kind=4, address=address, type=type, length=length, size=size, **self.hashes(hash))
+        data = [encode_unsigned(0x20 | type << 2 | code, 1)]
+        data += [self.encode_gap(address, code), encode_signed(length, 2**code), self.encode_hash(hash), encode_unsigned(size, 4)]
+        numbers = dict(type=type, length=length, size=size, **self.hash_numbers(hash))
+        return self.add_record(data, kind=4, address=address, **numbers)
 
-    def long_primitive(self, address, type, length, size, words=False, hash=NONE, bits=0):
-        code = (3 if self.facts["word"] == 64 else 2) if words else 0
-        data = [b"\x07", unsigned(type << 5 | words << 4 | self.hash_bits(hash) | bits, 1)]
-        data += [gap(address, self.address, code), signed(length, 2**code), self.hash(hash), unsigned(size, 4)]
-        return self.record(data, kind=4, address=address, type=type, length=length, size=size, **self.hashes(hash))
+    def long_primitive(self, address, type, length, size, words=False, hash=NONE, extra_flags=0):
+        code = (3 if self.header["bits"] == 64 else 2) if words else 0
+        data = [b"\x07", encode_unsigned(type << 5 | words << 4 | self.hash_flags(hash) | extra_flags, 1)]
+        data += [self.encode_gap(address, code), encode_signed(length, 2**code), self.encode_hash(hash), encode_unsigned(size, 4)]
+        numbers = dict(type=type, length=length, size=size, **self.hash_numbers(hash))
+        return self.add_record(data, kind=4, address=address, **numbers)
 
-    def array(self, address, word, refs=(), size=0, length=None, code=0, width=0, hash=NONE, bits=0):
+    def array(self, address, class_, refs=(), size=0, length=None, code=0, width=0, hash=NONE, extra_flags=0):
         length = len(refs) if length is None else length
-        data = [b"\x08", unsigned(code << 6 | width << 4 | self.hash_bits(hash) | bits, 1)]
-        data += [gap(address, self.address, code), self.word(word), self.hash(hash)]
-        data += [signed(len(refs), 4), *links(address, refs, width), unsigned(size, 4), signed(length, 4)]
-        numbers = dict(size=size, length=length, **self.hashes(hash))
-        return self.record(data, refs, kind=3, address=address, word=word, **numbers)
+        data = [b"\x08", encode_unsigned(code << 6 | width << 4 | self.hash_flags(hash) | extra_flags, 1)]
+        data += [self.encode_gap(address, code), self.encode_word(class_), self.encode_hash(hash)]
+        data += [encode_signed(len(refs), 4), *encode_refs(address, refs, width)]
+        data += [encode_unsigned(size, 4), encode_signed(length, 4)]
+        numbers = dict(size=size, length=length, **self.hash_numbers(hash))
+        return self.add_record(data, refs, kind=3, address=address, class_=class_, **numbers)
 
-    def klass(self, address, name, size=16, word=0, refs=(), code=0, width=0, hash=NONE, bits=0):
-        moved = 0x08 if self.hash_bits(hash) else 0
-        data = [b"\x06", unsigned(code << 6 | width << 4 | moved | bits, 1), gap(address, self.address, code)]
-        data += [signed(size, 4), self.hash(hash), self.word(word), unsigned(len(name), 2)]
+    def klass(self, address, name, size=16, class_=0, refs=(), code=0, width=0, hash=NONE, extra_flags=0):
+        moved = 0x08 if self.hash_flags(hash) else 0
+        data = [b"\x06", encode_unsigned(code << 6 | width << 4 | moved | extra_flags, 1), self.encode_gap(address, code)]
+        data += [encode_signed(size, 4), self.encode_hash(hash), self.encode_word(class_), encode_unsigned(len(name), 2)]
         place = len(self.bytes) + sum(map(len, data))
-        numbers = dict(size=size, name_place=place, name_length=len(name), **self.hashes(hash))
-        data += [name, signed(len(refs), 4), *links(address, refs, width)]
-        return self.record(data, refs, kind=1, address=address, word=word, **numbers)
+        numbers = dict(size=size, name_place=place, name_length=len(name), **self.hash_numbers(hash))
+        data += [name, encode_signed(len(refs), 4), *encode_refs(address, refs, width)]
+        return self.add_record(data, refs, kind=1, address=address, class_=class_, **numbers)
 
-    def fault(self, reply, judged, rest="03"):
-        """A record that is refused, in hexadecimal, a word to a field. What is judged ends with the field at fault."""
+    def bad_record(self, reply, checked, rest="03"):
+        """Adds a record that is refused, in hexadecimal: the fields that are checked, separated by spaces, the last of them at
+        fault, and the bytes after them."""
         tag = len(self.bytes)
-        self.add(*map(bytes.fromhex, judged.split()))
+        self.add_fields(*map(bytes.fromhex, checked.split()))
         self.stop(reply, tag)
         self.bytes += bytes.fromhex(rest)
         return self
 
     def end(self, more=b""):
-        self.add(b"\x03")
+        """Adds the end tag, and bytes after it."""
+        self.add_fields(b"\x03")
         self.stop(0, len(self.bytes))
         self.bytes += more
         return self
 
     # ---- what records share
 
-    def word(self, n):
-        return unsigned(n, self.facts["word"] // 8)
+    def encode_gap(self, address, code):
+        return encode_gap(address, self.address, code)
 
-    def hash_bits(self, hash):
-        return 0 if self.facts["hashed"] or hash == NONE else 0x01 if hash == ASKED else 0x02
+    def encode_word(self, n):
+        return encode_unsigned(n, self.header["bits"] // 8)
 
-    def hash(self, hash):
-        if self.facts["hashed"]:
-            return unsigned(hash, 2)
-        return b"" if hash in (NONE, ASKED) else unsigned(hash, 4)
+    def hash_flags(self, hash):
+        return 0 if self.header["all_hashed"] or hash == NONE else 0x01 if hash == HASHED else 0x02
 
-    def hashes(self, hash):
-        """A row's hash kind and hash."""
-        if self.facts["hashed"]:
+    def encode_hash(self, hash):
+        if self.header["all_hashed"]:
+            return encode_unsigned(hash, 2)
+        return b"" if hash in (NONE, HASHED) else encode_unsigned(hash, 4)
+
+    def hash_numbers(self, hash):
+        """Returns a row's hash kind and hash."""
+        if self.header["all_hashed"]:
             return dict(hash_kind=3, hash=hash)
-        return {NONE: dict(hash_kind=0), ASKED: dict(hash_kind=1)}.get(hash, dict(hash_kind=2, hash=hash))
+        return {NONE: dict(hash_kind=0), HASHED: dict(hash_kind=1)}.get(hash, dict(hash_kind=2, hash=hash))
 
-    def record(self, data, refs=(), **numbers):
-        """A record whole, by its fields. Room is asked last, rows before references; one without room adds nothing."""
+    def add_record(self, data, refs=(), **numbers):
+        """Adds a complete record, by its fields. Capacity is checked last, for the row before the references. A record that does
+        not fit adds no row and no references."""
         tag = len(self.bytes)
-        self.add(*data)
-        if len(self.rows) == self.room_rows:
+        self.add_fields(*data)
+        if len(self.rows) == self.row_capacity:
             self.stop(13, tag)
-        elif len(self.refs) + len(refs) > self.room_refs:
+        elif len(self.refs) + len(refs) > self.ref_capacity:
             self.stop(14, tag)
-        if not self.over:
+        if not self.stopped:
             numbers.update(first=len(self.refs), count=len(refs), offset=tag)
             self.rows.append([numbers.pop(n, 0) for n in ROW])
             assert not numbers
             self.refs += refs
             self.address = self.rows[-1][ROW.index("address")]
-            self.answer(1, len(self.bytes))
+            self.set_answer(1, len(self.bytes))
         return self
 
-    # ---- what a reading of its first bytes gives
+    # ---- the answers of reading the first bytes
 
-    def missing(self, length):
-        """What the field lacks that they end in. Behind all that was put in comes a tag."""
+    def missing_at(self, length):
+        """Returns how many bytes the field lacks in which the first `length` bytes end. After the last field a tag is missing."""
         return next((end - length for end in self.ends if end > length), 1)
 
-    def answered(self, length):
-        """Reply, place, missing bytes, row count, reference count and W."""
+    def answer_at(self, length):
+        """Returns reply, place, missing bytes, row count, reference count and W."""
         reply, place, *others = [answer for at, *answer in self.cuts if at <= length][-1]
-        return reply, place, self.missing(length) if reply == 1 else 0, *others
+        return reply, place, self.missing_at(length) if reply == 1 else 0, *others
 
     # ---- what a program prints
 
-    def reading(self):
-        """What reading the whole dump gives."""
-        yield line(self.answered(len(self.bytes)))
-        yield "hashed {hashed} openj9 {openj9} vm {vm} place {place} len {len}".format(**self.facts)
+    def read_lines(self):
+        """Returns the lines for the answer and the tables of reading the whole dump."""
+        yield answer_line(self.answer_at(len(self.bytes)))
+        yield "all-hashed {all_hashed} openj9 {openj9} vm {vm} place {place} len {len}".format(**self.header)
         for row in self.rows:
             yield " ".join(["row", *map(str, row)])
         for i in range(0, len(self.refs), 8):
             yield " ".join(["refs", *map(str, self.refs[i : i + 8])])
 
     def report(self):
-        """What reading it gives, and every cut of it."""
-        yield from self.reading()
+        """Returns the lines for the whole dump and for every cut of it."""
+        yield from self.read_lines()
         for length, *_ in self.cuts:
-            yield f"cut {length} {line(self.answered(length))}"
-        lacks = [self.answered(length)[2] for length in range(len(self.bytes) + 1)]
-        for i in range(0, len(lacks), 32):
-            yield " ".join(["missing", *map(str, lacks[i : i + 32])])
-        yield "rest kept"
+            yield f"cut {length} {answer_line(self.answer_at(length))}"
+        missing = [self.answer_at(length)[2] for length in range(len(self.bytes) + 1)]
+        for i in range(0, len(missing), 32):
+            yield " ".join(["missing", *map(str, missing[i : i + 32])])
+        yield "rest unchanged"

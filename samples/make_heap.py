@@ -1,5 +1,7 @@
-"""A small heap as an application leaves it: sessions that nobody closed, in one array that keeps growing. Writes the dump
-whole (heap.phd) and as it is found when the machine dies while writing it (heap-cut.phd) to the folder that is named.
+"""Makes two dumps of a small heap, in which one growing array holds sessions that were never closed: heap.phd is complete,
+heap-cut.phd ends where a machine stopped while it wrote the dump.
+
+usage: python3 samples/make_heap.py FOLDER
 """
 
 import sys
@@ -12,11 +14,11 @@ NAMES = [b"java/lang/Object", b"java/lang/String", b"[C", b"shop/Session", b"sho
 
 
 def heap():
-    d = Dump(room_rows=1000, room_refs=1000).header(word=64, vm=b"JRE 17.0.9 OpenJ9 linux-amd64")
+    d = Dump(row_capacity=1000, ref_capacity=1000).with_header(bits=64, vm=b"JRE 17.0.9 OpenJ9 linux-amd64")
     address = {name: CLASSES + 0x100 * i for i, name in enumerate(NAMES)}
     for name in NAMES:
-        word = 0 if name == NAMES[0] else address[NAMES[0]]
-        d.klass(address[name], name, size=24, word=word, code=2 if name == NAMES[0] else 1)
+        class_ = 0 if name == NAMES[0] else address[NAMES[0]]
+        d.klass(address[name], name, size=24, class_=class_, code=2 if name == NAMES[0] else 1)
     text, session, cart = address[b"java/lang/String"], address[b"shop/Session"], address[b"shop/Cart"]
     for i in range(SESSIONS):
         a = OBJECTS + 0x80 * i
@@ -31,13 +33,13 @@ def heap():
             d.medium(a + 0x60, cart)
         else:
             d.short(a + 0x60, 2)
-    last = OBJECTS + 0x80 * SESSIONS
-    d.array(last, address[b"shop/Session"], [OBJECTS + 0x80 * i for i in range(SESSIONS)], size=2 * SESSIONS + 24, length=64, width=1)
+    refs = [OBJECTS + 0x80 * i for i in range(SESSIONS)]
+    d.array(OBJECTS + 0x80 * SESSIONS, session, refs, size=2 * SESSIONS + 24, length=64, width=1)
     return d.end()
 
 
 if __name__ == "__main__":
     folder = Path(sys.argv[1])
-    whole = heap().bytes
-    (folder / "heap.phd").write_bytes(whole)
-    (folder / "heap-cut.phd").write_bytes(whole[: len(whole) * 3 // 4])
+    dump = heap().bytes
+    (folder / "heap.phd").write_bytes(dump)
+    (folder / "heap-cut.phd").write_bytes(dump[: len(dump) * 3 // 4])

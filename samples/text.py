@@ -1,15 +1,14 @@
-"""The classic text of a dump's records, and what the program that writes it must print.
+"""The classic text of a dump's records, and the lines that the program that writes it must print.
 
-The text is made here from the records that were put into a dump (dump.py), as the format's paper says it under "Classic text",
-and its change request 3 of nulls.
-Behind its end tag a dump may have changes of what was read; how they are held is said in crates/text_samples/src/changes.rt.
+The text is made here from the records that were added to a dump (dump.py), by docs/FORMAT.md 7. After its end tag a dump may have
+changes of the tables that were read; crates/text_samples/src/changes.rt describes how they are encoded.
 """
-from dump import ROW, WIDTH, Dump, line, unsigned
+from dump import ROW, WIDTH, Dump, answer_line, encode_unsigned
 
-# The room that the program has: whole rows, with as many numbers more, references, and bytes for a file and for output.
+# The capacity of the program: whole rows and the numbers after them, references, and bytes for a file and for output.
 ROWS, MORE, REFS, BYTES = 128, WIDTH - 1, 160, 0x40000
 
-# What a number of its tables is where nothing was read.
+# What every number of the program's tables is before the reading.
 UNREAD = 0x5EED5EED5EED5EED
 
 CLASS, OBJECT, ARRAY, PRIMITIVE = 1, 2, 3, 4
@@ -17,52 +16,53 @@ CLASS, OBJECT, ARRAY, PRIMITIVE = 1, 2, 3, 4
 TYPES = "[Z", "[C", "[F", "[D", "[B", "[S", "[I", "[J"
 
 
-def blank():
-    """A dump with nothing in it."""
+def empty_dump():
+    """Returns a dump without bytes, for the capacity of the program."""
     return Dump(ROWS, REFS)
 
 
-class Lent:
-    """What is lent for the text: what reading a dump gives, or its first bytes, and then what is changed."""
+class PassedTables:
+    """The tables that are passed to the text: those that reading the first `length` bytes of a dump gives (all, if no length is
+    given), with changes. The name bytes are the file."""
 
     def __init__(self, dump, length=None):
-        self.held = dump.bytes[:length]
-        self.reply, self.place, _, rows, refs, word = self.reading = dump.answered(len(self.held))
-        self.facts = dict(dump.facts) if word else dict.fromkeys(dump.facts, 0)
+        self.file = dump.bytes[:length]
+        self.reply, self.place, _, rows, refs, bits = self.read_answer = dump.answer_at(len(self.file))
+        self.header = dict(dump.header) if bits else dict.fromkeys(dump.header, 0)
         self.numbers = [n for row in dump.rows[:rows] for n in row]
         self.refs = dump.refs[:refs]
 
     # ---- changes
 
-    def change(self, table, index, number):
-        """The changes begin right behind the end tag."""
-        assert self.reply == 0 and (len(self.held) - self.place) % 24 == 0
-        self.held += unsigned(table, 8) + unsigned(index, 8) + unsigned(number, 8)
+    def add_change(self, table, index, number):
+        """Adds a change to the file. The first one begins right after the end tag."""
+        assert self.reply == 0 and (len(self.file) - self.place) % 24 == 0
+        self.file += encode_unsigned(table, 8) + encode_unsigned(index, 8) + encode_unsigned(number, 8)
 
-    def but(self, i=None, **numbers):
-        """With other numbers in a row, or in the header."""
+    def change(self, i=None, **numbers):
+        """Changes numbers of row i, or of the header if no row is given."""
         for name, n in numbers.items():
             if i is None:
-                assert self.facts[name] != n
-                self.change(0, [*self.facts].index(name), n)
-                self.facts[name] = n
+                assert self.header[name] != n
+                self.add_change(0, [*self.header].index(name), n)
+                self.header[name] = n
             else:
                 at = WIDTH * i + ROW.index(name)
                 assert self.numbers[at] != n
-                self.change(1, at, n)
+                self.add_change(1, at, n)
                 self.numbers[at] = n
         return self
 
-    def but_ref(self, i, ref):
-        self.change(2, i, ref)
+    def change_ref(self, i, ref):
+        self.add_change(2, i, ref)
         self.refs[i] = ref
         return self
 
-    def lend(self, more_numbers=0, more_refs=0):
-        """With more numbers of the tables, or fewer."""
+    def resize(self, more_numbers=0, more_refs=0):
+        """Passes more numbers of each table, or fewer."""
         for index, table, more in (6, self.numbers, more_numbers), (7, self.refs, more_refs):
             count = len(table) + more
-            self.change(0, index, count)
+            self.add_change(0, index, count)
             table[count:] = []
             table += [UNREAD] * (count - len(table))
         assert len(self.numbers) <= WIDTH * ROWS + MORE and len(self.refs) <= REFS
@@ -71,28 +71,28 @@ class Lent:
     # ---- the text
 
     def rows(self):
-        """The whole rows, by the names of their numbers."""
+        """Returns the whole rows, by the names of their numbers."""
         return [dict(zip(ROW, self.numbers[i : i + WIDTH])) for i in range(0, len(self.numbers) - WIDTH + 1, WIDTH)]
 
     def string(self, place, length):
-        assert place + length <= len(self.held)
-        return self.held[place : place + length].decode("ascii")
+        assert place + length <= len(self.file)
+        return self.file[place : place + length].decode("ascii")
 
     def address(self, n):
-        digits = self.facts["word"] // 4
+        digits = self.header["bits"] // 4
         assert n < 16**digits
         return f"0x{n:0{digits}X}"
 
-    def lost(self):
-        """The first object or object array for whose class word there is no class row."""
+    def class_missing(self):
+        """Returns the index of the first object or object array whose class is not among the rows; None if there is none."""
         rows = self.rows()
         known = {row["address"] for row in rows if row["kind"] == CLASS}
-        return next((i for i, row in enumerate(rows) if row["kind"] in (OBJECT, ARRAY) and row["word"] not in known), None)
+        return next((i for i, row in enumerate(rows) if row["kind"] in (OBJECT, ARRAY) and row["class_"] not in known), None)
 
     def row_lines(self, row, classes):
-        """A row's two lines, where the class rows are known in order, each with its name."""
-        kind, word = row["kind"], row["word"]
-        its_class, its_name = next(((c, name) for c, name in classes if c["address"] == word), (None, None))
+        """Returns the two lines of a row; `classes` are the class rows in order, each with its name."""
+        kind, class_ = row["kind"], row["class_"]
+        its_class, its_name = next(((c, name) for c, name in classes if c["address"] == class_), (None, None))
         if kind == CLASS:
             size, type = 0, self.string(row["name_place"], row["name_length"])
         elif kind == OBJECT:
@@ -101,15 +101,15 @@ class Lent:
             size, type = 4 * row["size"], "[" + its_name if its_name[0] == "[" else "[L" + its_name + ";"
         else:
             size, type = 4 * row["size"], TYPES[row["type"]]
-            word = next((c["address"] for c, name in classes if name == type), 0)
+            class_ = next((c["address"] for c, name in classes if name == type), 0)
         refs = self.refs[row["first"] : row["first"] + row["count"]]
         yield f"{self.address(row['address'])} [{size}] {'CLS' if kind == CLASS else 'OBJ'} {type}"
-        yield " ".join(map(self.address, [word, *refs]))
+        yield " ".join(map(self.address, [class_, *refs]))
 
     def lines(self):
-        f, rows = self.facts, self.rows()
+        header, rows = self.header, self.rows()
         classes = [(row, self.string(row["name_place"], row["name_length"])) for row in rows if row["kind"] == CLASS]
-        yield "// Version: " + (self.string(f["place"], f["len"]) if f["vm"] else "")
+        yield "// Version: " + (self.string(header["place"], header["len"]) if header["vm"] else "")
         for row in rows:
             yield from self.row_lines(row, classes)
         kinds = [row["kind"] for row in rows]
@@ -120,31 +120,33 @@ class Lent:
         yield f"// EOF:  Total 'Objects',Refs(null) : {len(rows)},{refs + nulls}({nulls})"
 
     def text(self):
-        assert self.lost() is None
+        assert self.class_missing() is None
         return "".join(each + "\n" for each in self.lines())
 
 
-# ---- samples: what a file holds, and what is printed of it
+# ---- samples: the bytes of a file, and the lines that the program prints for it
 
 
-def lent(dump):
-    return dump if isinstance(dump, Lent) else Lent(dump)
+def passed(dump):
+    """Returns the tables that are passed to the text for a dump; tables are returned as they are."""
+    return dump if isinstance(dump, PassedTables) else PassedTables(dump)
 
 
-def texted(dump):
-    """The sample of a dump, or of what is lent of it, that is written as text."""
-    t = lent(dump)
+def written(dump):
+    """Returns the sample of a dump, or of the tables passed for it, that is written as text."""
+    t = passed(dump)
     text = t.text()
     n = len(text)
-    assert max(n, len(t.held)) < BYTES
-    said = f"reply 0 place {n}"
-    report = [line(t.reading), "size " + said, "text " + said, *text.split("\n")[:-1], "rest kept"]
-    return t.held, report + [f"room {n} reply 0 place {n} same", f"room {n - 1} reply 17 place 0 kept"]
+    assert max(n, len(t.file)) < BYTES
+    answer = f"reply 0 place {n}"
+    report = [answer_line(t.read_answer), "size " + answer, "text " + answer, *text.split("\n")[:-1], "rest unchanged"]
+    return t.file, report + [f"capacity {n} reply 0 place {n} same", f"capacity {n - 1} reply 17 place 0 unchanged"]
 
 
 def refused(dump, reply, place=0):
-    """The sample of one that is refused, whatever room there is."""
-    t = lent(dump)
-    assert reply != 18 or place == t.lost()
-    said = f"reply {reply} place {place}"
-    return t.held, [line(t.reading), "size " + said, "text " + said, "rest kept", f"room 0 {said} kept"]
+    """Returns the sample of one that is refused with any capacity."""
+    t = passed(dump)
+    assert reply != 18 or place == t.class_missing()
+    answer = f"reply {reply} place {place}"
+    report = [answer_line(t.read_answer), "size " + answer, "text " + answer, "rest unchanged"]
+    return t.file, report + [f"capacity 0 {answer} unchanged"]

@@ -1,17 +1,17 @@
-// Reads the sample dumps that its arguments name, and every cut of each, and prints what the readings give.
-// samples/make.py makes the dumps and works out what is to be printed, from what it put in. For each file:
+// Reads the sample dumps that its arguments name, and every cut of each, and prints the answers and the tables.
+// samples/make.py makes the dumps, and derives the expected output from the records that it added to them. For each file:
 //
 //     NAME
-//     reply R place P missing M rows N refs N word W  the reading of the whole file
-//     hashed 0|1 openj9 0|1 vm 0|1 place P len N      the header's flags and VM string
-//     row N N N ..                                    each stored row's numbers, in their order
+//     reply R place P missing M rows N refs N bits W  the answer for the whole file
+//     all-hashed 0|1 openj9 0|1 vm 0|1 place P len N  the header's flags and VM string
+//     row N N N ..                                    the numbers of each stored row, in their order
 //     refs N N ..                                     the references, up to eight in a line
-//     cut N reply R place P missing M rows N ..       the first N bytes, where they give something else than N - 1,
-//                                                     the missing bytes aside
-//     missing M M ..                                  the missing bytes of every cut, from none on, 32 in a line
-//     rest kept|changed                               the tables behind what each of these readings stored
+//     cut N reply R place P missing M rows N ..       the answer for the first N bytes, if it differs from that for
+//                                                     N - 1 bytes in more than the missing bytes
+//     missing M M ..                                  the missing bytes of every cut, from 0 bytes on, 32 in a line
+//     rest unchanged|changed                          the tables after what each of these readings stored
 //
-// A file that fills the buffer of 4,096 bytes has `too large` in the place of all that.
+// For a file of 4,096 bytes or more, the size of the buffer, it prints `too large` instead.
 use phd_read::ReadAnswer;
 use samples_print::print_number;
 use samples_print::print_read;
@@ -21,21 +21,22 @@ use samples_print::used_numbers;
 ghost use Prim.Native.Nat.{_≤_};
 ghost use lib.ListN.{length};
 
-// Room for 48 rows, with five numbers too few for one more, and for 70 references.
+// The length of the row table: 48 rows and five numbers, too few for another row.
 const ROWS: usize = 48 * table::ROW_WIDTH + 5;
 
+// The length of the reference table.
 const REFS: usize = 70;
 
-// What every number of the tables is before a reading.
+// The value of every number of the tables before a reading.
 const UNTOUCHED: u64 = 0x5EED_5EED_5EED_5EED;
 
-// A reading, and whether it kept the tables behind what it stored.
-struct Trial {
+// The answer of a reading, and whether the tables after what it stored are unchanged.
+struct CheckedRead {
     answer: ReadAnswer,
     unchanged: bool,
 }
 
-// Whether all numbers of a table from an index on are untouched.
+// Checks whether all numbers of a table from index `from` on are untouched.
 fn is_unchanged(table: &[u64], from: usize) -> bool {
     let mut i = from;
     while i < table.len() {
@@ -47,19 +48,19 @@ fn is_unchanged(table: &[u64], from: usize) -> bool {
     true
 }
 
-// A reading into untouched tables.
-fn read_into(dump: &[u8], rows: &mut [u64], refs: &mut [u64]) -> Trial {
+// Reads a dump into untouched tables.
+fn read_into(dump: &[u8], rows: &mut [u64], refs: &mut [u64]) -> CheckedRead {
     let r = phd_read::read(dump, rows, refs);
-    let rest = is_unchanged(rows, used_numbers(rows, r.rows, table::ROW_WIDTH))
+    let unchanged = is_unchanged(rows, used_numbers(rows, r.rows, table::ROW_WIDTH))
         && is_unchanged(refs, r.refs);
-    Trial {
+    CheckedRead {
         answer: r,
-        unchanged: rest,
+        unchanged: unchanged,
     }
 }
 
-// A reading of the first n bytes, of which only the answer is wanted.
-fn read_cut(dump: &[u8], n: usize) -> Trial
+// Reads the first n bytes of a dump, and drops the tables.
+fn read_cut(dump: &[u8], n: usize) -> CheckedRead
     requires { ⌜ n ≤ length (now dump) ⌝ }
 {
     let mut rows = [UNTOUCHED; ROWS];
@@ -67,39 +68,42 @@ fn read_cut(dump: &[u8], n: usize) -> Trial
     read_into(&dump[0..n], &mut rows, &mut refs)
 }
 
-// Whether two readings say the same, but for the missing bytes.
-fn same(a: ReadAnswer, b: ReadAnswer) -> bool {
-    let f = a.header;
-    let g = b.header;
+// Checks whether two answers agree in all that is printed except the missing bytes.
+fn answers_agree(a: ReadAnswer, b: ReadAnswer) -> bool {
+    let a_header = a.header;
+    let b_header = b.header;
     a.reply == b.reply
         && a.place == b.place
         && a.rows == b.rows
         && a.refs == b.refs
-        && f.bits == g.bits
+        && a_header.bits == b_header.bits
 }
 
+// Prints the answer for the first n bytes.
 fn print_cut(n: usize, r: ReadAnswer) {
     print_number(b"cut ", n as u64);
     print_text(b" ");
     print_read_answer(r);
 }
 
-// The first n bytes, after those of one byte less.
-fn print_next_cut(dump: &[u8], n: usize, last: Trial) -> Trial
+// Reads the first n bytes, and prints the answer if it differs from `last`, that for n - 1 bytes. Returns the answer, and whether
+// the tables are unchanged so far.
+fn print_next_cut(dump: &[u8], n: usize, last: CheckedRead) -> CheckedRead
     requires { ⌜ n ≤ length (now dump) ⌝ }
 {
     let t = read_cut(dump, n);
     let r = t.answer;
-    if !same(r, last.answer) {
+    if !answers_agree(r, last.answer) {
         print_cut(n, r);
     }
-    Trial {
+    CheckedRead {
         answer: r,
         unchanged: t.unchanged && last.unchanged,
     }
 }
 
-// Every cut of a dump, and whether all of them kept the rest of the tables.
+// Reads every cut of a dump, prints each answer that differs from the one before, and returns whether all of the readings left the
+// rest of the tables unchanged.
 fn print_cuts(dump: &[u8]) -> bool {
     let mut last = read_cut(dump, 0);
     print_cut(0, last.answer);
@@ -111,7 +115,7 @@ fn print_cuts(dump: &[u8]) -> bool {
     last.unchanged
 }
 
-// How many bytes are missing of the first n, in lines of 32 such numbers.
+// Prints the missing bytes of the first n, as one number in lines of 32.
 fn print_missing_at(dump: &[u8], n: usize)
     requires { ⌜ n ≤ length (now dump) ⌝ }
 {
@@ -126,7 +130,7 @@ fn print_missing_at(dump: &[u8], n: usize)
     }
 }
 
-// How many bytes are missing of every cut of a dump.
+// Prints the missing bytes of every cut of a dump.
 fn print_missing(dump: &[u8]) {
     let mut n: usize = 0;
     while n < dump.len() {
@@ -136,22 +140,24 @@ fn print_missing(dump: &[u8]) {
     print_missing_at(dump, dump.len());
 }
 
-fn show(dump: &[u8]) {
+// Prints everything for one dump.
+fn run_sample(dump: &[u8]) {
     let mut rows = [UNTOUCHED; ROWS];
     let mut refs = [UNTOUCHED; REFS];
     let t = read_into(dump, &mut rows, &mut refs);
     let r = t.answer;
     print_read(r, &rows, &refs);
-    let rest = print_cuts(dump) && t.unchanged;
+    let unchanged = print_cuts(dump) && t.unchanged;
     print_missing(dump);
-    if rest {
-        print_text(b"rest kept\n");
+    if unchanged {
+        print_text(b"rest unchanged\n");
     } else {
         print_text(b"rest changed\n");
     }
 }
 
-fn sample(name: &[u8]) {
+// Prints the name of a file and everything for its dump.
+fn run_file(name: &[u8]) {
     let fd = os::open_read(name);
     if fd < 0 {
         os::fail(name);
@@ -166,20 +172,21 @@ fn sample(name: &[u8]) {
         print_text(b"too large\n");
         return;
     }
-    show(&dump[..n]);
+    run_sample(&dump[..n]);
 }
 
-fn argument(i: usize) {
+// Runs the file that argument i names.
+fn run_argument(i: usize) {
     let mut name = io::buffer();
     let n = os::arg(i, &mut name);
-    sample(&name[..n]);
+    run_file(&name[..n]);
 }
 
 fn main() {
     let n = os::arg_count();
     let mut i: usize = 1;
     while i < n {
-        argument(i);
+        run_argument(i);
         i += 1;
     }
 }

@@ -1,5 +1,5 @@
-// What the programs over the sample dumps print alike: numbers with their labels, tables in lines, what a reading gives, and
-// what became of an output.
+// The output that the programs over the sample dumps share: numbers with labels, tables in lines, the answer of a reading, and
+// whether an output is unchanged.
 use libc::STDOUT_FILENO;
 use phd::Header;
 use phd_read::ReadAnswer;
@@ -8,15 +8,18 @@ ghost use Prim.Native.Nat.{_≤_, _<_};
 ghost use lib.ListN.{length};
 ghost use Rattle.io.specs.Counts.{Counts};
 
+// Prints bytes as they are.
 pub fn print_text(text: &[u8]) {
     io::write_all(STDOUT_FILENO, text);
 }
 
+// Prints a label and a number in decimal.
 pub fn print_number(label: &[u8], n: u64) {
     print_text(label);
     io::print_decimal(STDOUT_FILENO, n);
 }
 
+// Prints a label and 0 or 1.
 fn print_bool(label: &[u8], b: bool) {
     if b {
         print_number(label, 1);
@@ -25,7 +28,7 @@ fn print_bool(label: &[u8], b: bool) {
     }
 }
 
-// `reply R place P missing M rows N refs N word W`
+// Prints the answer of a reading: `reply R place P missing M rows N refs N bits W`.
 pub fn print_read_answer(r: ReadAnswer) {
     print_number(b"reply ", r.reply);
     print_number(b" place ", r.place as u64);
@@ -33,13 +36,13 @@ pub fn print_read_answer(r: ReadAnswer) {
     print_number(b" rows ", r.rows as u64);
     print_number(b" refs ", r.refs as u64);
     let header = r.header;
-    print_number(b" word ", header.bits);
+    print_number(b" bits ", header.bits);
     print_text(b"\n");
 }
 
-// `hashed 0|1 openj9 0|1 vm 0|1 place P len N`
+// Prints the header's flags and VM string: `all-hashed 0|1 openj9 0|1 vm 0|1 place P len N`.
 fn print_header(header: Header) {
-    print_bool(b"hashed ", header.hashed);
+    print_bool(b"all-hashed ", header.hashed);
     print_bool(b" openj9 ", header.openj9);
     let vm = header.vm;
     print_bool(b" vm ", vm.present);
@@ -48,7 +51,7 @@ fn print_header(header: Header) {
     print_text(b"\n");
 }
 
-// The numbers of a table from one index to before another, in a line.
+// Prints a line with the numbers of a table from index `from` to before `end`.
 fn print_line(label: &[u8], table: &[u64], from: usize, end: usize)
     requires { ⌜ end ≤ length (now table) ⌝ }
 {
@@ -61,7 +64,7 @@ fn print_line(label: &[u8], table: &[u64], from: usize, end: usize)
     print_text(b"\n");
 }
 
-// Where a line of `width` things ends that begins before `end`.
+// Returns where the line that begins at `at` ends: after `width` elements, or at `end`.
 pub fn line_end(at: usize, width: usize, end: usize) -> usize
     requires { ⌜ (at < end) × (1 ≤ width) ⌝ }
     ensures { λ r. ⌜ (at < r) × (r ≤ end) ⌝ }
@@ -72,7 +75,7 @@ pub fn line_end(at: usize, width: usize, end: usize) -> usize
     at + width
 }
 
-// The numbers of a table before an index, in lines of `width` numbers.
+// Prints the numbers of a table before index `end`, in lines of `width` numbers.
 fn print_table(label: &[u8], table: &[u64], width: usize, end: usize)
     requires { ⌜ (end ≤ length (now table)) × (1 ≤ width) ⌝ }
 {
@@ -84,7 +87,7 @@ fn print_table(label: &[u8], table: &[u64], width: usize, end: usize)
     }
 }
 
-// How many numbers of a table n things of `width` numbers take; all of it, were that more.
+// Returns how many numbers n elements of `width` numbers take, at most the length of the table.
 pub fn used_numbers(table: &[u64], n: usize, width: usize) -> usize
     requires { ⌜ 1 ≤ width ⌝ }
     ensures { λ r. ⌜ r ≤ length (now (table .entry)) ⌝ }
@@ -95,11 +98,11 @@ pub fn used_numbers(table: &[u64], n: usize, width: usize) -> usize
     table.len()
 }
 
-// What a reading gives, all of it:
+// Prints the answer and the tables of a reading:
 //
-//     reply R place P missing M rows N refs N word W
-//     hashed 0|1 openj9 0|1 vm 0|1 place P len N      the header's flags and VM string
-//     row N N N ..                                    each stored row's numbers, in their order
+//     reply R place P missing M rows N refs N bits W
+//     all-hashed 0|1 openj9 0|1 vm 0|1 place P len N  the header's flags and VM string
+//     row N N N ..                                    the numbers of each stored row, in their order
 //     refs N N ..                                     the references, up to eight in a line
 pub fn print_read(r: ReadAnswer, rows: &[u64], refs: &[u64]) {
     print_read_answer(r);
@@ -113,8 +116,8 @@ pub fn print_read(r: ReadAnswer, rows: &[u64], refs: &[u64]) {
     print_table(b"refs", refs, 8, used_numbers(refs, r.refs, 1));
 }
 
-// n, or how many bytes there are, if that is less.
-pub fn at_most(n: usize, bytes: &[u8]) -> usize
+// Returns n, or the number of bytes if that is less.
+pub fn clamp_len(n: usize, bytes: &[u8]) -> usize
     ensures { λ r. ⌜ Counts r (now (bytes .entry)) ⌝ }
 {
     if bytes.len() < n {
@@ -123,23 +126,23 @@ pub fn at_most(n: usize, bytes: &[u8]) -> usize
     n
 }
 
-// How many bytes a writing says that it wrote, at most all that there are.
-pub fn written_bytes(w: Answer, out: &[u8]) -> usize
+// Returns how many bytes were written, by the answer of a writer: 0 if it refused, and at most the length of the output.
+pub fn written_bytes(answer: Answer, out: &[u8]) -> usize
     ensures { λ r. ⌜ Counts r (now (out .entry)) ⌝ }
 {
-    if w.reply != 0 {
-        return at_most(0, out);
+    if answer.reply != 0 {
+        return clamp_len(0, out);
     }
-    at_most(w.place, out)
+    clamp_len(answer.place, out)
 }
 
-// `reply R place P`
-pub fn print_answer(w: Answer) {
-    print_number(b"reply ", w.reply);
-    print_number(b" place ", w.place as u64);
+// Prints the answer of a writer or of a size query: `reply R place P`.
+pub fn print_answer(answer: Answer) {
+    print_number(b"reply ", answer.reply);
+    print_number(b" place ", answer.place as u64);
 }
 
-// Whether all bytes of an output from an index on are what they were before, each x.
+// Checks whether all bytes of an output from index `from` on still are x, as before the writing.
 pub fn is_unchanged(out: &[u8], from: usize, x: u8) -> bool {
     let mut i = from;
     while i < out.len() {
@@ -151,11 +154,11 @@ pub fn is_unchanged(out: &[u8], from: usize, x: u8) -> bool {
     true
 }
 
-// `kept` or `changed`
-pub fn print_unchanged(label: &[u8], k: bool) {
+// Prints a label and `unchanged` or `changed`.
+pub fn print_unchanged(label: &[u8], unchanged: bool) {
     print_text(label);
-    if k {
-        print_text(b"kept\n");
+    if unchanged {
+        print_text(b"unchanged\n");
     } else {
         print_text(b"changed\n");
     }

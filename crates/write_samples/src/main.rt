@@ -1,18 +1,18 @@
-// Asks for the size of the sample tables that its arguments name as dumps, writes them, reads back what it wrote, and prints it all.
-// samples/make_write.py makes the tables and works out what is to be printed, from what it put in. For each file:
+// Writes the sample tables that its arguments name as dumps, after a size query, reads the dumps back, and prints it all.
+// samples/make_write.py makes the tables, and derives the expected output from their rows. For each file:
 //
 //     NAME
-//     size reply R place P                                 what asking for the size answers
-//     reply R place P                                      what the writing answers
+//     size reply R place P                                 the answer of the size query
+//     reply R place P                                      the answer of the writer
 //     bytes HH HH ..                                       the bytes written, up to 32 in a line
-//     again N                                              so many lines more like the one before
-//     rest kept|changed                                    the output behind what was written; all of it, if refused
-//     read reply R place P missing M rows N refs N word W  the reading of what was written, if it was not refused
-//     hashed 0|1 openj9 0|1 vm 0|1 place P len N           the header's flags and VM string
-//     row N N N ..                                         each stored row's numbers, in their order
+//     repeated N                                           the number of lines left out that are equal to the last one
+//     rest unchanged|changed                               the output after the dump; all of it, if refused
+//     read reply R place P missing M rows N refs N bits W  the answer of reading the dump, if it was written
+//     all-hashed 0|1 openj9 0|1 vm 0|1 place P len N       the header's flags and VM string
+//     row N N N ..                                         the numbers of each stored row, in their order
 //     refs N N ..                                          the references, up to eight in a line
 //
-// How a file holds its tables is said in tables.rt.
+// tables.rt describes how a file encodes its tables.
 mod tables;
 
 use libc::STDOUT_FILENO;
@@ -29,26 +29,29 @@ ghost use Prim.Native.Nat.{_≤_, _<_};
 ghost use mathlib.Core.Path.{_≡_};
 ghost use lib.ListN.{length};
 
-// The bytes of a line.
+// The number of bytes in a line.
 const LINE: usize = 32;
 
-// The bytes that there are for names and for output, and what every byte of the output is before a writing.
+// The capacity for name bytes and for output.
 const BYTES: usize = 0x1_1000;
 
+// The value of every byte of the output before a writing.
 const UNTOUCHED: u8 = 0xA5;
 
-fn filled(x: u8) -> [u8; BYTES]
+// Returns a buffer in which every byte is x.
+fn filled_buffer(x: u8) -> [u8; BYTES]
     ensures { λ r. ⌜ 0x11000 ≡ length r ⌝ }
 {
     [x; BYTES]
 }
 
+// Prints a space and a byte as two hexadecimal digits.
 fn print_byte(x: u8) {
     print_text(b" ");
     io::print_hex(STDOUT_FILENO, x as u64, 2);
 }
 
-// The bytes from one index to before another, in a line.
+// Prints a line with the bytes from index `from` to before `end`.
 fn print_byte_line(s: &[u8], from: usize, end: usize)
     requires { ⌜ end ≤ length (now s) ⌝ }
 {
@@ -61,8 +64,8 @@ fn print_byte_line(s: &[u8], from: usize, end: usize)
     print_text(b"\n");
 }
 
-// Whether the line from one index to before another is a whole one and like the one before.
-fn repeats(s: &[u8], at: usize, end: usize) -> bool
+// Checks whether the line from index `at` to before `end` is a whole one and equal to the one before it.
+fn is_repeated_line(s: &[u8], at: usize, end: usize) -> bool
     requires { ⌜ (at < end) × (end ≤ length (now s)) ⌝ }
 {
     if at < LINE {
@@ -81,33 +84,34 @@ fn repeats(s: &[u8], at: usize, end: usize) -> bool
     true
 }
 
+// Prints how many lines are left out, if any.
 fn print_repeated(n: usize) {
     if 0 < n {
-        print_number(b"again ", n as u64);
+        print_number(b"repeated ", n as u64);
         print_text(b"\n");
     }
 }
 
-// All bytes, in lines.
+// Prints all bytes, in lines.
 fn print_bytes(s: &[u8]) {
-    let mut again: usize = 0;
+    let mut repeated: usize = 0;
     let mut at: usize = 0;
     while at < s.len() {
         let next = line_end(at, LINE, s.len());
-        if repeats(s, at, next) {
-            again += 1;
+        if is_repeated_line(s, at, next) {
+            repeated += 1;
         } else {
-            print_repeated(again);
-            again = 0;
+            print_repeated(repeated);
+            repeated = 0;
             print_byte_line(s, at, next);
         }
         at = next;
     }
-    print_repeated(again);
+    print_repeated(repeated);
 }
 
-// What reading a dump gives.
-fn read_back(dump: &[u8]) {
+// Reads a dump, and prints the answer and the tables.
+fn print_read_back(dump: &[u8]) {
     let mut rows = [0; tables::ROWS];
     let mut refs = [0; tables::REFS];
     let r = phd_read::read(dump, &mut rows, &mut refs);
@@ -115,34 +119,34 @@ fn read_back(dump: &[u8]) {
     print_read(r, &rows, &refs);
 }
 
-// Asks for the size of tables, and writes them to untouched output.
-fn write(header: Header, rows: &[u64], refs: &[u64], names: &[u8], out: &mut [u8]) {
+// Prints the answer of a size query for tables, and the dump that is written to untouched output.
+fn print_dump_of(header: Header, rows: &[u64], refs: &[u64], names: &[u8], out: &mut [u8]) {
     print_text(b"size ");
     print_answer(phd_write::write_size(header, rows, refs, names));
     print_text(b"\n");
-    let w = phd_write::write(header, rows, refs, names, out);
-    print_answer(w);
+    let answer = phd_write::write(header, rows, refs, names, out);
+    print_answer(answer);
     print_text(b"\n");
-    let n = written_bytes(w, out);
+    let n = written_bytes(answer, out);
     print_bytes(&out[..n]);
     print_unchanged(b"rest ", is_unchanged(out, n, UNTOUCHED));
-    if w.reply == 0 {
-        read_back(&out[..n]);
+    if answer.reply == 0 {
+        print_read_back(&out[..n]);
     }
 }
 
-// Writes what a file holds. What stands behind the references and the name bytes that are lent is good, so that a writing
-// that goes beyond them does not stop there.
-fn show(s: &[u8]) {
+// Writes the tables of one file. The numbers and bytes after the references and the name bytes that are passed are valid, so a
+// writer that read too far would not be refused there.
+fn run_sample(s: &[u8]) {
     let mut rows = [0; tables::ROWS];
-    let n = tables::fill(s, 7, tables::HEAD, &mut rows);
+    let n = tables::fill_numbers(s, 7, tables::HEAD, &mut rows);
     let mut refs = [4; tables::REFS];
-    let m = tables::fill(s, 8, tables::HEAD + n, &mut refs);
-    let mut names = filled(b'x');
+    let m = tables::fill_numbers(s, 8, tables::HEAD + n, &mut refs);
+    let mut names = filled_buffer(b'x');
     let k = tables::fill_names(s, 9, 8 * (tables::HEAD + n + m), &mut names);
-    let mut out = filled(UNTOUCHED);
+    let mut out = filled_buffer(UNTOUCHED);
     let capacity = tables::out_capacity(s, &out);
-    write(
+    print_dump_of(
         tables::header(s),
         &rows[..n],
         &refs[..m],
@@ -151,7 +155,8 @@ fn show(s: &[u8]) {
     );
 }
 
-fn sample(name: &[u8]) {
+// Prints the name of a file and everything for its tables.
+fn run_file(name: &[u8]) {
     let fd = os::open_read(name);
     if fd < 0 {
         os::fail(name);
@@ -162,20 +167,21 @@ fn sample(name: &[u8]) {
     libc::close(fd);
     print_text(name);
     print_text(b"\n");
-    show(&file[..n]);
+    run_sample(&file[..n]);
 }
 
-fn argument(i: usize) {
+// Runs the file that argument i names.
+fn run_argument(i: usize) {
     let mut name = io::buffer();
     let n = os::arg(i, &mut name);
-    sample(&name[..n]);
+    run_file(&name[..n]);
 }
 
 fn main() {
     let n = os::arg_count();
     let mut i: usize = 1;
     while i < n {
-        argument(i);
+        run_argument(i);
         i += 1;
     }
 }

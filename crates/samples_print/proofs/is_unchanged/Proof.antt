@@ -1,4 +1,4 @@
--- `kept` is safe and ends: the measure is what is left of the output. Assumes nothing.
+-- `is_unchanged` is safe and terminates: the measure is the number of bytes left. Assumes nothing.
 use borrow.Author.Needs.{needs}
 use Prim.Native.Nat.{_-_}
 use lib.ListN.{length}

@@ -1,4 +1,4 @@
--- `tell_line` is safe and ends: the measure is how many numbers are left. Assumes nothing.
+-- `print_line` is safe and terminates: the measure is the count of numbers left. Assumes nothing.
 use borrow.Author.Needs.{needs}
 use Prim.Native.Nat.{_-_}
 use Rattle.samples_print.proofs.print_line.Statement.{statement}

@@ -1,4 +1,4 @@
--- `print_table` is safe and ends: each line takes a number at least. Assumes nothing.
+-- `print_table` is safe and terminates: each line has at least one number. Assumes nothing.
 use borrow.Author.Needs.{needs}
 use Prim.Native.Nat.{_-_}
 use Rattle.samples_print.proofs.print_table.Statement.{statement}

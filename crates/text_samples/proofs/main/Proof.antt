@@ -1,4 +1,4 @@
--- `main` is safe and ends: the measure is how many arguments are left. Assumes nothing.
+-- `main` is safe and terminates: the measure is the number of arguments left. Assumes nothing.
 use borrow.Author.Needs.{needs}
 use Prim.Native.Nat.{_-_}
 use Rattle.text_samples.proofs.main.Statement.{statement}

@@ -1,4 +1,4 @@
--- `tell_line` is safe and ends: the measure is how many bytes are left. Assumes nothing.
+-- `print_byte_line` is safe and terminates: the measure is the number of bytes left. Assumes nothing.
 use borrow.Author.Needs.{needs}
 use Prim.Native.Nat.{_-_}
 use Rattle.write_samples.proofs.print_byte_line.Statement.{statement}

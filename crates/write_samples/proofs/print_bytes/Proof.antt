@@ -1,4 +1,4 @@
--- `print_bytes` is safe and ends: each line takes a byte at least, so no more lines repeat than bytes were passed.
+-- `print_bytes` is safe and terminates: each line has at least one byte, so the count of repeated lines is at most the offset.
 -- Assumes nothing.
 use borrow.Author.Needs.{needs}
 use Prim.Native.Nat.{_-_, _≤_}
@@ -7,10 +7,10 @@ use Rattle.write_samples.proofs.print_bytes.Statement.{statement}
 use Rattle.write_samples.proofs.print_bytes.Tie as tie
 
 abbrev Inv-loop : tie.InvT-loop
-Inv-loop s again₀ at₀ again at = again ≤ at
+Inv-loop s repeated₀ at₀ repeated at = repeated ≤ at
 
 abbrev μ-loop : tie.MeasureT-loop
-μ-loop s again₀ at₀ again at = length s - at
+μ-loop s repeated₀ at₀ repeated at = length s - at
 
 pub print-bytes-spec : {M : Type 1} → statement M
 print-bytes-spec =

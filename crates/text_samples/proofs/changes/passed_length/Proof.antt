@@ -1,4 +1,4 @@
--- `lent` meets its contract: at most all numbers are lent. Assumes nothing.
+-- `passed_length` satisfies its contract: the length is at most that of the table. Assumes nothing.
 use native.Mathlib.Omega.{arith}
 use borrow.Author.Needs.{needs}
 use Rattle.io.proofs.Counting.{counts}

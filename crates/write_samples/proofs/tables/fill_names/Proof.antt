@@ -1,5 +1,5 @@
--- `fill_names` meets its contract: the names keep their length, of which the count is at most all. The measure is how many
--- bytes are left. Assumes nothing.
+-- `fill_names` satisfies its contract: the invariant is that `names` keeps its length, and the count is at most that length.
+-- The measure is the number of bytes left. Assumes nothing.
 use mathlib.Core.Path.{_≡_}
 use Prim.Native.Nat.{_-_}
 use native.Mathlib.Omega.{arith}

@@ -1,4 +1,4 @@
--- `room` meets its contract: at most all bytes are lent. Assumes nothing.
+-- `out_capacity` satisfies its contract: the capacity is at most the length of the output. Assumes nothing.
 use native.Mathlib.Omega.{arith}
 use borrow.Author.Needs.{needs}
 use Rattle.io.proofs.Counting.{counts}

@@ -1,8 +1,0 @@
--- `within` meets its contract: it answers at most how many bytes there are. Assumes nothing.
-use native.Mathlib.Omega.{arith}
-use Rattle.io.proofs.Counting.{counts}
-use Rattle.samples_print.proofs.at_most.Statement.{statement}
-use Rattle.samples_print.proofs.at_most.Tie as tie
-
-pub at-most-spec : {M : Type 1} → statement M
-at-most-spec = tie.close (tie.spec (λ c. counts _ _ (omega arith)) (λ c. counts _ _ (omega arith)))
