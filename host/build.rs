@@ -1,4 +1,4 @@
-// Links the proved library, target/staticlib/libphd_c.a, which `rt staticlib phd_c` makes at the repository's root.
+//! Links the proved library, target/staticlib/libphd_c.a, which `rt staticlib phd_c` builds in the root of the repository.
 use std::path::Path;
 
 fn main() {

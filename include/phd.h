@@ -1,11 +1,48 @@
-/* Portable heap dumps (PHD) of OpenJ9: reading them into tables, and writing tables as dumps and as classic text.
+/* Portable heap dumps (PHD) of OpenJ9: reads them into tables, and writes tables as dumps or as classic text.
  *
- * Every function takes any bytes, numbers and lengths, checks nothing beforehand, allocates nothing and ends with one of the
- * replies below. What it stores stays within what it is lent. Lengths count elements. A pointer must point to so many
- * elements of its own; where a length is 0 the pointer is not followed, but must not be null. What is written to must not
- * overlap with anything else that is lent.
+ * A dump is read into two tables of 64-bit numbers in buffers of the caller: `rows`, with PHD_ROW_LEN numbers for each
+ * record, and `refs`, with the references of all records. A row holds the index of its first reference in `refs` and their
+ * count. Names are not copied: a row holds the place and the length of its name in the dump. A truncated or damaged dump is
+ * read up to the first record that is cut off or not valid.
  *
- * Link with target/staticlib/libphd_c.a, which 'rt staticlib phd_c' makes (x86-64).
+ * Typical use: read a dump, query the size of the output, write it. This prints a dump as classic text. With phd_write_size
+ * and phd_write instead of phd_text_size and phd_text it would be a new dump. (Tests of calloc and malloc are left out.)
+ *
+ *     uint64_t answer[16], header[PHD_HEADER_LEN];
+ *     size_t rows_len = PHD_MAX_ROWS(dump_len) * PHD_ROW_LEN, refs_len = PHD_MAX_REFS(dump_len);
+ *     uint64_t *rows = calloc(rows_len + 1, sizeof *rows);    // + 1: not null, even for an empty table
+ *     uint64_t *refs = calloc(refs_len + 1, sizeof *refs);
+ *     uint64_t reply = phd_read(dump, dump_len, rows, rows_len, refs, refs_len, answer);
+ *     if (reply != PHD_DONE)
+ *         fprintf(stderr, "reply %d at byte %llu\n", (int)reply, (unsigned long long)answer[PHD_PLACE]);
+ *     if (answer[PHD_BITS] != 0) {    // the header was read, so the records that were read can be written
+ *         for (int i = 0; i < PHD_HEADER_LEN; i++)
+ *             header[i] = answer[PHD_BITS + i];
+ *         rows_len = answer[PHD_ROWS] * PHD_ROW_LEN;
+ *         refs_len = answer[PHD_REFS];
+ *         if (phd_text_size(header, rows, rows_len, refs, refs_len, dump, dump_len, answer) == PHD_DONE) {
+ *             size_t out_len = answer[PHD_PLACE];
+ *             uint8_t *out = malloc(out_len);
+ *             phd_text(header, rows, rows_len, refs, refs_len, dump, dump_len, out, out_len, answer);
+ *             fwrite(out, 1, out_len, stdout);
+ *             free(out);
+ *         }
+ *     }
+ *     free(rows);
+ *     free(refs);
+ *
+ * Rules of every function:
+ * - It accepts any bytes, numbers and lengths; the caller need not validate anything first. It always returns, allocates
+ *   nothing, and stays within the lengths.
+ * - It fills all 16 numbers of `answer` (enum phd_answer), whatever the outcome, and returns the first of them, the reply
+ *   (enum phd_reply).
+ * - A length counts elements, not bytes. A pointer must point to that many elements. It must not be null, even if the
+ *   length is 0; then it is not dereferenced.
+ * - A buffer that is written to must not overlap any other buffer of the call.
+ *
+ * docs/FORMAT.md has the format and the rules: 4 Tables, 5 Reading, 6 Writing, 7 Classic text, 8 Replies.
+ *
+ * Link with target/staticlib/libphd_c.a, which 'rt staticlib phd_c' builds (x86-64).
  */
 #ifndef PHD_H
 #define PHD_H
@@ -17,101 +54,115 @@
 extern "C" {
 #endif
 
-/* The numbers of a row, in their order, and last how many they are. A number that a kind does not use is 0. */
-enum phd_number {
-    PHD_KIND = 0,        /* 1 class, 2 object, 3 object array, 4 primitive array */
+/* The numbers of a row, by their place in the row. A number that a kind of record does not use is 0. */
+enum phd_row {
+    PHD_KIND = 0,         /* 1 class, 2 object, 3 object array, 4 primitive array */
     PHD_ADDRESS = 1,
-    PHD_CLASS_WORD = 2,  /* the class's address; of a class its superclass's */
-    PHD_HASH_KIND = 3,   /* 0 none, 1 hashed with no stored hash, 2 a 32-bit hash, 3 a 16-bit hash */
+    PHD_CLASS = 2,        /* the class word: the address of the class, and of a class that of its superclass */
+    PHD_HASH_KIND = 3,    /* 0 none, 1 hashed but no hash is stored, 2 a 32-bit hash, 3 a 16-bit hash */
     PHD_HASH = 4,
-    PHD_FIRST = 5,       /* the index of its first reference in the table of references */
-    PHD_COUNT = 6,       /* how many references it has */
-    PHD_SIZE = 7,        /* of an array in 32-bit words; of a class its instances' bytes */
-    PHD_LENGTH = 8,      /* of an array, in elements */
-    PHD_NAME_PLACE = 9,  /* of a class: where its name stands in the dump, or in the name bytes */
-    PHD_NAME_LENGTH = 10,
-    PHD_TYPE = 11,       /* of a primitive array: 0 to 7 for boolean, char, float, double, byte, short, int, long */
-    PHD_OFFSET = 12,     /* where its record's tag stands in the dump that it was read from. Writing and text ignore it */
-    PHD_ROW
+    PHD_FIRST = 5,        /* the index of the first reference in `refs` */
+    PHD_COUNT = 6,        /* how many references the record has; nulls are not stored */
+    PHD_SIZE = 7,         /* of an array: its size in 32-bit words; of a class: the size of its instances in bytes */
+    PHD_LENGTH = 8,       /* of an array: how many elements it has; of an object array these include its nulls */
+    PHD_NAME_PLACE = 9,   /* of a class: where its name is, in the dump or in `names` */
+    PHD_NAME_LENGTH = 10, /* of a class: how many bytes its name has */
+    PHD_TYPE = 11,        /* of a primitive array: 0 to 7 for boolean, char, float, double, byte, short, int, long */
+    PHD_OFFSET = 12,      /* where the tag of the record is in the dump from which it was read; ignored when writing */
+    PHD_ROW_LEN           /* how many numbers make a row: 13 */
 };
 
-/* What a function says in `facts`, by its place there. Every call fills all 16 numbers, a refused one too: they are how it
- * answers. The rest is 0; after any function but phd_read that is all but the first two. */
-enum phd_fact {
+/* The numbers of `answer`, by their place. Numbers that are not used are 0. Every function sets the first two, and only
+ * phd_read the others. */
+enum phd_answer {
     PHD_REPLY = 0,
-    PHD_PLACE = 1,
+    PHD_PLACE = 1,       /* the place that the reply is about; see enum phd_reply */
     PHD_ROWS = 2,        /* how many rows were stored */
-    PHD_REFERENCES = 3,  /* how many references were stored */
-    PHD_W = 4,           /* 32 or 64; 0 where the header was not read whole, and then facts 5 to 9 are 0 too */
-    PHD_ALL_HASHED = 5,
-    PHD_OPENJ9 = 6,
-    PHD_VM_THERE = 7,
-    PHD_VM_PLACE = 8,
+    PHD_REFS = 3,        /* how many references were stored */
+    PHD_BITS = 4,        /* W, the width of addresses: 32 or 64; 0 if the header was not read completely, and then 5 to 9 are
+                          * 0 too */
+    PHD_ALL_HASHED = 5,  /* 1 if all objects are hashed, otherwise 0 */
+    PHD_OPENJ9 = 6,      /* 1 if the dump is from OpenJ9, otherwise 0 */
+    PHD_VM_PRESENT = 7,  /* 1 if the header has a VM string, otherwise 0 */
+    PHD_VM_PLACE = 8,    /* where the VM string is in the dump */
     PHD_VM_LENGTH = 9,
-    PHD_MISSING = 10     /* of a cut dump: what the field lacked in which it ends. At least so many bytes are missing; else 0 */
+    PHD_MISSING = 10     /* of a cut dump: how many more bytes the field needs in which the dump ends. At least that many bytes
+                          * of the dump are missing. Otherwise 0 */
 };
 
-/* A header to write, by its place in `header`: W (32 or 64), all objects hashed, from OpenJ9, whether a VM string is there,
- * its place and its length in the name bytes. A flag is set where its number is not 0. It is facts[4] to facts[9] of a
- * reading, with the dump as the name bytes. */
-#define PHD_HEADER 6
+/* The header to write has six numbers: W (32 or 64), all objects hashed, from OpenJ9, VM string present, and its place and
+ * length in `names`. A flag is set if its number is not 0. After phd_read these are answer[PHD_BITS] to
+ * answer[PHD_VM_LENGTH], with the dump as `names`. */
+#define PHD_HEADER_LEN 6
 
-/* The replies. The place is given behind each. */
+/* The replies, each with its place. */
 enum phd_reply {
-    PHD_DONE = 0,            /* all of it was read or written: after the end tag, or how many bytes were written. Of asking
-                              * for a size: how many bytes it takes */
-    PHD_CUT = 1,             /* the dump is cut off: the tag of the record that it ends in, 0 in the header */
-    PHD_OVER_LIMIT = 2,      /* the dump has over 1,073,741,824 bytes: 0 */
-    PHD_NO_DUMP = 3,         /* it does not begin with the words of a portable heap dump: 0 */
-    PHD_BAD_VERSION = 4,     /* its version is not 6: 0 */
-    PHD_BAD_FLAG = 5,        /* its header has a flag that no one knows: 0 */
-    PHD_BAD_TAG = 6,         /* a tag is not allowed where it stands: the tag, 0 in the header */
-    PHD_BAD_STRING = 7,      /* a byte of a name or of the VM string is not allowed, a class has no name, or there is a
-                              * second VM string: the record's tag, 0 in the header */
-    PHD_OUT_OF_RANGE = 8,    /* an address or a reference lies outside the memory that W allows: the record's tag */
-    PHD_NULL_REFERENCE = 9,  /* a reference is null: the record's tag */
-    PHD_EMPTY_SLOT = 10,     /* an object names its class by a slot that nothing has filled: the record's tag */
-    PHD_HASH_BITS = 11,      /* a record has hash bits though all objects are hashed: the record's tag */
-    PHD_BAD_COUNT = 12,      /* a count, a length or a class's size is out of range: the record's tag */
-    PHD_NO_ROW = 13,         /* no room for this record's row: the record's tag. Lend more and read again */
-    PHD_NO_REFERENCES = 14,  /* too little room for this record's references: the record's tag. Lend more and read again */
-    PHD_BAD_HEADER = 15,     /* the header to write is bad, or over 2^30 rows or reference numbers are lent: 0 */
-    PHD_BAD_ROW = 16,        /* a number of a row cannot be written: the first such row, from 0 */
-    PHD_NO_OUTPUT = 17,      /* the output is too small, or a dump would be over the limit: 0. Nothing was written. Of asking
-                              * for the size of a dump: it would be over the limit */
-    PHD_NO_CLASS = 18        /* of a text: a row's class is not among the rows: the first such row, from 0 */
+    /* of all functions */
+    PHD_DONE = 0,         /* all was read: the place is after the end tag. All was written: how many bytes. A size query: how
+                           * many bytes the output has */
+
+    /* of phd_read: the place is the tag of the record concerned, or 0 for the header */
+    PHD_CUT = 1,          /* the dump is cut off in this record or in the header */
+    PHD_OVER_LIMIT = 2,   /* the dump has more than 1,073,741,824 bytes; place 0 */
+    PHD_NO_DUMP = 3,      /* it does not begin with the words "portable heap dump"; place 0 */
+    PHD_BAD_VERSION = 4,  /* its version is not 6; place 0 */
+    PHD_BAD_FLAG = 5,     /* its header has an unknown flag; place 0 */
+    PHD_BAD_TAG = 6,      /* a tag is not allowed where it is */
+    PHD_BAD_STRING = 7,   /* a name or the VM string has a byte that is not allowed, a class has no name, or there is a
+                           * second VM string */
+    PHD_OUT_OF_RANGE = 8, /* an address or a reference is outside the memory that W allows */
+    PHD_NULL_REF = 9,     /* a reference is null */
+    PHD_EMPTY_SLOT = 10,  /* an object names its class by a slot of the class cache that is still empty */
+    PHD_HASH_BITS = 11,   /* a record has hash bits although all objects are hashed */
+    PHD_BAD_COUNT = 12,   /* a count, a length or the instance size of a class is out of range */
+    PHD_NO_ROW = 13,      /* `rows` has no capacity for this record. Read again with a larger table */
+    PHD_NO_REFS = 14,     /* `refs` has too little capacity for this record. Read again with a larger table */
+
+    /* of the other functions */
+    PHD_BAD_HEADER = 15,  /* the header cannot be written, or there are more than 2^30 rows or references; place 0 */
+    PHD_BAD_ROW = 16,     /* a row cannot be written: the place is the first such row, counted from 0 */
+    PHD_NO_OUTPUT = 17,   /* `out` is too small, or the dump would have more than 1,073,741,824 bytes; place 0. Of a size
+                           * query only the second */
+    PHD_NO_CLASS = 18     /* of a text: the class of a row is not among the rows. The place is the first such row, counted
+                           * from 0 */
 };
 
-/* How many rows, and how many references, a dump of dump_len bytes gives at most: its header has 31 bytes at least, a record two, and a
- * reference one. A reading into PHD_MOST_ROWS(dump_len) rows never ends with PHD_NO_ROW, and one into
- * PHD_MOST_REFERENCES(dump_len) numbers never with PHD_NO_REFERENCES. Few dumps need as much: smaller tables may be tried first,
- * and larger ones after either reply. */
-#define PHD_MOST_REFERENCES(dump_len) ((dump_len) < 31 ? 0 : (dump_len) - 31)
-#define PHD_MOST_ROWS(dump_len) (PHD_MOST_REFERENCES(dump_len) / 2)
+/* Compute the most rows, and the most references, that a dump of dump_len bytes can give: its header has at least 31 bytes,
+ * a record at least two, and a reference at least one. With a capacity of PHD_MAX_ROWS(dump_len) rows phd_read never replies
+ * PHD_NO_ROW, and with one of PHD_MAX_REFS(dump_len) references never PHD_NO_REFS. Few dumps need as much: you may try
+ * smaller tables first, and larger ones after either reply. */
+#define PHD_MAX_REFS(dump_len) ((dump_len) < 31 ? 0 : (dump_len) - 31)
+#define PHD_MAX_ROWS(dump_len) (PHD_MAX_REFS(dump_len) / 2)
 
-/* Reads a dump: its rows go to the start of `rows`, PHD_ROW numbers to each, and its references to the start of `refs`.
- * Whatever the reply, the records before its place are stored whole, and nothing else in the tables has changed. */
+/* Reads a dump: stores its rows at the start of `rows`, PHD_ROW_LEN numbers each, and its references at the start of `refs`.
+ * Whatever the reply, all records before its place are stored completely, and nothing else in the tables has changed. */
 uint64_t phd_read(const uint8_t *dump, size_t dump_len, uint64_t *rows, size_t rows_len, uint64_t *refs, size_t refs_len,
-                  uint64_t facts[16]);
+                  uint64_t answer[16]);
 
-/* Asks how many bytes the whole rows of a table and their references take as a dump, or as classic text: reply 0, and the place
- * is the count. All is checked as for the writing below, so that any other reply is the writing's too, whatever `out` it is
- * lent; with a count it ends with reply 0 and the same place if out_len is at least the count, and else with 17. */
-uint64_t phd_write_size(const uint64_t header[PHD_HEADER], const uint64_t *rows, size_t rows_len, const uint64_t *refs,
-                        size_t refs_len, const uint8_t *names, size_t names_len, uint64_t facts[16]);
-uint64_t phd_text_size(const uint64_t header[PHD_HEADER], const uint64_t *rows, size_t rows_len, const uint64_t *refs,
-                       size_t refs_len, const uint8_t *names, size_t names_len, uint64_t facts[16]);
+/* Computes how many bytes phd_write would write: reply PHD_DONE, and the place is the size. Everything is checked as by
+ * phd_write, so any other reply is also phd_write's, for every `out`. After a size, phd_write replies PHD_DONE with the same
+ * place if out_len is at least that size, and PHD_NO_OUTPUT otherwise. A size query is optional: phd_write checks everything
+ * itself. */
+uint64_t phd_write_size(const uint64_t header[PHD_HEADER_LEN], const uint64_t *rows, size_t rows_len, const uint64_t *refs,
+                        size_t refs_len, const uint8_t *names, size_t names_len, uint64_t answer[16]);
 
-/* Writes the whole rows of a table and their references as a dump, or as classic text, to the start of `out`. Names are taken
- * from `names`. Only reply 0 changes `out`, and after what was written it stays as it was: a refused call changes nothing
- * passed in but `facts`. No size need be asked before.
+/* Computes how many bytes phd_text would write. It relates to phd_text as phd_write_size to phd_write. */
+uint64_t phd_text_size(const uint64_t header[PHD_HEADER_LEN], const uint64_t *rows, size_t rows_len, const uint64_t *refs,
+                       size_t refs_len, const uint8_t *names, size_t names_len, uint64_t answer[16]);
+
+/* Writes a table of rows with their references as a dump, to the start of `out`. Numbers at the end of `rows` that are too few
+ * for a row are ignored. Names are taken from `names`. Only PHD_DONE changes `out`, and then only as many bytes as were
+ * written; a refused call changes nothing but `answer`.
  *
- * What phd_read filled passes every check, if it read the header: facts[4] to facts[9] as `header`, PHD_ROW * facts[2] numbers of
- * its rows, facts[3] of its references, and the dump as `names`. Only 17 can refuse it then, and of a text 18. */
-uint64_t phd_write(const uint64_t header[PHD_HEADER], const uint64_t *rows, size_t rows_len, const uint64_t *refs,
-                   size_t refs_len, const uint8_t *names, size_t names_len, uint8_t *out, size_t out_len, uint64_t facts[16]);
-uint64_t phd_text(const uint64_t header[PHD_HEADER], const uint64_t *rows, size_t rows_len, const uint64_t *refs,
-                  size_t refs_len, const uint8_t *names, size_t names_len, uint8_t *out, size_t out_len, uint64_t facts[16]);
+ * If phd_read read a header (answer[PHD_BITS] is not 0), its tables pass every check: pass answer[PHD_BITS] to
+ * answer[PHD_VM_LENGTH] as `header`, the first PHD_ROW_LEN * answer[PHD_ROWS] numbers of `rows`, the first answer[PHD_REFS]
+ * of `refs`, and the dump as `names`. Then only PHD_NO_OUTPUT can refuse them, and for a text also PHD_NO_CLASS. */
+uint64_t phd_write(const uint64_t header[PHD_HEADER_LEN], const uint64_t *rows, size_t rows_len, const uint64_t *refs,
+                   size_t refs_len, const uint8_t *names, size_t names_len, uint8_t *out, size_t out_len, uint64_t answer[16]);
+
+/* Writes a table of rows with their references as classic text, to the start of `out`. All rules of phd_write apply. */
+uint64_t phd_text(const uint64_t header[PHD_HEADER_LEN], const uint64_t *rows, size_t rows_len, const uint64_t *refs,
+                  size_t refs_len, const uint8_t *names, size_t names_len, uint8_t *out, size_t out_len, uint64_t answer[16]);
 
 #ifdef __cplusplus
 }

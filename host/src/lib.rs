@@ -1,5 +1,9 @@
-//! What stands around the proved library: `library` calls it, `plain` is an implementation of the format of its own that
-//! shares nothing with it, and is there to be held against it.
+//! The Rust code around the proved library. `library` calls it through its C functions. `plain` is an independent implementation
+//! of the format; the tests compare the two.
 
+pub mod answer;
 pub mod library;
 pub mod plain;
+pub mod reply;
+pub mod row;
+pub mod tables;

@@ -1,42 +1,23 @@
-//! The proved library behind its C boundary, `include/phd.h`. The functions here hand slices on and decide nothing.
+//! Calls the proved library through the C functions of `include/phd.h`. The functions here pass slices on and decide nothing.
 
-/// The numbers of a row, and how many they are.
-pub const KIND: usize = 0;
-pub const ADDRESS: usize = 1;
-pub const CLASS: usize = 2;
-pub const HASH_KIND: usize = 3;
-pub const HASH: usize = 4;
-pub const FIRST: usize = 5;
-pub const COUNT: usize = 6;
-pub const SIZE: usize = 7;
-pub const LENGTH: usize = 8;
-pub const NAME: usize = 9;
-pub const NAME_LENGTH: usize = 10;
-pub const TYPE: usize = 11;
-pub const OFFSET: usize = 12;
-pub const ROW: usize = 13;
+use crate::answer::Answer;
+use crate::tables::{Header, Tables};
 
-/// What an operation answers: 0 reply, 1 place, 2 rows, 3 references, 4 W, 5 all hashed, 6 from OpenJ9, 7 VM string there,
-/// 8 its place, 9 its length, 10 the bytes that the field lacked where the dump is cut. After a write, a text, or asking for
-/// the size of one only the first two count.
-pub type Facts = [u64; 16];
-
-/// A header to write: W, all hashed, from OpenJ9, VM string there, its place and its length in the name bytes.
-pub type Header = [u64; 6];
-
-/// How many rows, and how many references, a dump of so many bytes gives at most: its header has 31 bytes at least, a record two,
-/// and a reference one. A table of that size never ends a reading with 13 or 14. (Proved: `bounded`, `rows-never-full` and
-/// `refs-never-full` in crates/phd_read/specs/Promises.antt.)
-pub fn most_rows(dump_len: usize) -> usize {
-    dump_len.saturating_sub(31) / 2
+/// Returns the largest number of rows that a dump of `dump_len` bytes can give: its header has at least 31 bytes, and a record
+/// at least two. With a table of that capacity a read never gives `reply::NO_ROW`. (Proved: `stored-bounds`, `rows-never-full`
+/// and `refs-never-full` in crates/phd_read/specs/ReadTheorems.antt.)
+pub fn max_rows(dump_len: usize) -> usize {
+    max_refs(dump_len) / 2
 }
 
-pub fn most_references(dump_len: usize) -> usize {
+/// Returns the largest number of references that a dump of `dump_len` bytes can give: a reference has at least one byte. With
+/// a table of that capacity a read never gives `reply::NO_REFS`.
+pub fn max_refs(dump_len: usize) -> usize {
     dump_len.saturating_sub(31)
 }
 
-/// Writing or text, as the library has it: a slice is a pointer and a length, as two words.
-type Making = unsafe extern "C" fn(
+/// The C functions `phd_write` and `phd_text`. A slice is passed as a pointer and a length.
+type WriteCall = unsafe extern "C" fn(
     header: *const Header,
     rows: *const u64,
     rows_len: usize,
@@ -46,11 +27,11 @@ type Making = unsafe extern "C" fn(
     names_len: usize,
     out: *mut u8,
     out_len: usize,
-    facts: *mut Facts,
+    answer: *mut Answer,
 ) -> u64;
 
-/// Asking how many bytes a writing or a text takes.
-type Asking = unsafe extern "C" fn(
+/// The C functions `phd_write_size` and `phd_text_size`.
+type SizeCall = unsafe extern "C" fn(
     header: *const Header,
     rows: *const u64,
     rows_len: usize,
@@ -58,11 +39,11 @@ type Asking = unsafe extern "C" fn(
     refs_len: usize,
     names: *const u8,
     names_len: usize,
-    facts: *mut Facts,
+    answer: *mut Answer,
 ) -> u64;
 
-mod boundary {
-    use super::{Facts, Header};
+mod c_functions {
+    use super::{Answer, Header};
 
     extern "C" {
         pub fn phd_read(
@@ -72,7 +53,7 @@ mod boundary {
             rows_len: usize,
             refs: *mut u64,
             refs_len: usize,
-            facts: *mut Facts,
+            answer: *mut Answer,
         ) -> u64;
         pub fn phd_write_size(
             header: *const Header,
@@ -82,7 +63,7 @@ mod boundary {
             refs_len: usize,
             names: *const u8,
             names_len: usize,
-            facts: *mut Facts,
+            answer: *mut Answer,
         ) -> u64;
         pub fn phd_write(
             header: *const Header,
@@ -94,7 +75,7 @@ mod boundary {
             names_len: usize,
             out: *mut u8,
             out_len: usize,
-            facts: *mut Facts,
+            answer: *mut Answer,
         ) -> u64;
         pub fn phd_text_size(
             header: *const Header,
@@ -104,7 +85,7 @@ mod boundary {
             refs_len: usize,
             names: *const u8,
             names_len: usize,
-            facts: *mut Facts,
+            answer: *mut Answer,
         ) -> u64;
         pub fn phd_text(
             header: *const Header,
@@ -116,114 +97,80 @@ mod boundary {
             names_len: usize,
             out: *mut u8,
             out_len: usize,
-            facts: *mut Facts,
+            answer: *mut Answer,
         ) -> u64;
     }
 }
 
-/// Reads a dump into the tables.
-pub fn read(dump: &[u8], rows: &mut [u64], refs: &mut [u64], facts: &mut Facts) -> u64 {
-    // The slices are borrowed for the call, the mutable ones alone, and the library stays within them.
+/// Reads a dump into the tables of rows and references, and returns the reply.
+pub fn read(dump: &[u8], rows: &mut [u64], refs: &mut [u64], answer: &mut Answer) -> u64 {
+    // Sound: every pointer comes with the length of its slice, the slices are borrowed for the call, the mutable ones
+    // exclusively, and the library is proved to stay within the lengths.
     unsafe {
-        boundary::phd_read(
+        c_functions::phd_read(
             dump.as_ptr(),
             dump.len(),
             rows.as_mut_ptr(),
             rows.len(),
             refs.as_mut_ptr(),
             refs.len(),
-            facts,
+            answer,
         )
     }
 }
 
-fn ask(
-    call: Asking,
-    header: &Header,
-    (rows, refs, names): (&[u64], &[u64], &[u8]),
-    facts: &mut Facts,
-) -> u64 {
-    // As for `read`.
+/// Computes how many bytes the tables take as a dump, and returns the reply.
+pub fn write_size(tables: &Tables, answer: &mut Answer) -> u64 {
+    size(c_functions::phd_write_size, tables, answer)
+}
+
+/// Writes the tables as a dump and returns the reply.
+pub fn write(tables: &Tables, out: &mut [u8], answer: &mut Answer) -> u64 {
+    write_by(c_functions::phd_write, tables, out, answer)
+}
+
+/// Computes how many bytes the tables take as classic text, and returns the reply.
+pub fn text_size(tables: &Tables, answer: &mut Answer) -> u64 {
+    size(c_functions::phd_text_size, tables, answer)
+}
+
+/// Writes the tables as classic text and returns the reply.
+pub fn text(tables: &Tables, out: &mut [u8], answer: &mut Answer) -> u64 {
+    write_by(c_functions::phd_text, tables, out, answer)
+}
+
+/// Calls a size query.
+fn size(call: SizeCall, tables: &Tables, answer: &mut Answer) -> u64 {
+    // Sound as in `read`.
     unsafe {
         call(
-            header,
-            rows.as_ptr(),
-            rows.len(),
-            refs.as_ptr(),
-            refs.len(),
-            names.as_ptr(),
-            names.len(),
-            facts,
+            &tables.header,
+            tables.rows.as_ptr(),
+            tables.rows.len(),
+            tables.refs.as_ptr(),
+            tables.refs.len(),
+            tables.names.as_ptr(),
+            tables.names.len(),
+            answer,
         )
     }
 }
 
-fn make(
-    call: Making,
-    header: &Header,
-    (rows, refs, names): (&[u64], &[u64], &[u8]),
-    out: &mut [u8],
-    facts: &mut Facts,
-) -> u64 {
-    // As for `read`.
+/// Calls a write or a text.
+fn write_by(call: WriteCall, tables: &Tables, out: &mut [u8], answer: &mut Answer) -> u64 {
+    // Sound as in `read`.
     unsafe {
         call(
-            header,
-            rows.as_ptr(),
-            rows.len(),
-            refs.as_ptr(),
-            refs.len(),
-            names.as_ptr(),
-            names.len(),
+            &tables.header,
+            tables.rows.as_ptr(),
+            tables.rows.len(),
+            tables.refs.as_ptr(),
+            tables.refs.len(),
+            tables.names.as_ptr(),
+            tables.names.len(),
             out.as_mut_ptr(),
             out.len(),
-            facts,
+            answer,
         )
     }
-}
-
-/// Asks how many bytes the tables take as a dump.
-pub fn write_size(
-    header: &Header,
-    rows: &[u64],
-    refs: &[u64],
-    names: &[u8],
-    facts: &mut Facts,
-) -> u64 {
-    ask(boundary::phd_write_size, header, (rows, refs, names), facts)
-}
-
-/// Writes the tables as a dump.
-pub fn write(
-    header: &Header,
-    rows: &[u64],
-    refs: &[u64],
-    names: &[u8],
-    out: &mut [u8],
-    facts: &mut Facts,
-) -> u64 {
-    make(boundary::phd_write, header, (rows, refs, names), out, facts)
-}
-
-/// Asks how many bytes the tables take as classic text.
-pub fn text_size(
-    header: &Header,
-    rows: &[u64],
-    refs: &[u64],
-    names: &[u8],
-    facts: &mut Facts,
-) -> u64 {
-    ask(boundary::phd_text_size, header, (rows, refs, names), facts)
-}
-
-/// Writes the tables as classic text.
-pub fn text(
-    header: &Header,
-    rows: &[u64],
-    refs: &[u64],
-    names: &[u8],
-    out: &mut [u8],
-    facts: &mut Facts,
-) -> u64 {
-    make(boundary::phd_text, header, (rows, refs, names), out, facts)
 }

@@ -1,13 +1,16 @@
-//! How fast the proved library is, beside the plain implementation, on the same input and in the same run. Prints a table of
-//! times and ratios; run by hand, in a release build.
+//! Measures how fast the proved library is compared with the plain implementation, on the same input and in the same run.
+//! Prints a table of times and ratios. Run by hand, in a release build.
 
 mod heap;
 
 use heap::{Heap, HEADER};
-use phd_host::{library, plain};
+use phd_host::answer::{Answer, PLACE, REFS};
+use phd_host::row::ROW_LEN;
+use phd_host::tables::Tables;
+use phd_host::{library, plain, reply};
 use std::time::{Duration, Instant};
 
-/// The least times of one size, by what was done.
+/// The least times for a heap of one size, by operation. A pair is the library and the plain implementation.
 struct Times {
     records: usize,
     dump: usize,
@@ -20,96 +23,127 @@ struct Times {
     text_size: Duration,
 }
 
-type Read = fn(&[u8], &mut [u64], &mut [u64], &mut [u64; 16]) -> u64;
-type Write = fn(&[u64; 6], &[u64], &[u64], &[u8], &mut [u8], &mut [u64; 16]) -> u64;
+type Read = fn(&[u8], &mut [u64], &mut [u64], &mut Answer) -> u64;
+type Write = fn(&Tables, &mut [u8], &mut Answer) -> u64;
 
 const READS: [Read; 2] = [library::read, plain::read];
 const WRITES: [Write; 2] = [library::write, plain::write];
 
-/// The least of a time and how long `work` takes.
-fn least(best: &mut Duration, work: impl FnOnce()) {
+/// Measures `work`, and stores its time in `best` if that is less.
+fn keep_least(best: &mut Duration, work: impl FnOnce()) {
     let start = Instant::now();
     work();
     *best = (*best).min(start.elapsed());
 }
 
-/// Times both sides' reading and writing of a heap in turn, `rounds` times, and holds what they made against each other.
+impl Times {
+    /// Returns times that any measured one replaces.
+    fn new(heap: &Heap, dump: &[u8]) -> Times {
+        Times {
+            records: heap.rows.len() / ROW_LEN,
+            dump: dump.len(),
+            tables: 8 * (heap.rows.len() + heap.refs.len()),
+            read: [Duration::MAX; 2],
+            write: [Duration::MAX; 2],
+            write_size: Duration::MAX,
+            copy: Duration::MAX,
+            text: Duration::MAX,
+            text_size: Duration::MAX,
+        }
+    }
+}
+
+/// The buffers that every round fills again.
+struct Buffers {
+    rows: Vec<u64>,
+    refs: Vec<u64>,
+    out: Vec<u8>,
+}
+
+/// Measures reading and writing of a heap by both implementations in turn, `rounds` times, and its text once.
 fn measure(n: usize, rounds: usize) -> Times {
     let heap = Heap::of(n);
-    let mut facts = [0; 16];
-    let (rows, refs, names) = (&heap.rows, &heap.refs, &heap.names);
-    library::write_size(&HEADER, rows, refs, names, &mut facts);
-    let mut dump = vec![0; facts[1] as usize];
-    let reply = library::write(&HEADER, rows, refs, names, &mut dump, &mut facts);
-    assert_eq!(reply, 0, "the heap is written");
-    let mut rows = vec![1; heap.rows.len()];
-    let mut refs = vec![1; heap.refs.len()];
-    let mut out = vec![1; dump.len()];
-    let mut times = Times {
-        records: n,
-        dump: dump.len(),
-        tables: 8 * (rows.len() + refs.len()),
-        read: [Duration::MAX; 2],
-        write: [Duration::MAX; 2],
-        write_size: Duration::MAX,
-        copy: Duration::MAX,
-        text: Duration::MAX,
-        text_size: Duration::MAX,
+    let mut answer = [0; 16];
+    library::write_size(&heap.tables(), &mut answer);
+    let mut dump = vec![0; answer[PLACE] as usize];
+    let reply = library::write(&heap.tables(), &mut dump, &mut answer);
+    assert_eq!(reply, reply::DONE, "the heap is written");
+    let mut buffers = Buffers {
+        rows: vec![1; heap.rows.len()],
+        refs: vec![1; heap.refs.len()],
+        out: vec![1; dump.len()],
     };
+    let mut times = Times::new(&heap, &dump);
     for _ in 0..rounds {
-        for side in 0..2 {
-            least(&mut times.read[side], || {
-                READS[side](&dump, &mut rows, &mut refs, &mut facts);
-            });
-            assert_eq!(
-                facts[..4],
-                [0, dump.len() as u64, n as u64, refs.len() as u64]
-            );
-            assert_eq!(refs, heap.refs);
-            least(&mut times.write[side], || {
-                WRITES[side](&HEADER, &rows, &refs, &dump, &mut out, &mut facts);
-            });
-            assert_eq!(facts[..2], [0, dump.len() as u64]);
-            assert!(out == dump, "what is written anew is the dump");
-        }
-        least(&mut times.write_size, || {
-            library::write_size(&HEADER, &rows, &refs, &dump, &mut facts);
-        });
-        assert_eq!(facts[..2], [0, dump.len() as u64]);
-        least(&mut times.copy, || {
-            rows.copy_from_slice(&heap.rows);
-            refs.copy_from_slice(&heap.refs);
-        });
-        std::hint::black_box((&rows, &refs));
+        time_round(&heap, &dump, &mut buffers, &mut times);
     }
     time_text(&heap, &mut times);
     times
 }
 
-/// How long the text of a heap takes, and asking for its size, once.
-fn time_text(heap: &Heap, times: &mut Times) {
-    let (rows, refs, names) = (&heap.rows, &heap.refs, &heap.names);
-    let mut facts = [0; 16];
-    least(&mut times.text_size, || {
-        library::text_size(&HEADER, rows, refs, names, &mut facts);
+/// Measures one round, and checks that both implementations give the same tables and the same dump.
+fn time_round(heap: &Heap, dump: &[u8], buffers: &mut Buffers, times: &mut Times) {
+    let Buffers { rows, refs, out } = buffers;
+    let (records, size) = (times.records as u64, dump.len() as u64);
+    let mut answer = [0; 16];
+    for side in 0..READS.len() {
+        keep_least(&mut times.read[side], || {
+            READS[side](dump, rows, refs, &mut answer);
+        });
+        let expected = [reply::DONE, size, records, refs.len() as u64];
+        assert_eq!(answer[..=REFS], expected);
+        assert_eq!(*refs, heap.refs);
+        keep_least(&mut times.write[side], || {
+            WRITES[side](&tables_of(rows, refs, dump), out, &mut answer);
+        });
+        assert_eq!(answer[..=PLACE], [reply::DONE, size]);
+        assert!(out == dump, "the dump is written as it was");
+    }
+    keep_least(&mut times.write_size, || {
+        library::write_size(&tables_of(rows, refs, dump), &mut answer);
     });
-    let size = facts[1];
-    let mut out = vec![0; size as usize];
-    least(&mut times.text, || {
-        library::text(&HEADER, rows, refs, names, &mut out, &mut facts);
+    assert_eq!(answer[..=PLACE], [reply::DONE, size]);
+    keep_least(&mut times.copy, || {
+        rows.copy_from_slice(&heap.rows);
+        refs.copy_from_slice(&heap.refs);
     });
-    assert_eq!(facts[..2], [0, size], "the text is written");
+    std::hint::black_box((&rows, &refs));
 }
 
-/// Nanoseconds for each of `n` records.
-fn each(time: Duration, n: usize) -> f64 {
+/// Returns the tables that were read from a dump.
+fn tables_of<'a>(rows: &'a [u64], refs: &'a [u64], dump: &'a [u8]) -> Tables<'a> {
+    Tables {
+        header: HEADER,
+        rows,
+        refs,
+        names: dump,
+    }
+}
+
+/// Measures the text of a heap and its size query, once.
+fn time_text(heap: &Heap, times: &mut Times) {
+    let mut answer = [0; 16];
+    keep_least(&mut times.text_size, || {
+        library::text_size(&heap.tables(), &mut answer);
+    });
+    let size = answer[PLACE];
+    let mut out = vec![0; size as usize];
+    keep_least(&mut times.text, || {
+        library::text(&heap.tables(), &mut out, &mut answer);
+    });
+    assert_eq!(answer[..=PLACE], [reply::DONE, size], "the text is written");
+}
+
+/// Returns the nanoseconds for each of `n` records.
+fn per_record(time: Duration, n: usize) -> f64 {
     time.as_nanos() as f64 / n as f64
 }
 
-fn line(t: &Times) {
+/// Prints a line of the table.
+fn print_line(t: &Times) {
     let side = |pair: &[Duration; 2]| {
-        let (ours, theirs) = (each(pair[0], t.records), each(pair[1], t.records));
-        format!("{ours:.1} | {theirs:.1} | {:.2}", ours / theirs)
+        let [library, plain] = pair.map(|time| per_record(time, t.records));
+        format!("{library:.1} | {plain:.1} | {:.2}", library / plain)
     };
     let share = |part: Duration, whole: Duration| part.as_secs_f64() / whole.as_secs_f64();
     println!(
@@ -120,30 +154,30 @@ fn line(t: &Times) {
         side(&t.read),
         side(&t.write),
         share(t.write_size, t.write[0]),
-        each(t.copy, t.records),
+        per_record(t.copy, t.records),
         t.text.as_secs_f64(),
         share(t.text_size, t.text),
     );
 }
 
-/// The time for a record at the largest size over that at 100,000.
+/// Returns the time for a record at the largest size divided by that at 100,000.
 fn growth(all: &[Times], pick: fn(&Times) -> Duration) -> Option<f64> {
     let at = all.iter().find(|t| t.records == 100_000)?;
     let last = all.last()?;
-    Some(each(pick(last), last.records) / each(pick(at), at.records))
+    Some(per_record(pick(last), last.records) / per_record(pick(at), at.records))
 }
 
-/// The numbers of records to try: those named, or the usual four.
+/// Returns the numbers of records to measure: those of the command line, or the usual four.
 fn sizes() -> Result<Vec<usize>, String> {
-    let named: Vec<String> = std::env::args().skip(1).collect();
-    if named.is_empty() {
+    let arguments: Vec<String> = std::env::args().skip(1).collect();
+    if arguments.is_empty() {
         return Ok(vec![10_000, 100_000, 1_000_000, 10_000_000]);
     }
-    let size = |word: &String| match word.parse() {
+    let size = |argument: &String| match argument.parse() {
         Ok(n) if n > 0 => Ok(n),
-        _ => Err(format!("'{word}' is no number of records")),
+        _ => Err(format!("'{argument}' is no number of records")),
     };
-    named.iter().map(size).collect()
+    arguments.iter().map(size).collect()
 }
 
 fn main() {
@@ -151,14 +185,14 @@ fn main() {
         eprintln!("phd-bench: {why}");
         std::process::exit(2)
     });
-    println!("nanoseconds for a record, the least of several rounds; below a ratio of 1 the proved library is the faster; asking is the library's, as a part of its own writing or text");
-    println!("| records | dump bytes | table bytes | read: library | plain | ratio | write: library | plain | ratio | asking | copy of the tables | text | asking |");
+    println!("nanoseconds for a record, the least of several rounds; below a ratio of 1 the proved library is the faster; a size query is the library's, divided by its own write or text");
+    println!("| records | dump bytes | table bytes | read: library | plain | ratio | write: library | plain | ratio | size query | copy of the tables | text | size query |");
     println!("|---|---|---|---|---|---|---|---|---|---|---|---|---|");
     let mut all = Vec::new();
     for n in sizes {
         let rounds = (30_000_000 / n).clamp(5, 300);
         let times = measure(n, rounds);
-        line(&times);
+        print_line(&times);
         all.push(times);
     }
     if let (Some(read), Some(write), Some(copy)) = (

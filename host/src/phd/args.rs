@@ -1,4 +1,4 @@
-//! The command line's words, taken apart.
+//! Parses the command line.
 
 use crate::input::Source;
 use crate::output::Target;
@@ -7,7 +7,7 @@ use std::ffi::OsString;
 pub const HELP: &str = "\
 phd reads heap dumps (PHD) of OpenJ9 Java machines: whole, cut off or damaged.
 
-  phd info FILE..           say whether a dump is whole, and what is in it
+  phd info FILE..           report whether a dump is whole, and what is in it
   phd info --rows FILE..    list its rows too, with the offset of each record
   phd text FILE [-o OUT]    write it as classic text, to standard output or to OUT
   phd copy FILE OUT         read it and write it anew, as a whole dump
@@ -18,14 +18,14 @@ FILE may be - for standard input, and OUT may be - for standard output.
 After -- a word that begins with - is a file's name.
 
 Of a dump that is cut off or damaged, text and copy keep the records before that
-place, which are whole and right, and say so. An output file is written whole or
-not at all. Places in a dump are bytes counted from 0.
+place, which are whole and right, and report this. An output file is written
+whole or not at all. Places in a dump are bytes counted from 0.
 
 Exit status: 0 done; 1 the dump is cut off or refused; 2 the command line is
 wrong, or a file cannot be read or written.
 ";
 
-/// What is asked for.
+/// What the command line requests.
 pub enum Request {
     Help,
     Version,
@@ -34,58 +34,61 @@ pub enum Request {
     Copy(Source, Target),
 }
 
-/// The command line's words, sorted into options and others.
-struct Sorted {
-    plain: Vec<OsString>,
+/// The arguments, split into options and positional ones.
+struct Arguments {
+    positional: Vec<OsString>,
     output: Option<OsString>,
     rows: bool,
 }
 
-/// What the words ask for, or what is wrong with them.
-pub fn parse(words: impl Iterator<Item = OsString>) -> Result<Request, String> {
-    let mut words = words;
-    let mut sorted = Sorted {
-        plain: Vec::new(),
+/// Returns the request of a command line, or a message about what is wrong with it.
+pub fn parse(arguments: impl Iterator<Item = OsString>) -> Result<Request, String> {
+    let mut arguments = arguments;
+    let mut parsed = Arguments {
+        positional: Vec::new(),
         output: None,
         rows: false,
     };
-    while let Some(word) = words.next() {
-        match word.to_str() {
+    while let Some(argument) = arguments.next() {
+        match argument.to_str() {
             Some("-h" | "--help") => return Ok(Request::Help),
             Some("--version") => return Ok(Request::Version),
-            Some("--rows") => sorted.rows = true,
-            Some("-o") => take_output(&mut sorted, words.next())?,
-            Some("--") => sorted.plain.extend(words.by_ref()),
-            _ if is_option(&word) => {
-                return Err(format!("unknown option '{}'", word.to_string_lossy()))
+            Some("--rows") => parsed.rows = true,
+            Some("-o") => take_output(&mut parsed, arguments.next())?,
+            Some("--") => parsed.positional.extend(arguments.by_ref()),
+            _ if is_option(&argument) => {
+                return Err(format!("unknown option '{}'", argument.to_string_lossy()))
             }
-            _ => sorted.plain.push(word),
+            _ => parsed.positional.push(argument),
         }
     }
-    request(sorted)
+    request(parsed)
 }
 
-fn is_option(word: &OsString) -> bool {
-    word.as_encoded_bytes().starts_with(b"-") && word != "-"
+/// Returns whether an argument is an option; `-` is a file.
+fn is_option(argument: &OsString) -> bool {
+    argument.as_encoded_bytes().starts_with(b"-") && argument != "-"
 }
 
-fn take_output(sorted: &mut Sorted, value: Option<OsString>) -> Result<(), String> {
+/// Stores the value of -o.
+fn take_output(parsed: &mut Arguments, value: Option<OsString>) -> Result<(), String> {
     let value = value.ok_or("-o wants the output's name after it")?;
-    match sorted.output.replace(value) {
+    match parsed.output.replace(value) {
         None => Ok(()),
         Some(_) => Err("-o is given twice".into()),
     }
 }
 
-fn request(sorted: Sorted) -> Result<Request, String> {
-    let Sorted {
-        plain,
+/// Returns the request of the arguments.
+fn request(parsed: Arguments) -> Result<Request, String> {
+    let Arguments {
+        positional,
         output,
         rows,
-    } = sorted;
-    let mut plain = plain.into_iter();
-    let command = plain.next().ok_or("no command is given")?;
-    let files: Vec<OsString> = plain.collect();
+    } = parsed;
+    let mut positional = positional.into_iter();
+    let command = positional.next().ok_or("no command is given")?;
+    let files: Vec<OsString> = positional.collect();
     if output.is_some() && command != "text" {
         return Err("-o belongs to 'text' alone".into());
     }

@@ -1,138 +1,131 @@
-//! `phd text` and `phd copy`: what was read, written as classic text or as a dump.
+//! `phd text` and `phd copy`: write the records of a dump as classic text or as a new dump.
 
+use crate::dump::{self, Dump};
+use crate::error::{self, Error, Status};
 use crate::info::status;
 use crate::input::{Source, LIMIT};
+use crate::memory;
+use crate::messages;
 use crate::output::{self, Target};
 use crate::progress;
-use crate::reading::{self, Reading};
-use crate::room;
-use crate::say::{self, Status, Trouble};
-use crate::words;
-use phd_host::library::{self, Facts, ADDRESS, CLASS, OFFSET};
+use phd_host::answer::{self, Answer};
+use phd_host::row::{ADDRESS, CLASS, OFFSET};
+use phd_host::{library, reply};
 
-/// What is made of the records.
+/// The output format.
 #[derive(Clone, Copy)]
-pub enum Form {
+pub enum Format {
     Text,
     Dump,
 }
 
-/// Reads the source and writes the target. A dump that is cut off or damaged gives the records before that place.
-pub fn run(source: &Source, target: &Target, form: Form) -> Result<Status, Trouble> {
+/// Reads the source and writes the target. Of a dump that is cut off or damaged, the records before that place are written.
+pub fn run(source: &Source, target: &Target, format: Format) -> Result<Status, Error> {
     target.check()?;
-    let reading = reading::read(source)?;
-    if reading.reply() != 0 {
-        tell(&reading)?;
+    let dump = dump::read(source)?;
+    if !dump.is_whole() {
+        report_partial(&dump)?;
     }
-    let bytes = make(&reading, form)?;
+    let bytes = convert(&dump, format)?;
     output::send(target, &bytes)?;
-    Ok(status(&reading))
+    Ok(status(&dump))
 }
 
-/// Says that this is no whole dump, and what is kept of it; an error if that is not even a header.
-fn tell(reading: &Reading) -> Result<(), Trouble> {
-    let why = format!("{}. {}", words::verdict(reading), words::stop(reading));
-    if reading.width() == 0 {
-        let words = format!("{why} Nothing can be kept of it, and nothing is written.");
-        return Err(Trouble::refused(&reading.name, words));
+/// Prints that the dump is not whole, and what is kept of it. Returns an error if not even its header was read.
+fn report_partial(dump: &Dump) -> Result<(), Error> {
+    let why = format!("{}. {}", messages::verdict(dump), messages::stop(dump));
+    if !dump.has_header() {
+        let message = format!("{why} Nothing can be kept of it, and nothing is written.");
+        return Err(Error::refused(&dump.name, message));
     }
-    say::about(&reading.name, &why);
-    let kinds = words::KINDS.iter().zip(reading.tally_by_kind());
+    error::print_about(&dump.name, &why);
+    let kinds = messages::KINDS.iter().zip(dump.counts_by_kind());
     let kinds: Vec<String> = kinds
-        .map(|(kind, tally)| format!("{kind} {}", words::grouped(tally.records)))
+        .map(|(kind, counts)| format!("{kind} {}", messages::grouped(counts.records)))
         .collect();
     let kept = format!(
         "kept are the records before that place: {} ({}) with {}",
-        words::grouped(reading.records()),
+        messages::grouped(dump.records()),
         kinds.join(", "),
-        words::count(reading.references(), "reference"),
+        messages::count(dump.refs(), "reference"),
     );
-    say::about(&reading.name, &kept);
+    error::print_about(&dump.name, &kept);
     Ok(())
 }
 
-/// The text or the dump. It is asked first how many bytes that takes, and just so many are lent.
-fn make(reading: &Reading, form: Form) -> Result<Vec<u8>, Trouble> {
-    let size = ask(reading, form)?;
-    let doing = format!("writing the records of {}", reading.name);
+/// Returns the bytes of the output. A size query comes first, and a buffer of exactly that size is allocated.
+fn convert(dump: &Dump, format: Format) -> Result<Vec<u8>, Error> {
+    let size = query_size(dump, format)?;
+    let doing = format!("writing the records of {}", dump.name);
     let _line = progress::show(&doing, Some(size as u64));
-    let mut out = room::zeroes(size)
-        .map_err(|lack| Trouble::failed(&reading.name, lack.words("for the output")))?;
-    let mut facts = Facts::default();
-    match put(reading, form, &mut out, &mut facts) {
-        0 => Ok(out),
-        reply => Err(unwritten(reading, form, reply, facts[1])),
+    let mut out = memory::zeroed(size)
+        .map_err(|error| Error::failed(&dump.name, error.message("for the output")))?;
+    let write = match format {
+        Format::Text => library::text,
+        Format::Dump => library::write,
+    };
+    let mut answer = Answer::default();
+    match write(&dump.tables(), &mut out, &mut answer) {
+        reply::DONE => Ok(out),
+        reply => Err(write_error(dump, format, reply, answer[answer::PLACE])),
     }
 }
 
-/// How many bytes it takes.
-fn ask(reading: &Reading, form: Form) -> Result<usize, Trouble> {
-    let ask = match form {
-        Form::Text => library::text_size,
-        Form::Dump => library::write_size,
+/// Computes how many bytes the output has.
+fn query_size(dump: &Dump, format: Format) -> Result<usize, Error> {
+    let query = match format {
+        Format::Text => library::text_size,
+        Format::Dump => library::write_size,
     };
-    let (header, rows, refs) = (reading.header(), reading.rows(), reading.refs());
-    let doing = format!("checking the records of {}", reading.name);
-    let tables = size_of_val(rows) + size_of_val(refs);
-    let _line = progress::show(&doing, Some(tables as u64));
-    let mut facts = Facts::default();
-    match ask(&header, rows, refs, &reading.dump, &mut facts) {
-        0 => Ok(facts[1] as usize),
-        reply => Err(unwritten(reading, form, reply, facts[1])),
+    let tables = dump.tables();
+    let doing = format!("checking the records of {}", dump.name);
+    let bytes = size_of_val(tables.rows) + size_of_val(tables.refs);
+    let _line = progress::show(&doing, Some(bytes as u64));
+    let mut answer = Answer::default();
+    match query(&tables, &mut answer) {
+        reply::DONE => Ok(answer[answer::PLACE] as usize),
+        reply => Err(write_error(dump, format, reply, answer[answer::PLACE])),
     }
 }
 
-fn put(reading: &Reading, form: Form, out: &mut [u8], facts: &mut Facts) -> u64 {
-    let put = match form {
-        Form::Text => library::text,
-        Form::Dump => library::write,
-    };
-    put(
-        &reading.header(),
-        reading.rows(),
-        reading.refs(),
-        &reading.dump,
-        out,
-        facts,
-    )
-}
-
-/// That nothing can be written, and why not.
-fn unwritten(reading: &Reading, form: Form, reply: u64, place: u64) -> Trouble {
-    let what = match form {
-        Form::Text => "text",
-        Form::Dump => "dump",
+/// Returns the error for a refused write or text.
+fn write_error(dump: &Dump, format: Format, reply: u64, place: u64) -> Error {
+    let what = match format {
+        Format::Text => "text",
+        Format::Dump => "dump",
     };
     let why = match reply {
-        15 => "the header cannot be written, or there are too many records".into(),
-        16 => format!("{} cannot be written", record(reading, place)),
-        17 => format!("it would have more than {}", words::count(LIMIT, "byte")),
-        18 => no_class(reading, place),
+        reply::BAD_HEADER => "the header cannot be written, or there are too many records".into(),
+        reply::BAD_ROW => format!("{} cannot be written", record(dump, place)),
+        reply::NO_OUTPUT => format!("it would have more than {}", messages::count(LIMIT, "byte")),
+        reply::NO_CLASS => class_missing(dump, place),
         _ => "the records were refused".into(),
     };
-    let words = format!("no {what} can be written of it (reply {reply}): {why}");
-    Trouble::refused(&reading.name, words)
+    let message = format!("no {what} can be written of it (reply {reply}): {why}");
+    Error::refused(&dump.name, message)
 }
 
-/// A record by its number, and by where it stands in the file.
-fn record(reading: &Reading, index: u64) -> String {
-    let number = format!("record {} (counted from 0)", words::grouped(index));
-    match reading.row(index) {
-        Some(row) => format!("{number}, which begins at {},", words::at(row[OFFSET])),
+/// Describes a record by its number and its place in the file.
+fn record(dump: &Dump, index: u64) -> String {
+    let number = format!("record {} (counted from 0)", messages::grouped(index));
+    match dump.row(index) {
+        Some(row) => format!("{number}, which begins at {},", messages::at(row[OFFSET])),
         None => number,
     }
 }
 
-fn no_class(reading: &Reading, index: u64) -> String {
-    let record = record(reading, index);
-    let Some(row) = reading.row(index) else {
+/// Describes a record whose class is missing.
+fn class_missing(dump: &Dump, index: u64) -> String {
+    let record = record(dump, index);
+    let Some(row) = dump.row(index) else {
         return format!("the class of {record} was not read");
     };
     let (address, class) = (row[ADDRESS], row[CLASS]);
     let why = format!("{record} has the address 0x{address:X} and the class at 0x{class:X}");
-    let hint = match reading.reply() {
-        0 => "",
-        _ => "; it may stand after that place ('phd copy' needs no classes)",
+    let hint = if dump.is_whole() {
+        ""
+    } else {
+        "; it may lie after that place ('phd copy' needs no classes)"
     };
     format!("{why}, and no such class was read{hint}")
 }

@@ -1,30 +1,31 @@
-//! `phd info`: whether a dump is whole, where it stops if not, and what is in it.
+//! `phd info`: reports whether a dump is whole, where it stops if not, and what is in it.
 
+use crate::dump::{self, Counts, Dump};
+use crate::error::{Error, Status};
 use crate::input::Source;
+use crate::messages;
 use crate::output::{self, Sent};
-use crate::reading::{self, Reading, Tally};
 use crate::rows;
-use crate::say::{Status, Trouble};
-use crate::words;
+use phd_host::reply;
 
-/// Tells of each file, with its rows if they are asked for, and gives the worst status.
-pub fn run(sources: &[Source], with_rows: bool) -> Result<Status, Trouble> {
+/// Prints a report about each file, with its rows if `with_rows` is set, and returns the worst status.
+pub fn run(sources: &[Source], with_rows: bool) -> Result<Status, Error> {
     let mut worst = Status::Done;
     let mut first = true;
     for source in sources {
-        let status = match reading::read(source) {
-            Err(trouble) => trouble.tell(),
-            Ok(reading) => {
-                let gap = if first { "" } else { "\n" };
+        let status = match dump::read(source) {
+            Err(error) => error.report(),
+            Ok(dump) => {
+                let separator = if first { "" } else { "\n" };
                 first = false;
-                let mut sent = output::print(&format!("{gap}{}", report(&reading)))?;
+                let mut sent = output::print(&format!("{separator}{}", report(&dump)))?;
                 if with_rows && sent == Sent::Whole {
-                    sent = rows::print(&reading)?;
+                    sent = rows::print(&dump)?;
                 }
                 if sent == Sent::NoReader {
                     return Ok(worst);
                 }
-                status(&reading)
+                status(&dump)
             }
         };
         worst = worst.max(status);
@@ -32,68 +33,71 @@ pub fn run(sources: &[Source], with_rows: bool) -> Result<Status, Trouble> {
     Ok(worst)
 }
 
-/// The exit status that a reading gives.
-pub fn status(reading: &Reading) -> Status {
-    if reading.reply() == 0 {
+/// Returns the exit status for a dump that was read.
+pub fn status(dump: &Dump) -> Status {
+    if dump.is_whole() {
         Status::Done
     } else {
         Status::Refused
     }
 }
 
-fn report(reading: &Reading) -> String {
-    let mut text = format!("{}: {}\n", reading.name, words::verdict(reading));
-    text += &format!("  {}\n", words::stop(reading));
-    if reading.reply() == 1 {
-        text += &format!("  {}\n", words::missing(reading));
+/// Returns the report without rows.
+fn report(dump: &Dump) -> String {
+    let mut text = format!("{}: {}\n", dump.name, messages::verdict(dump));
+    text += &format!("  {}\n", messages::stop(dump));
+    if dump.reply() == reply::CUT {
+        text += &format!("  {}\n", messages::missing(dump));
     }
-    text += &format!("  {}\n\n", words::around(reading));
-    if reading.width() != 0 {
-        text += &counts(reading);
+    text += &format!("  {}\n\n", messages::around(dump));
+    if dump.has_header() {
+        text += &counts(dump);
         text += "\n";
     }
-    text += &fact("file size", &words::size(reading));
-    if reading.width() != 0 {
-        text += &header(reading);
+    text += &property("file size", &messages::size(dump));
+    if dump.has_header() {
+        text += &header(dump);
     }
     text
 }
 
-fn counts(reading: &Reading) -> String {
-    let kinds = reading.tally_by_kind();
-    let all = Tally {
-        records: reading.records(),
-        references: reading.references(),
-        nulls: kinds.iter().map(|tally| tally.nulls).sum(),
+/// Returns the table of records, references and nulls by kind.
+fn counts(dump: &Dump) -> String {
+    let kinds = dump.counts_by_kind();
+    let all = Counts {
+        records: dump.records(),
+        refs: dump.refs(),
+        nulls: kinds.iter().map(|counts| counts.nulls).sum(),
     };
     let mut text = line("", ["records", "references", "nulls"].map(String::from));
-    for (kind, tally) in words::KINDS.iter().zip(kinds) {
-        text += &counted(kind, tally);
+    for (kind, counts) in messages::KINDS.iter().zip(kinds) {
+        text += &counts_line(kind, counts);
     }
-    text + &counted("all", all)
+    text + &counts_line("all", all)
 }
 
-fn counted(kind: &str, tally: Tally) -> String {
-    let counts = [tally.records, tally.references, tally.nulls];
-    line(kind, counts.map(words::grouped))
+fn counts_line(kind: &str, counts: Counts) -> String {
+    let numbers = [counts.records, counts.refs, counts.nulls];
+    line(kind, numbers.map(messages::grouped))
 }
 
-fn line(name: &str, [records, references, nulls]: [String; 3]) -> String {
-    format!("  {name:<18}{records:>14}{references:>16}{nulls:>16}\n")
+fn line(name: &str, [records, refs, nulls]: [String; 3]) -> String {
+    format!("  {name:<18}{records:>14}{refs:>16}{nulls:>16}\n")
 }
 
-fn header(reading: &Reading) -> String {
+/// Returns the lines about the header.
+fn header(dump: &Dump) -> String {
     let yes_or_no = |yes| if yes { "yes" } else { "no" };
-    let vm = match reading.vm() {
-        Some(version) => format!("\"{version}\""),
+    let vm = match dump.vm() {
+        Some(vm) => format!("\"{vm}\""),
         None => "not given".into(),
     };
-    fact("address width", &format!("{} bit", reading.width()))
-        + &fact("all objects hashed", yes_or_no(reading.all_hashed()))
-        + &fact("from OpenJ9", yes_or_no(reading.openj9()))
-        + &fact("VM version", &vm)
+    property("address width", &format!("{} bit", dump.bits()))
+        + &property("all objects hashed", yes_or_no(dump.all_hashed()))
+        + &property("from OpenJ9", yes_or_no(dump.openj9()))
+        + &property("VM version", &vm)
 }
 
-fn fact(name: &str, value: &str) -> String {
+fn property(name: &str, value: &str) -> String {
     format!("  {name:<20}{value}\n")
 }

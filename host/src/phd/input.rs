@@ -1,8 +1,8 @@
-//! A dump's bytes, from a file or from standard input.
+//! Reads the bytes of a dump from a file or from standard input.
 
+use crate::error::Error;
+use crate::memory::OutOfMemory;
 use crate::progress;
-use crate::room::NoMemory;
-use crate::say::Trouble;
 use std::ffi::OsString;
 use std::fs::File;
 use std::io::{self, ErrorKind, Read};
@@ -18,15 +18,16 @@ pub enum Source {
 }
 
 impl Source {
-    pub fn named(word: OsString) -> Source {
-        if word == "-" {
+    /// Returns the source of an argument; `-` is standard input.
+    pub fn named(argument: OsString) -> Source {
+        if argument == "-" {
             Source::Standard
         } else {
-            Source::File(word.into())
+            Source::File(argument.into())
         }
     }
 
-    /// Its name, as people are told.
+    /// Returns the name for messages.
     pub fn name(&self) -> String {
         match self {
             Source::Standard => "standard input".into(),
@@ -35,35 +36,35 @@ impl Source {
     }
 }
 
-/// All bytes, but of a dump over the limit only as many as show that it is.
-pub fn load(source: &Source) -> Result<Vec<u8>, Trouble> {
+/// Reads all bytes of the source. Of a source over the limit, only one byte more than the limit is read.
+pub fn load(source: &Source) -> Result<Vec<u8>, Error> {
     let name = source.name();
-    let unreadable = |error: io::Error| Trouble::failed(&name, unreadable(&error));
+    let unreadable = |error: io::Error| Error::failed(&name, unreadable(&error));
     match source {
         Source::Standard => {
             let _line = progress::show("reading standard input", None);
-            take(io::stdin().lock(), 0, &name)
+            read_limited(io::stdin().lock(), 0, &name)
         }
         Source::File(path) => {
             let file = File::open(path).map_err(unreadable)?;
-            let about = file.metadata().map_err(unreadable)?;
-            if about.is_dir() {
-                return Err(Trouble::failed(&name, "is a directory, not a dump"));
+            let metadata = file.metadata().map_err(unreadable)?;
+            if metadata.is_dir() {
+                return Err(Error::failed(&name, "is a directory, not a dump"));
             }
-            let _line = progress::show(&format!("reading {name}"), Some(about.len()));
-            take(file, about.len(), &name)
+            let _line = progress::show(&format!("reading {name}"), Some(metadata.len()));
+            read_limited(file, metadata.len(), &name)
         }
     }
 }
 
-/// Reads to the end or over the limit. `likely` is how many bytes are to be looked for.
-fn take(from: impl Read, likely: u64, name: &str) -> Result<Vec<u8>, Trouble> {
+/// Reads to the end, or one byte past the limit. `size_hint` is the expected number of bytes.
+fn read_limited(from: impl Read, size_hint: u64, name: &str) -> Result<Vec<u8>, Error> {
     let mut bytes = Vec::new();
     let most = LIMIT + 1;
-    let first = likely.min(most) as usize;
+    let first = size_hint.min(most) as usize;
     let no_memory = |bytes: usize| {
-        let words = NoMemory::of::<u8>(bytes).words("to hold the dump");
-        Trouble::failed(name, words)
+        let message = OutOfMemory::of::<u8>(bytes).message("to hold the dump");
+        Error::failed(name, message)
     };
     bytes
         .try_reserve_exact(first)
@@ -73,10 +74,11 @@ fn take(from: impl Read, likely: u64, name: &str) -> Result<Vec<u8>, Trouble> {
         Err(error) if error.kind() == ErrorKind::OutOfMemory => {
             Err(no_memory(bytes.capacity().saturating_mul(2)))
         }
-        Err(error) => Err(Trouble::failed(name, unreadable(&error))),
+        Err(error) => Err(Error::failed(name, unreadable(&error))),
     }
 }
 
+/// Returns the message for a file that cannot be read.
 fn unreadable(error: &io::Error) -> String {
     match error.kind() {
         ErrorKind::NotFound => "no such file".into(),

@@ -1,34 +1,36 @@
-//! The command line `phd`. It opens files, lends memory to the proved library and prints; of the format it decides nothing.
+//! The command line `phd`. It opens files, allocates memory, calls the proved library and prints; everything about the format is
+//! decided by the library.
 
 mod args;
 mod convert;
+mod dump;
+mod error;
 mod info;
 mod input;
+mod memory;
+mod messages;
 mod output;
 mod progress;
-mod reading;
-mod room;
 mod rows;
-mod say;
-mod words;
 
 use args::Request;
-use convert::Form;
-use say::{Status, Trouble};
+use convert::Format;
+use error::{Error, Status};
 use std::process::ExitCode;
 
 fn main() -> ExitCode {
     let status = match args::parse(std::env::args_os().skip(1)) {
-        Ok(request) => run(request).unwrap_or_else(|trouble| trouble.tell()),
+        Ok(request) => run(request).unwrap_or_else(|error| error.report()),
         Err(wrong) => {
-            say::line(&format!("{wrong} ('phd --help' tells what can be asked)"));
+            error::print_line(&format!("{wrong} ('phd --help' shows the usage)"));
             Status::Failed
         }
     };
     ExitCode::from(status as u8)
 }
 
-fn run(request: Request) -> Result<Status, Trouble> {
+/// Carries out a request and returns the exit status.
+fn run(request: Request) -> Result<Status, Error> {
     match request {
         Request::Help => output::print(args::HELP).map(|_| Status::Done),
         Request::Version => {
@@ -36,7 +38,7 @@ fn run(request: Request) -> Result<Status, Trouble> {
             output::print(version).map(|_| Status::Done)
         }
         Request::Info { sources, rows } => info::run(&sources, rows),
-        Request::Text(source, target) => convert::run(&source, &target, Form::Text),
-        Request::Copy(source, target) => convert::run(&source, &target, Form::Dump),
+        Request::Text(source, target) => convert::run(&source, &target, Format::Text),
+        Request::Copy(source, target) => convert::run(&source, &target, Format::Dump),
     }
 }

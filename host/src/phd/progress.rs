@@ -1,16 +1,16 @@
-//! A line on standard error that says what is being done while it takes long, for a person at a terminal.
+//! Shows a line on standard error while something takes long, if that is a terminal.
 
 use std::io::{self, IsTerminal, Write};
 
-/// Work over fewer bytes is done before anyone could read the line.
+/// From this many bytes on the line is shown. Work on fewer is done before anyone could read it.
 const LONG: u64 = 16_000_000;
 
-/// The line. It is wiped away when this is dropped.
+/// The line, which is erased on drop.
 pub struct Progress {
     shown: bool,
 }
 
-/// Shows what is being done with that many bytes, or with a number of bytes that is not known.
+/// Shows what is being done with `bytes` bytes, or with an unknown number of them.
 pub fn show(doing: &str, bytes: Option<u64>) -> Progress {
     let mut screen = io::stderr();
     let shown = bytes.is_none_or(|bytes| bytes >= LONG) && screen.is_terminal();

@@ -1,19 +1,17 @@
-//! The rows of a dump as a table, for those who look at its bytes: each with the offset of its record's tag, in hexadecimal.
+//! Prints the rows of a dump as a table, each with the offset of its record's tag in hexadecimal.
 
+use crate::dump::Dump;
+use crate::error::Error;
 use crate::output::{self, Sent};
-use crate::reading::Reading;
-use crate::say::Trouble;
-use phd_host::library::{
-    ADDRESS, CLASS, COUNT, FIRST, HASH, HASH_KIND, KIND, LENGTH, NAME, NAME_LENGTH, OFFSET, ROW,
-    SIZE, TYPE,
+use phd_host::row::{
+    hash_kind, kind, ADDRESS, CLASS, COUNT, FIRST, HASH, HASH_KIND, KIND, LENGTH, NAME_LENGTH,
+    NAME_PLACE, OFFSET, ROW_LEN, SIZE, TYPE,
 };
 
-/// The kinds of rows, in the order of their numbers, and the two of which the last cell says something.
+/// The kinds of rows, in the order of their numbers.
 const KINDS: [&str; 4] = ["class", "object", "object array", "primitive array"];
-const IS_CLASS: u64 = 1;
-const IS_PRIMITIVE: u64 = 4;
 
-/// The types of primitive arrays, in the order of their numbers, as the text has them.
+/// The types of primitive arrays, in the order of their numbers, as in classic text.
 const TYPES: [&str; 8] = ["[Z", "[C", "[F", "[D", "[B", "[S", "[I", "[J"];
 
 const HEADING: [&str; 11] = [
@@ -30,18 +28,18 @@ const HEADING: [&str; 11] = [
     "name or type",
 ];
 
-/// About how many bytes are printed at once.
+/// The table is printed in parts of about this many bytes.
 const PART: usize = 1 << 16;
 
-/// Prints the rows that were read, as many as there are.
-pub fn print(reading: &Reading) -> Result<Sent, Trouble> {
-    if reading.records() == 0 {
+/// Prints all rows that were read.
+pub fn print(dump: &Dump) -> Result<Sent, Error> {
+    if dump.records() == 0 {
         return output::print("\n  No row was read.\n");
     }
-    let digits = reading.width() as usize / 4;
+    let digits = dump.bits() as usize / 4;
     let mut text = format!("\n{}", line(&HEADING.map(String::from), digits));
-    for (index, row) in reading.rows().chunks_exact(ROW).enumerate() {
-        text += &line(&cells(reading, index, row, digits), digits);
+    for (index, row) in dump.rows().chunks_exact(ROW_LEN).enumerate() {
+        text += &line(&cells(dump, index, row, digits), digits);
         if text.len() >= PART {
             if output::print(&text)? == Sent::NoReader {
                 return Ok(Sent::NoReader);
@@ -52,8 +50,8 @@ pub fn print(reading: &Reading) -> Result<Sent, Trouble> {
     output::print(&text)
 }
 
-/// A row's cells. Addresses have so many digits.
-fn cells(reading: &Reading, index: usize, row: &[u64], digits: usize) -> [String; 11] {
+/// Returns the cells of a row. Addresses have `digits` digits.
+fn cells(dump: &Dump, index: usize, row: &[u64], digits: usize) -> [String; 11] {
     let address = |number: u64| format!("0x{number:0digits$X}");
     [
         index.to_string(),
@@ -67,30 +65,32 @@ fn cells(reading: &Reading, index: usize, row: &[u64], digits: usize) -> [String
         row[SIZE].to_string(),
         row[LENGTH].to_string(),
         match row[KIND] {
-            IS_CLASS => {
-                let name = reading.text(row[NAME], row[NAME_LENGTH]);
-                format!("{name} at {}", offset(row[NAME]))
+            kind::CLASS => {
+                let name = dump.string(row[NAME_PLACE], row[NAME_LENGTH]);
+                format!("{name} at {}", offset(row[NAME_PLACE]))
             }
-            IS_PRIMITIVE => TYPES[row[TYPE] as usize].into(),
+            kind::PRIMITIVE_ARRAY => TYPES[row[TYPE] as usize].into(),
             _ => String::new(),
         },
     ]
 }
 
-/// A place in a dump. None has more digits.
+/// Formats a place in a dump; eight digits hold every place.
 fn offset(place: u64) -> String {
     format!("0x{place:08X}")
 }
 
+/// Formats a hash by its kind.
 fn hash(kind: u64, hash: u64) -> String {
     match kind {
-        1 => "hashed".into(),
-        2 => format!("0x{hash:08X}"),
-        3 => format!("0x{hash:04X}"),
+        hash_kind::HASHED => "hashed".into(),
+        hash_kind::INT => format!("0x{hash:08X}"),
+        hash_kind::SHORT => format!("0x{hash:04X}"),
         _ => "none".into(),
     }
 }
 
+/// Formats a line of the table.
 fn line(cells: &[String; 11], digits: usize) -> String {
     let [index, offset, kind, address, class, hash, first, count, size, length, name] = cells;
     let width = digits + 2;

@@ -1,26 +1,26 @@
-//! Reads a dump: the header, then each record, judged whole before it is stored.
+//! Reads a dump: the header, then each record. A record is stored only after all of it was checked.
 
 use super::cursor::{each_value, Cursor};
 use super::{
-    is_class_name, is_version, Cache, Header, Reply, CLASS, DUMP_LIMIT, HASHED, INT_HASH, NO_HASH,
-    OBJECT, OBJECT_ARRAY, OPENING, PRIMITIVE_ARRAY, ROW, SHORT_HASH,
+    is_class_name, is_vm_string, Cache, Header, Reply, CLASS, DUMP_LIMIT, HASHED, INT_HASH,
+    NO_HASH, OBJECT, OBJECT_ARRAY, OPENING, PRIMITIVE_ARRAY, ROW_LEN, SHORT_HASH,
 };
 
-/// What a reading returns beside the tables.
+/// What a read returns beside the tables.
 pub(super) struct Outcome {
     pub reply: Reply,
     pub place: usize,
-    /// What the field lacked where the dump is cut, else 0.
+    /// The missing bytes of a cut dump, otherwise 0.
     pub missing: usize,
     pub rows: usize,
     pub refs: usize,
-    /// There once the whole header is read.
+    /// The header, if all of it was read.
     pub header: Option<Header>,
 }
 
 impl Outcome {
-    /// A stop before the body.
-    fn early(reply: Reply, missing: usize) -> Outcome {
+    /// Returns the outcome of a read that ends before the first record.
+    fn in_header(reply: Reply, missing: usize) -> Outcome {
         Outcome {
             reply,
             place: 0,
@@ -35,33 +35,33 @@ impl Outcome {
 /// Reads a dump into the tables.
 pub(super) fn read(dump: &[u8], rows: &mut [u64], refs: &mut [u64]) -> Outcome {
     if dump.len() > DUMP_LIMIT {
-        return Outcome::early(Reply::DumpTooLong, 0);
+        return Outcome::in_header(Reply::OverLimit, 0);
     }
     let mut cursor = Cursor::new(dump);
     let header = match read_header(&mut cursor) {
         Ok(header) => header,
-        Err(reply) => return Outcome::early(reply, cursor.missing),
+        Err(reply) => return Outcome::in_header(reply, cursor.missing),
     };
     let mut body = Body::new(cursor, header);
-    let mut tables = Tables::new(rows, refs);
-    let (reply, place) = read_records(&mut body, &mut tables);
+    let mut buffers = Buffers::new(rows, refs);
+    let (reply, place) = read_records(&mut body, &mut buffers);
     Outcome {
         reply,
         place,
         missing: body.cursor.missing,
-        rows: tables.row_count,
-        refs: tables.ref_count,
+        rows: buffers.row_count,
+        refs: buffers.ref_count,
         header: Some(body.header),
     }
 }
 
-/// Stores records up to the end tag or the first that stops the reading, and returns the place too.
-fn read_records(body: &mut Body, tables: &mut Tables) -> (Reply, usize) {
+/// Stores records up to the end tag or to the first that is refused or cut, and returns the reply and its place.
+fn read_records(body: &mut Body, buffers: &mut Buffers) -> (Reply, usize) {
     loop {
         let tag_place = body.cursor.at;
         match body.record() {
             Ok(Some(record)) => {
-                if let Err(reply) = tables.store(&record) {
+                if let Err(reply) = buffers.store(&record) {
                     return (reply, tag_place);
                 }
             }
@@ -71,52 +71,52 @@ fn read_records(body: &mut Body, tables: &mut Tables) -> (Reply, usize) {
     }
 }
 
-/// Reads the header, both bytes 2 included.
+/// Reads the header, including both bytes 2.
 fn read_header(cursor: &mut Cursor) -> Result<Header, Reply> {
     if usize::from(cursor.short()?) != OPENING.len() || cursor.take(OPENING.len())? != OPENING {
-        return Err(Reply::WrongOpening);
+        return Err(Reply::NoDump);
     }
     if cursor.int()? != 6 {
-        return Err(Reply::WrongVersion);
+        return Err(Reply::BadVersion);
     }
     let flags = cursor.int()?;
     if flags & !7 != 0 {
-        return Err(Reply::UnknownFlag);
+        return Err(Reply::BadFlag);
     }
     cursor.expect(1)?;
-    let mut version = None;
+    let mut vm = None;
     loop {
         match cursor.byte()? {
             2 => break,
-            4 if version.is_some() => return Err(Reply::BadString),
+            4 if vm.is_some() => return Err(Reply::BadString),
             4 => {
                 let length = cursor.short()?.into();
                 let start = cursor.at;
-                if !is_version(cursor.take(length)?) {
+                if !is_vm_string(cursor.take(length)?) {
                     return Err(Reply::BadString);
                 }
-                version = Some(start..cursor.at);
+                vm = Some(start..cursor.at);
             }
-            _ => return Err(Reply::WrongTag),
+            _ => return Err(Reply::BadTag),
         }
     }
     cursor.expect(2)?;
-    let width = if flags & 1 != 0 { 64 } else { 32 };
+    let bits = if flags & 1 != 0 { 64 } else { 32 };
     Ok(Header {
-        width,
+        bits,
         all_hashed: flags & 2 != 0,
         openj9: flags & 4 != 0,
-        version,
+        vm,
     })
 }
 
-/// A record as read. Its references stay as bytes, judged but not yet stored.
+/// A record (01's term) as read. Its references are still bytes: checked, but not yet stored.
 #[derive(Default)]
 struct Record<'a> {
-    /// Where its tag stands.
+    /// Where its tag is.
     offset: usize,
     kind: u64,
-    /// The address, counted in fours of bytes as the gaps are.
+    /// The address divided by four, as gaps are.
     address: i64,
     class: u64,
     hash_kind: u64,
@@ -131,21 +131,21 @@ struct Record<'a> {
     ref_bytes: &'a [u8],
 }
 
-/// The body being read.
+/// The state of reading the records.
 struct Body<'a> {
     cursor: Cursor<'a>,
     header: Header,
-    /// Addresses, counted in fours, must be below this.
+    /// Addresses divided by four must be below this.
     limit: i64,
-    /// The address of the record before, counted in fours.
+    /// The address of the record before, divided by four.
     previous: i64,
     cache: Cache,
 }
 
 impl<'a> Body<'a> {
-    /// The state before the first record.
+    /// Returns the state before the first record.
     fn new(cursor: Cursor<'a>, header: Header) -> Body<'a> {
-        let limit = 1 << (header.width - 2);
+        let limit = 1 << (header.bits - 2);
         Body {
             cursor,
             header,
@@ -155,7 +155,7 @@ impl<'a> Body<'a> {
         }
     }
 
-    /// Reads the next record, or nothing at the end tag.
+    /// Reads the next record. Returns nothing at the end tag.
     fn record(&mut self) -> Result<Option<Record<'a>>, Reply> {
         let offset = self.cursor.at;
         let tag = self.cursor.byte()?;
@@ -168,46 +168,46 @@ impl<'a> Body<'a> {
             6 => self.class()?,
             7 => self.long_primitive_array()?,
             8 => self.object_array()?,
-            _ => return Err(Reply::WrongTag),
+            _ => return Err(Reply::BadTag),
         };
         Ok(Some(Record { offset, ..record }))
     }
 
-    /// Reads a short object behind its tag.
+    /// Reads a short object after its tag.
     fn short_object(&mut self, tag: u8) -> Result<Record<'a>, Reply> {
         let slot = usize::from(tag >> 5 & 3);
         let class = self.cache.class(slot).ok_or(Reply::EmptySlot)?;
         let mut record = self.begin(OBJECT, tag >> 2 & 1)?;
         record.class = class;
         self.hash(&mut record, false, false)?;
-        self.references(&mut record, (tag >> 3 & 3).into(), tag & 3)?;
+        self.refs(&mut record, (tag >> 3 & 3).into(), tag & 3)?;
         Ok(record)
     }
 
-    /// Reads a medium object behind its tag.
+    /// Reads a medium object after its tag.
     fn medium_object(&mut self, tag: u8) -> Result<Record<'a>, Reply> {
         let mut record = self.begin(OBJECT, tag >> 2 & 1)?;
-        record.class = self.word()?;
-        self.cache.put(record.class);
+        record.class = self.class_word()?;
+        self.cache.push(record.class);
         self.hash(&mut record, false, false)?;
-        self.references(&mut record, (tag >> 3 & 7).into(), tag & 3)?;
+        self.refs(&mut record, (tag >> 3 & 7).into(), tag & 3)?;
         Ok(record)
     }
 
-    /// Reads a long object behind its tag.
+    /// Reads a long object after its tag.
     fn long_object(&mut self) -> Result<Record<'a>, Reply> {
         let record = self.object_with_flags(OBJECT)?;
-        self.cache.put(record.class);
+        self.cache.push(record.class);
         Ok(record)
     }
 
-    /// Reads an object array behind its tag.
+    /// Reads an object array after its tag.
     fn object_array(&mut self) -> Result<Record<'a>, Reply> {
         let mut record = self.object_with_flags(OBJECT_ARRAY)?;
         record.size = self.cursor.int()?.into();
-        record.length = self.cursor.amount(2)?;
+        record.length = self.cursor.count(2)?;
         if record.length < record.ref_count as u64 {
-            return Err(Reply::BadAmount);
+            return Err(Reply::BadCount);
         }
         Ok(record)
     }
@@ -216,46 +216,46 @@ impl<'a> Body<'a> {
     fn object_with_flags(&mut self, kind: u64) -> Result<Record<'a>, Reply> {
         let flags = self.flags(0x03)?;
         let mut record = self.begin(kind, flags >> 6)?;
-        record.class = self.word()?;
+        record.class = self.class_word()?;
         self.hash(&mut record, flags & 0x02 != 0, flags & 0x01 != 0)?;
-        let count = self.cursor.amount(2)?;
-        self.references(&mut record, count as usize, flags >> 4 & 3)?;
+        let count = self.cursor.count(2)?;
+        self.refs(&mut record, count as usize, flags >> 4 & 3)?;
         Ok(record)
     }
 
-    /// Reads a primitive array behind its tag.
+    /// Reads a primitive array after its tag.
     fn primitive_array(&mut self, tag: u8) -> Result<Record<'a>, Reply> {
         let mut record = self.begin(PRIMITIVE_ARRAY, tag & 3)?;
         record.primitive = (tag >> 2 & 7).into();
-        record.length = self.cursor.amount(tag & 3)?;
+        record.length = self.cursor.count(tag & 3)?;
         self.hash(&mut record, false, false)?;
         record.size = self.cursor.int()?.into();
         Ok(record)
     }
 
-    /// Reads a long primitive array behind its tag.
+    /// Reads a long primitive array after its tag.
     fn long_primitive_array(&mut self) -> Result<Record<'a>, Reply> {
         let flags = self.flags(0x03)?;
         let code = if flags & 0x10 != 0 {
-            self.header.word_code()
+            self.header.bits_code()
         } else {
             0
         };
         let mut record = self.begin(PRIMITIVE_ARRAY, code)?;
         record.primitive = (flags >> 5).into();
-        record.length = self.cursor.amount(code)?;
+        record.length = self.cursor.count(code)?;
         self.hash(&mut record, flags & 0x02 != 0, flags & 0x01 != 0)?;
         record.size = self.cursor.int()?.into();
         Ok(record)
     }
 
-    /// Reads a class behind its tag.
+    /// Reads a class after its tag.
     fn class(&mut self) -> Result<Record<'a>, Reply> {
         let flags = self.flags(0x08)?;
         let mut record = self.begin(CLASS, flags >> 6)?;
-        record.size = self.cursor.amount(2)?;
+        record.size = self.cursor.count(2)?;
         self.hash(&mut record, flags & 0x08 != 0, false)?;
-        record.class = self.word()?;
+        record.class = self.class_word()?;
         let name_length = self.cursor.short()?;
         if name_length == 0 {
             return Err(Reply::BadString);
@@ -265,12 +265,12 @@ impl<'a> Body<'a> {
         if !is_class_name(self.cursor.take(name_length.into())?) {
             return Err(Reply::BadString);
         }
-        let count = self.cursor.amount(2)?;
-        self.references(&mut record, count as usize, flags >> 4 & 3)?;
+        let count = self.cursor.count(2)?;
+        self.refs(&mut record, count as usize, flags >> 4 & 3)?;
         Ok(record)
     }
 
-    /// Reads a flag byte; in an all-hashed dump its hash bits must be clear.
+    /// Reads a flag byte. If all objects are hashed, its hash bits must be clear.
     fn flags(&mut self, hash_bits: u8) -> Result<u8, Reply> {
         let flags = self.cursor.byte()?;
         if self.header.all_hashed && flags & hash_bits != 0 {
@@ -279,10 +279,10 @@ impl<'a> Body<'a> {
         Ok(flags)
     }
 
-    /// Reads the gap and begins a record at the address it gives.
+    /// Reads the gap and returns a record at the address that it gives.
     fn begin(&mut self, kind: u64, gap_code: u8) -> Result<Record<'a>, Reply> {
         let gap = self.cursor.signed(gap_code)?;
-        self.previous = away(self.previous, gap, self.limit)?;
+        self.previous = add_gap(self.previous, gap, self.limit)?;
         Ok(Record {
             kind,
             address: self.previous,
@@ -290,16 +290,16 @@ impl<'a> Body<'a> {
         })
     }
 
-    /// Reads an unsigned word.
-    fn word(&mut self) -> Result<u64, Reply> {
-        if self.header.width == 64 {
+    /// Reads a class word: an unsigned number of W bits.
+    fn class_word(&mut self) -> Result<u64, Reply> {
+        if self.header.bits == 64 {
             self.cursor.array().map(u64::from_be_bytes)
         } else {
             self.cursor.int().map(u64::from)
         }
     }
 
-    /// Reads the hash that the header, or else the record's bits, call for.
+    /// Reads the hash that the header, or otherwise the record's hash bits, require.
     fn hash(&mut self, record: &mut Record, moved: bool, hashed: bool) -> Result<(), Reply> {
         (record.hash_kind, record.hash) = if self.header.all_hashed {
             (SHORT_HASH, self.cursor.short()?.into())
@@ -313,17 +313,19 @@ impl<'a> Body<'a> {
         Ok(())
     }
 
-    /// Judges the references one after another; those behind a cut are not looked for.
-    fn references(&mut self, record: &mut Record<'a>, count: usize, code: u8) -> Result<(), Reply> {
+    /// Checks the references one after another, up to a cut.
+    fn refs(&mut self, record: &mut Record<'a>, count: usize, code: u8) -> Result<(), Reply> {
         let (from, limit) = (record.address, self.limit);
         let rest = self.cursor.rest();
         let size = count << code;
-        each_value(&rest[..size.min(rest.len())], code, |value| {
-            match away(from, value, limit)? {
-                0 => Err(Reply::NullReference),
+        each_value(
+            &rest[..size.min(rest.len())],
+            code,
+            |value| match add_gap(from, value, limit)? {
+                0 => Err(Reply::NullRef),
                 _ => Ok(()),
-            }
-        })?;
+            },
+        )?;
         record.ref_count = count;
         record.ref_code = code;
         record.ref_bytes = self.cursor.values(count, code)?;
@@ -331,26 +333,26 @@ impl<'a> Body<'a> {
     }
 }
 
-/// The address so many fours away, if it is in range.
-fn away(from: i64, fours: i64, limit: i64) -> Result<i64, Reply> {
-    match from.checked_add(fours) {
+/// Returns the address at a gap from another, both divided by four, if it is in range.
+fn add_gap(from: i64, gap: i64, limit: i64) -> Result<i64, Reply> {
+    match from.checked_add(gap) {
         Some(to) if (0..limit).contains(&to) => Ok(to),
         _ => Err(Reply::OutOfRange),
     }
 }
 
-/// The tables being filled.
-struct Tables<'t> {
-    rows: &'t mut [[u64; ROW]],
+/// The caller's buffers for rows and references, and how much of them is filled.
+struct Buffers<'t> {
+    rows: &'t mut [[u64; ROW_LEN]],
     refs: &'t mut [u64],
     row_count: usize,
     ref_count: usize,
 }
 
-impl<'t> Tables<'t> {
-    /// The tables before the first record; numbers too few for a row are left out.
-    fn new(rows: &'t mut [u64], refs: &'t mut [u64]) -> Tables<'t> {
-        Tables {
+impl<'t> Buffers<'t> {
+    /// Returns the buffers before the first record. Numbers at the end that are too few for a row are not used.
+    fn new(rows: &'t mut [u64], refs: &'t mut [u64]) -> Buffers<'t> {
+        Buffers {
             rows: rows.as_chunks_mut().0,
             refs,
             row_count: 0,
@@ -358,11 +360,11 @@ impl<'t> Tables<'t> {
         }
     }
 
-    /// Stores a record whole, or nothing of it where there is no room.
+    /// Stores a record completely, or nothing of it if there is too little capacity.
     fn store(&mut self, record: &Record) -> Result<(), Reply> {
-        let row = self.rows.get_mut(self.row_count).ok_or(Reply::NoRowLeft)?;
-        let room = self.refs[self.ref_count..].get_mut(..record.ref_count);
-        let mut slots = room.ok_or(Reply::NoReferencesLeft)?.iter_mut();
+        let row = self.rows.get_mut(self.row_count).ok_or(Reply::NoRow)?;
+        let capacity = self.refs[self.ref_count..].get_mut(..record.ref_count);
+        let mut places = capacity.ok_or(Reply::NoRefs)?.iter_mut();
         *row = [
             record.kind,
             record.address as u64 * 4,
@@ -381,8 +383,8 @@ impl<'t> Tables<'t> {
         self.row_count += 1;
         self.ref_count += record.ref_count;
         each_value(record.ref_bytes, record.ref_code, |value| {
-            if let Some(slot) = slots.next() {
-                *slot = (record.address + value) as u64 * 4;
+            if let Some(place) = places.next() {
+                *place = (record.address + value) as u64 * 4;
             }
             Ok(())
         })

@@ -1,8 +1,10 @@
-//! The scope paper's whole dump, its cuts and what they lack, and its text; the nulls of arrays.
+//! Tests of the worked example of the scope paper (01): the whole dump, its cuts with their missing bytes, and its text. Also of
+//! the nulls of arrays.
 
-use super::{read, text, text_size, write, write_size, ROW};
+use super::answer::{Answer, MISSING, PLACE, REPLY};
+use super::{read, text, text_size, write, write_size, Reply, Tables, OBJECT_ARRAY, ROW_LEN};
 
-/// The widths of the paper's fields, in file order: the header, the four records and the end tag.
+/// The widths of the example's fields, in file order: the header, the four records and the end tag.
 const FIELDS: [usize; 29] = [
     2, 18, 4, 4, 1, 1, 2, 4, 1, 1, // header
     1, 1, 2, 4, 4, 2, 1, 4, // class
@@ -12,7 +14,7 @@ const FIELDS: [usize; 29] = [
     1, // end tag
 ];
 
-/// What the field lacks in which the first bytes of the paper's dump end.
+/// Returns the missing bytes of the example when only its first `cut` bytes are there.
 fn missing(cut: usize) -> u64 {
     let mut end = 0;
     let mut ends = FIELDS.iter().map(|width| {
@@ -22,11 +24,11 @@ fn missing(cut: usize) -> u64 {
     (ends.find(|end| cut < *end).unwrap() - cut) as u64
 }
 
-/// What stands in the tables before a reading, to see what it changes.
+/// What the buffers hold before a call, to show what it changes.
 const UNTOUCHED: u64 = 0xEEEE;
 
-/// The paper's rows and references; names are places in the dump.
-const ROWS: [[u64; ROW]; 4] = [
+/// The example's rows, references and header. Names are places in the dump.
+const ROWS: [[u64; ROW_LEN]; 4] = [
     [1, 0x1000, 0, 0, 0, 0, 0, 16, 0, 52, 1, 0, 38],
     [2, 0x1010, 0x1000, 0, 0, 0, 1, 0, 0, 0, 0, 0, 57],
     [2, 0x1020, 0x1000, 0, 0, 1, 0, 0, 0, 0, 0, 0, 64],
@@ -48,7 +50,7 @@ const TEXT: &str = "// Version: Test
 // EOF:  Total 'Objects',Refs(null) : 4,1(0)
 ";
 
-/// The paper's dump.
+/// Returns the example's dump.
 fn dump() -> Vec<u8> {
     let mut dump = b"\x00\x12portable heap dump".to_vec();
     dump.extend(b"\x00\x00\x00\x06\x00\x00\x00\x04\x01\x04\x00\x04Test\x02\x02");
@@ -57,31 +59,32 @@ fn dump() -> Vec<u8> {
     dump
 }
 
-/// Reads with room for so many rows; asks for reply, place, missing bytes and count, and that no more changed.
-fn expect(dump: &[u8], room: usize, reply: u64, place: u64, count: usize) -> Vec<u64> {
-    let mut rows = vec![UNTOUCHED; room * ROW + ROW - 1];
+/// Reads with capacity for some rows, compares the answer with a reply, its place and a count of rows, and checks that nothing
+/// else changed. Returns the rows.
+fn expect(dump: &[u8], capacity: usize, reply: Reply, place: u64, count: usize) -> Vec<u64> {
+    let mut rows = vec![UNTOUCHED; capacity * ROW_LEN + ROW_LEN - 1];
     let mut refs = vec![UNTOUCHED; 3];
-    let mut facts = [UNTOUCHED; 16];
-    assert_eq!(read(dump, &mut rows, &mut refs, &mut facts), reply);
+    let mut answer = [UNTOUCHED; 16];
+    let returned = read(dump, &mut rows, &mut refs, &mut answer);
+    assert_eq!(returned, reply as u64);
     let ref_count = if count >= 2 { 1 } else { 0 };
-    let head = [reply, place, count as u64, ref_count as u64];
-    let known = if dump.len() < 38 {
-        [0; 6]
-    } else {
-        [32, 0, 1, 1, 32, 4]
+    let start = [reply as u64, place, count as u64, ref_count as u64];
+    let header = if dump.len() < 38 { [0; 6] } else { HEADER };
+    assert_eq!(answer[..MISSING], [&start[..], &header[..]].concat());
+    let missing = match reply {
+        Reply::Cut => missing(dump.len()),
+        _ => 0,
     };
-    assert_eq!(facts[..10], [&head[..], &known[..]].concat());
-    let missing = if reply == 1 { missing(dump.len()) } else { 0 };
-    assert_eq!(facts[10..], [missing, 0, 0, 0, 0, 0]);
-    assert!(rows[count * ROW..]
+    assert_eq!(answer[MISSING..], [missing, 0, 0, 0, 0, 0]);
+    assert!(rows[count * ROW_LEN..]
         .iter()
         .chain(&refs[ref_count..])
         .all(|&n| n == UNTOUCHED));
-    rows.truncate(count * ROW);
+    rows.truncate(count * ROW_LEN);
     rows
 }
 
-/// Every cut is reply 1 with the rows before it, and bytes more change nothing: cases (a) to (f).
+/// Every cut gives the reply for a cut and the rows before it, and bytes after the end change nothing: cases (a) to (f).
 #[test]
 fn cuts() {
     let dump = dump();
@@ -96,69 +99,97 @@ fn cuts() {
             _ => (73, 4),
         };
         assert_eq!(
-            expect(&dump[..cut], 4, 1, place, count),
+            expect(&dump[..cut], 4, Reply::Cut, place, count),
             ROWS[..count].concat()
         );
     }
-    assert_eq!(expect(&dump, 4, 0, 74, 4), ROWS.concat());
+    assert_eq!(expect(&dump, 4, Reply::Done, 74, 4), ROWS.concat());
     assert_eq!(
-        expect(&[&dump[..], &[9, 3]].concat(), 5, 0, 74, 4),
+        expect(&[&dump[..], &[9, 3]].concat(), 5, Reply::Done, 74, 4),
         ROWS.concat()
     );
 }
 
-/// Cases (g) to (j).
+/// Too little capacity, and three bytes changed: cases (g) to (j).
 #[test]
 fn cases() {
     let dump = dump();
-    assert_eq!(expect(&dump, 3, 13, 66, 3), ROWS[..3].concat());
+    assert_eq!(expect(&dump, 3, Reply::NoRow, 66, 3), ROWS[..3].concat());
     let with = |place: usize, byte| {
         let mut changed = dump.clone();
         changed[place] = byte;
         changed
     };
-    expect(&with(64, 0xA0), 4, 10, 64, 2);
-    assert_eq!(expect(&with(58, 0xFF), 4, 0, 74, 4)[ROW + 1], 0x0FFC);
-    expect(&with(40, 0x80), 4, 8, 38, 0);
+    expect(&with(64, 0xA0), 4, Reply::EmptySlot, 64, 2);
+    assert_eq!(
+        expect(&with(58, 0xFF), 4, Reply::Done, 74, 4)[ROW_LEN + 1],
+        0x0FFC
+    );
+    expect(&with(40, 0x80), 4, Reply::OutOfRange, 38, 0);
 }
 
-/// The rows give the same dump and the paper's text, in just enough room and not in less; that much is what asking says.
+/// The rows give the example's dump and text if the output is large enough, and nothing if it is one byte smaller. The size
+/// queries return that size.
 #[test]
 fn written() {
-    type Job = fn(&[u64; 6], &[u64], &[u64], &[u8], &mut [u8], &mut [u64; 16]) -> u64;
-    type Asking = fn(&[u64; 6], &[u64], &[u64], &[u8], &mut [u64; 16]) -> u64;
+    type Write = fn(&Tables, &mut [u8], &mut Answer) -> u64;
+    type Size = fn(&Tables, &mut Answer) -> u64;
     let dump = dump();
-    let rows = [&ROWS.concat()[..], &[1; ROW - 1]].concat();
-    let jobs = [
-        (write_size as Asking, write as Job, &dump[..]),
+    let rows = [&ROWS.concat()[..], &[1; ROW_LEN - 1]].concat();
+    let tables = Tables {
+        header: HEADER,
+        rows: &rows,
+        refs: &REFS,
+        names: &dump,
+    };
+    let operations = [
+        (write_size as Size, write as Write, &dump[..]),
         (text_size, text, TEXT.as_bytes()),
     ];
-    for (ask, job, wanted) in jobs {
-        let size = wanted.len();
-        let mut facts = [UNTOUCHED; 16];
-        assert_eq!(ask(&HEADER, &rows, &REFS, &dump, &mut facts), 0);
-        assert_eq!(facts[..3], [0, size as u64, 0]);
+    let (done, no_output) = (Reply::Done as u64, Reply::NoOutput as u64);
+    for (query, write, expected) in operations {
+        let size = expected.len();
+        let done_answer: Answer = std::array::from_fn(|at| match at {
+            REPLY => done,
+            PLACE => size as u64,
+            _ => 0,
+        });
+        let mut answer = [UNTOUCHED; 16];
+        assert_eq!(query(&tables, &mut answer), done);
+        assert_eq!(answer, done_answer);
         let mut out = vec![0xEE; size + 1];
-        assert_eq!(
-            job(
-                &HEADER,
-                &rows,
-                &REFS,
-                &dump,
-                &mut out[..size - 1],
-                &mut facts
-            ),
-            17
-        );
-        assert_eq!((facts[1], &out), (0, &vec![0xEE; size + 1]));
-        assert_eq!(job(&HEADER, &rows, &REFS, &dump, &mut out, &mut facts), 0);
-        assert_eq!(facts[..3], [0, size as u64, 0]);
-        assert_eq!((&out[..size], out[size]), (wanted, 0xEE));
+        let reply = write(&tables, &mut out[..size - 1], &mut answer);
+        assert_eq!(reply, no_output);
+        assert_eq!((answer[PLACE], &out), (0, &vec![0xEE; size + 1]));
+        assert_eq!(write(&tables, &mut out, &mut answer), done);
+        assert_eq!(answer, done_answer);
+        assert_eq!((&out[..size], out[size]), (expected, 0xEE));
     }
 }
 
-/// Object arrays of so many references and such a true length, behind the paper's rows, and how the text then ends: a true
-/// length of 5 with two references lists two, adds 3 nulls and 5 in all.
+/// Returns the text of the example with more object arrays, each given by its count of references and its true length.
+fn text_with_arrays(arrays: &[(u64, u64)]) -> String {
+    let (mut rows, mut refs) = (ROWS.concat(), REFS.to_vec());
+    for &(count, length) in arrays {
+        let first = refs.len() as u64;
+        let mut row = [0; ROW_LEN];
+        let start = [OBJECT_ARRAY, 0x2000, 0x1000, 0, 0, first, count, 9, length];
+        row[..start.len()].copy_from_slice(&start);
+        rows.extend(row);
+        refs.extend(vec![0x1010; count as usize]);
+    }
+    let tables = Tables {
+        header: HEADER,
+        rows: &rows,
+        refs: &refs,
+        names: &dump(),
+    };
+    let (mut out, mut answer) = ([0; 1000], [UNTOUCHED; 16]);
+    assert_eq!(text(&tables, &mut out, &mut answer), Reply::Done as u64);
+    String::from_utf8_lossy(&out[..answer[PLACE] as usize]).into_owned()
+}
+
+/// An array of true length 5 with two references lists two, and adds 3 to the nulls and 5 to the total at the end of the text.
 #[test]
 fn nulls() {
     let tries: [(&[(u64, u64)], &str); 6] = [
@@ -169,25 +200,12 @@ fn nulls() {
         (&[(1, 2), (0, 7), (2, 2)], "7,12(8)"),
         (&[(0, 0x7FFF_FFFF); 3], "7,6442450942(6442450941)"),
     ];
-    for (arrays, wanted) in tries {
-        let (mut rows, mut refs) = (ROWS.concat(), REFS.to_vec());
-        for (count, length) in arrays {
-            let first = refs.len() as u64;
-            let mut row = [0; ROW];
-            row[..9].copy_from_slice(&[3, 0x2000, 0x1000, 0, 0, first, *count, 9, *length]);
-            rows.extend(row);
-            refs.extend(vec![0x1010; *count as usize]);
-        }
-        let (mut out, mut facts) = ([0; 1000], [UNTOUCHED; 16]);
-        assert_eq!(
-            text(&HEADER, &rows, &refs, &dump(), &mut out, &mut facts),
-            0
-        );
-        let told = String::from_utf8_lossy(&out[..facts[1] as usize]);
-        assert!(told.ends_with(&format!(" : {wanted}\n")), "{told}");
+    for (arrays, expected) in tries {
+        let written = text_with_arrays(arrays);
+        assert!(written.ends_with(&format!(" : {expected}\n")), "{written}");
         let last = arrays.last().map_or("0x00000000".into(), |(count, _)| {
             "0x00001000".to_string() + &" 0x00001010".repeat(*count as usize)
         });
-        assert_eq!(told.lines().rev().nth(2), Some(&last[..]));
+        assert_eq!(written.lines().rev().nth(2), Some(&last[..]));
     }
 }

@@ -1,31 +1,33 @@
-//! Writes good tables as classic text: once to learn its size, then into the output if it fits.
+//! Writes checked tables as classic text: once to compute its size, then into the output if that is large enough.
 
-use super::{filler, Lent, Reply, Row, Stop, CLASS, OBJECT, OBJECT_ARRAY, PRIMITIVE_ARRAY};
+use super::{
+    appender, CheckedTables, Reply, Row, Stop, CLASS, OBJECT, OBJECT_ARRAY, PRIMITIVE_ARRAY,
+};
 use std::collections::HashMap;
 
 /// The names of the primitive array types.
 const PRIMITIVES: [&[u8]; 8] = [b"[Z", b"[C", b"[F", b"[D", b"[B", b"[S", b"[I", b"[J"];
 
-/// The size of the text.
-pub(super) fn size(lent: &Lent) -> Result<usize, Stop> {
-    measure(lent, &Classes::of(lent))
+/// Computes the size of the text.
+pub(super) fn size(tables: &CheckedTables) -> Result<usize, Stop> {
+    compute_size(tables, &Classes::of(tables))
 }
 
 /// Writes the text and returns its size.
-pub(super) fn text(lent: &Lent, out: &mut [u8]) -> Result<usize, Stop> {
-    let classes = Classes::of(lent);
-    let size = measure(lent, &classes)?;
+pub(super) fn text(tables: &CheckedTables, out: &mut [u8]) -> Result<usize, Stop> {
+    let classes = Classes::of(tables);
+    let size = compute_size(tables, &classes)?;
     if size > out.len() {
-        return Err((Reply::NoRoom, 0));
+        return Err((Reply::NoOutput, 0));
     }
-    whole(lent, &classes, filler(out))?;
+    write_text(tables, &classes, appender(out))?;
     Ok(size)
 }
 
-/// How many bytes the whole text has.
-fn measure(lent: &Lent, classes: &Classes) -> Result<usize, Stop> {
+/// Computes the size of the text, given the class rows.
+fn compute_size(tables: &CheckedTables, classes: &Classes) -> Result<usize, Stop> {
     let mut size = 0;
-    whole(lent, classes, |bytes| size += bytes.len())?;
+    write_text(tables, classes, |bytes| size += bytes.len())?;
     Ok(size)
 }
 
@@ -35,7 +37,7 @@ struct Class<'a> {
     size: u64,
 }
 
-/// The class rows, to be found by address or by name.
+/// The class rows, by address and by name.
 struct Classes<'a> {
     /// The first class row at each address.
     at: HashMap<u64, Class<'a>>,
@@ -44,14 +46,14 @@ struct Classes<'a> {
 }
 
 impl<'a> Classes<'a> {
-    /// Collects the class rows.
-    fn of(lent: &Lent<'a>) -> Classes<'a> {
+    /// Collects the class rows of the tables.
+    fn of(tables: &CheckedTables<'a>) -> Classes<'a> {
         let mut classes = Classes {
             at: HashMap::new(),
             primitives: [None; 8],
         };
-        for row in lent.rows().filter(|row| row.kind == CLASS) {
-            let name = lent.name(&row);
+        for row in tables.rows().filter(|row| row.kind == CLASS) {
+            let name = tables.name(&row);
             classes.at.entry(row.address).or_insert(Class {
                 name,
                 size: row.size,
@@ -64,58 +66,64 @@ impl<'a> Classes<'a> {
     }
 }
 
-/// Hands on the bytes of the whole text, piece by piece, or names the first row without its class.
-fn whole(lent: &Lent, classes: &Classes, put: impl FnMut(&[u8])) -> Result<(), Stop> {
+/// Writes the whole text to the sink, piece by piece. Refuses the first row whose class is missing.
+fn write_text(
+    tables: &CheckedTables,
+    classes: &Classes,
+    sink: impl FnMut(&[u8]),
+) -> Result<(), Stop> {
     let mut page = Page {
-        digits: lent.header.width as usize / 4,
-        put,
+        digits: tables.header.bits as usize / 4,
+        sink,
     };
-    let mut kinds = [0; 5];
-    let (mut refs, mut nulls) = (0, 0);
-    page.put(b"// Version: ");
-    page.put(lent.version());
-    page.put(b"\n");
-    for (index, row) in lent.rows().enumerate() {
-        page.row(lent, classes, &row)
+    let mut counts = Counts::default();
+    page.write(b"// Version: ");
+    page.write(tables.vm());
+    page.write(b"\n");
+    for (index, row) in tables.rows().enumerate() {
+        page.row(tables, classes, &row)
             .ok_or((Reply::NoClass, index as u64))?;
-        kinds[row.kind as usize] += 1;
-        refs += row.count;
-        if row.kind == OBJECT_ARRAY {
-            nulls += row.length - row.count;
-        }
+        counts.add(&row);
     }
-    page.put(b"// Breakdown - Classes: ");
-    page.decimal(kinds[CLASS as usize]);
-    page.put(b", Objects: ");
-    page.decimal(kinds[OBJECT as usize]);
-    page.put(b", ObjectArrays: ");
-    page.decimal(kinds[OBJECT_ARRAY as usize]);
-    page.put(b", PrimitiveArrays: ");
-    page.decimal(kinds[PRIMITIVE_ARRAY as usize]);
-    page.put(b"\n// EOF:  Total 'Objects',Refs(null) : ");
-    page.decimal(lent.rows.len() as u64);
-    page.put(b",");
-    page.decimal(refs + nulls);
-    page.put(b"(");
-    page.decimal(nulls);
-    page.put(b")\n");
+    page.trailers(&counts);
     Ok(())
 }
 
-/// The text being written.
+/// What the trailers of a text count.
+#[derive(Default)]
+struct Counts {
+    /// The rows of each kind, by its number.
+    kinds: [u64; 5],
+    refs: u64,
+    nulls: u64,
+}
+
+impl Counts {
+    /// Counts a row.
+    fn add(&mut self, row: &Row) {
+        self.kinds[row.kind as usize] += 1;
+        self.refs += row.count;
+        if row.kind == OBJECT_ARRAY {
+            self.nulls += row.length - row.count;
+        }
+    }
+}
+
+/// The state of writing a text.
 struct Page<P> {
     /// How many hexadecimal digits an address has.
     digits: usize,
-    put: P,
+    /// Receives the bytes of the text.
+    sink: P,
 }
 
 impl<P: FnMut(&[u8])> Page<P> {
-    /// Writes the two lines of a row, or stops where its class is missing.
-    fn row(&mut self, lent: &Lent, classes: &Classes, row: &Row) -> Option<()> {
+    /// Writes the two lines of a row. Returns nothing if its class is missing.
+    fn row(&mut self, tables: &CheckedTables, classes: &Classes, row: &Row) -> Option<()> {
         self.address(row.address);
-        let mut class_word = row.class;
+        let mut class_address = row.class;
         match row.kind {
-            CLASS => self.kind(0, b"] CLS ", &[lent.name(row)]),
+            CLASS => self.kind(0, b"] CLS ", &[tables.name(row)]),
             OBJECT => {
                 let class = classes.at.get(&row.class)?;
                 self.kind(class.size, b"] OBJ ", &[class.name]);
@@ -130,28 +138,48 @@ impl<P: FnMut(&[u8])> Page<P> {
             }
             _ => {
                 let primitive = row.primitive as usize;
-                class_word = classes.primitives[primitive].unwrap_or(0);
+                class_address = classes.primitives[primitive].unwrap_or(0);
                 self.kind(row.size * 4, b"] OBJ ", &[PRIMITIVES[primitive]]);
             }
         }
-        self.address(class_word);
-        for &to in lent.refs(row) {
-            self.put(b" ");
+        self.address(class_address);
+        for &to in tables.refs(row) {
+            self.write(b" ");
             self.address(to);
         }
-        self.put(b"\n");
+        self.write(b"\n");
         Some(())
     }
 
-    /// Writes the bytes, the mark and the pieces of the type, and ends the line.
-    fn kind(&mut self, bytes: u64, mark: &[u8], pieces: &[&[u8]]) {
-        self.put(b" [");
+    /// Writes the two trailers.
+    fn trailers(&mut self, counts: &Counts) {
+        let kinds = &counts.kinds;
+        self.write(b"// Breakdown - Classes: ");
+        self.decimal(kinds[CLASS as usize]);
+        self.write(b", Objects: ");
+        self.decimal(kinds[OBJECT as usize]);
+        self.write(b", ObjectArrays: ");
+        self.decimal(kinds[OBJECT_ARRAY as usize]);
+        self.write(b", PrimitiveArrays: ");
+        self.decimal(kinds[PRIMITIVE_ARRAY as usize]);
+        self.write(b"\n// EOF:  Total 'Objects',Refs(null) : ");
+        self.decimal(kinds.iter().sum());
+        self.write(b",");
+        self.decimal(counts.refs + counts.nulls);
+        self.write(b"(");
+        self.decimal(counts.nulls);
+        self.write(b")\n");
+    }
+
+    /// Writes the rest of a row's first line: its size in bytes, the mark and the parts of its type.
+    fn kind(&mut self, bytes: u64, mark: &[u8], parts: &[&[u8]]) {
+        self.write(b" [");
         self.decimal(bytes);
-        self.put(mark);
-        for piece in pieces {
-            self.put(piece);
+        self.write(mark);
+        for part in parts {
+            self.write(part);
         }
-        self.put(b"\n");
+        self.write(b"\n");
     }
 
     /// Writes an address in upper-case hexadecimal.
@@ -163,7 +191,7 @@ impl<P: FnMut(&[u8])> Page<P> {
             *digit = b"0123456789ABCDEF"[(rest % 16) as usize];
             rest /= 16;
         }
-        self.put(line);
+        self.write(line);
     }
 
     /// Writes a number in decimal.
@@ -176,11 +204,11 @@ impl<P: FnMut(&[u8])> Page<P> {
             digits[first] = b'0' + (rest % 10) as u8;
             rest /= 10;
         }
-        self.put(&digits[first..]);
+        self.write(&digits[first..]);
     }
 
     /// Writes bytes as they are.
-    fn put(&mut self, bytes: &[u8]) {
-        (self.put)(bytes);
+    fn write(&mut self, bytes: &[u8]) {
+        (self.sink)(bytes);
     }
 }

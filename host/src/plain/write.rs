@@ -1,43 +1,43 @@
-//! Writes good tables as a dump: once to learn its size, then into the output if it fits.
+//! Writes checked tables as a dump: once to compute its size, then into the output if that is large enough.
 
 use super::{
-    filler, Cache, Header, Lent, Reply, Row, Stop, CLASS, DUMP_LIMIT, HASHED, INT_HASH, OBJECT,
-    OBJECT_ARRAY, OPENING, SHORT_HASH,
+    appender, Cache, CheckedTables, Header, Reply, Row, Stop, CLASS, DUMP_LIMIT, HASHED, INT_HASH,
+    OBJECT, OBJECT_ARRAY, OPENING, SHORT_HASH,
 };
 
-/// The size of the dump, if it is within the limit.
-pub(super) fn size(lent: &Lent) -> Result<usize, Stop> {
+/// Computes the size of the dump, if it is within the limit.
+pub(super) fn size(tables: &CheckedTables) -> Result<usize, Stop> {
     let mut size = 0;
-    dump(lent, |bytes| size += bytes.len());
+    encode_dump(tables, |bytes| size += bytes.len());
     if size > DUMP_LIMIT {
-        return Err((Reply::NoRoom, 0));
+        return Err((Reply::NoOutput, 0));
     }
     Ok(size)
 }
 
 /// Writes the dump and returns its size.
-pub(super) fn write(lent: &Lent, out: &mut [u8]) -> Result<usize, Stop> {
-    let size = size(lent)?;
+pub(super) fn write(tables: &CheckedTables, out: &mut [u8]) -> Result<usize, Stop> {
+    let size = size(tables)?;
     if size > out.len() {
-        return Err((Reply::NoRoom, 0));
+        return Err((Reply::NoOutput, 0));
     }
-    dump(lent, filler(out));
+    encode_dump(tables, appender(out));
     Ok(size)
 }
 
-/// Hands on the bytes of the whole dump, piece by piece.
-fn dump(lent: &Lent, put: impl FnMut(&[u8])) {
+/// Encodes the whole dump and passes its bytes to the sink, piece by piece.
+fn encode_dump(tables: &CheckedTables, sink: impl FnMut(&[u8])) {
     let mut body = Body {
-        header: &lent.header,
-        put,
+        header: &tables.header,
+        sink,
         previous: 0,
         cache: Cache::default(),
     };
-    body.begin(lent.version());
-    for row in lent.rows() {
-        let refs = lent.refs(&row);
+    body.encode_header(tables.vm());
+    for row in tables.rows() {
+        let refs = tables.refs(&row);
         match row.kind {
-            CLASS => body.class(&row, refs, lent.name(&row)),
+            CLASS => body.class(&row, refs, tables.name(&row)),
             OBJECT => body.object(&row, refs),
             OBJECT_ARRAY => body.object_array(&row, refs),
             _ => body.primitive_array(&row),
@@ -46,8 +46,8 @@ fn dump(lent: &Lent, put: impl FnMut(&[u8])) {
     body.byte(3);
 }
 
-/// The least width code that holds a signed number.
-fn code(value: i64) -> u8 {
+/// Returns the least width code that holds a signed number.
+fn width_code(value: i64) -> u8 {
     if i8::try_from(value).is_ok() {
         0
     } else if i16::try_from(value).is_ok() {
@@ -59,20 +59,20 @@ fn code(value: i64) -> u8 {
     }
 }
 
-/// The signed distance between two addresses in fours; both are multiples of four, so it is exact.
-fn fours(from: u64, to: u64) -> i64 {
+/// Returns the gap (01's term) between two addresses: their distance divided by four. Both are multiples of four, so it is exact.
+fn gap_between(from: u64, to: u64) -> i64 {
     (to / 4) as i64 - (from / 4) as i64
 }
 
-/// The least width code that holds all references, seen from their record.
-fn widest(from: u64, refs: &[u64]) -> u8 {
+/// Returns the least width code that holds the gaps to all references.
+fn refs_code(from: u64, refs: &[u64]) -> u8 {
     refs.iter()
-        .map(|&to| code(fours(from, to)))
+        .map(|&to| width_code(gap_between(from, to)))
         .max()
         .unwrap_or(0)
 }
 
-/// The hash bits of a flag byte, of all records but classes; with any of them a record goes long.
+/// Returns the hash bits of a record's flag byte; not for classes. A record with any of them needs a long form.
 fn hash_bits(row: &Row) -> u8 {
     match row.hash_kind {
         HASHED => 0x01,
@@ -81,43 +81,44 @@ fn hash_bits(row: &Row) -> u8 {
     }
 }
 
-/// The dump being written.
+/// The state of encoding a dump.
 struct Body<'a, P> {
     header: &'a Header,
-    put: P,
+    /// Receives the bytes of the dump.
+    sink: P,
     /// The address of the record before.
     previous: u64,
     cache: Cache,
 }
 
 impl<P: FnMut(&[u8])> Body<'_, P> {
-    /// Writes the header.
-    fn begin(&mut self, version: &[u8]) {
+    /// Encodes the header.
+    fn encode_header(&mut self, vm: &[u8]) {
         let header = self.header;
-        let flags = u32::from(header.width == 64)
+        let flags = u32::from(header.bits == 64)
             | u32::from(header.all_hashed) << 1
             | u32::from(header.openj9) << 2;
         self.string(OPENING);
         self.int(6);
         self.int(flags.into());
         self.byte(1);
-        if header.version.is_some() {
+        if header.vm.is_some() {
             self.byte(4);
-            self.string(version);
+            self.string(vm);
         }
         self.byte(2);
         self.byte(2);
     }
 
-    /// Writes an object in the first of its three forms that holds it.
+    /// Encodes an object in the first of its three forms that can hold it.
     fn object(&mut self, row: &Row, refs: &[u64]) {
         let gap = self.gap(row);
-        let gap_code = code(gap);
+        let gap_code = width_code(gap);
         if hash_bits(row) != 0 || gap_code > 1 || refs.len() > 7 {
-            self.cache.put(row.class);
+            self.cache.push(row.class);
             return self.with_flags(4, row, gap, refs);
         }
-        let ref_code = widest(row.address, refs);
+        let ref_code = refs_code(row.address, refs);
         let low_bits = (refs.len() as u8) << 3 | gap_code << 2 | ref_code;
         match self.cache.slot(row.class) {
             Some(slot) if refs.len() <= 3 => {
@@ -127,15 +128,15 @@ impl<P: FnMut(&[u8])> Body<'_, P> {
             _ => {
                 self.byte(0x40 | low_bits);
                 self.signed(gap, gap_code);
-                self.word(row.class);
-                self.cache.put(row.class);
+                self.class_word(row.class);
+                self.cache.push(row.class);
             }
         }
         self.hash(row);
-        self.references(row.address, refs, ref_code);
+        self.refs(row.address, refs, ref_code);
     }
 
-    /// Writes an object array.
+    /// Encodes an object array.
     fn object_array(&mut self, row: &Row, refs: &[u64]) {
         let gap = self.gap(row);
         self.with_flags(8, row, gap, refs);
@@ -143,23 +144,23 @@ impl<P: FnMut(&[u8])> Body<'_, P> {
         self.int(row.length);
     }
 
-    /// Writes what a long object and an object array have in common.
+    /// Encodes what a long object and an object array have in common.
     fn with_flags(&mut self, tag: u8, row: &Row, gap: i64, refs: &[u64]) {
-        let (gap_code, ref_code) = (code(gap), widest(row.address, refs));
+        let (gap_code, ref_code) = (width_code(gap), refs_code(row.address, refs));
         self.byte(tag);
         self.byte(gap_code << 6 | ref_code << 4 | hash_bits(row));
         self.signed(gap, gap_code);
-        self.word(row.class);
+        self.class_word(row.class);
         self.hash(row);
         self.int(row.count);
-        self.references(row.address, refs, ref_code);
+        self.refs(row.address, refs, ref_code);
     }
 
-    /// Writes a primitive array, long only where its hash asks for it.
+    /// Encodes a primitive array, in the long form only if its hash needs that.
     fn primitive_array(&mut self, row: &Row) {
         let gap = self.gap(row);
         let length = row.length as i64;
-        let least = code(gap).max(code(length));
+        let least = width_code(gap).max(width_code(length));
         let primitive = row.primitive as u8;
         let width = if hash_bits(row) == 0 {
             self.byte(0x20 | primitive << 2 | least);
@@ -171,7 +172,7 @@ impl<P: FnMut(&[u8])> Body<'_, P> {
         } else {
             self.byte(7);
             self.byte(primitive << 5 | 0x10 | hash_bits(row));
-            self.header.word_code()
+            self.header.bits_code()
         };
         self.signed(gap, width);
         self.signed(length, width);
@@ -179,77 +180,77 @@ impl<P: FnMut(&[u8])> Body<'_, P> {
         self.int(row.size);
     }
 
-    /// Writes a class.
+    /// Encodes a class.
     fn class(&mut self, row: &Row, refs: &[u64], name: &[u8]) {
         let gap = self.gap(row);
-        let (gap_code, ref_code) = (code(gap), widest(row.address, refs));
+        let (gap_code, ref_code) = (width_code(gap), refs_code(row.address, refs));
         let moved = if row.hash_kind == INT_HASH { 0x08 } else { 0 };
         self.byte(6);
         self.byte(gap_code << 6 | ref_code << 4 | moved);
         self.signed(gap, gap_code);
         self.int(row.size);
         self.hash(row);
-        self.word(row.class);
+        self.class_word(row.class);
         self.string(name);
         self.int(row.count);
-        self.references(row.address, refs, ref_code);
+        self.refs(row.address, refs, ref_code);
     }
 
-    /// The gap to a row from the one before, which it then is itself.
+    /// Returns the gap from the row before to this row, which becomes the row before.
     fn gap(&mut self, row: &Row) -> i64 {
-        let gap = fours(self.previous, row.address);
+        let gap = gap_between(self.previous, row.address);
         self.previous = row.address;
         gap
     }
 
-    /// Writes a row's hash, if it has a stored one.
+    /// Encodes a row's hash, if one is stored.
     fn hash(&mut self, row: &Row) {
         match row.hash_kind {
             INT_HASH => self.int(row.hash),
-            SHORT_HASH => (self.put)(&(row.hash as u16).to_be_bytes()),
+            SHORT_HASH => (self.sink)(&(row.hash as u16).to_be_bytes()),
             _ => {}
         }
     }
 
-    /// Writes references in a width that holds them all.
-    fn references(&mut self, from: u64, refs: &[u64], code: u8) {
+    /// Encodes references in a width that holds all of them.
+    fn refs(&mut self, from: u64, refs: &[u64], code: u8) {
         for &to in refs {
-            self.signed(fours(from, to), code);
+            self.signed(gap_between(from, to), code);
         }
     }
 
-    /// Writes a signed number that fits the width code.
+    /// Encodes a signed number in the width of the code, which must hold it.
     fn signed(&mut self, value: i64, code: u8) {
         match code {
-            0 => (self.put)(&(value as i8).to_be_bytes()),
-            1 => (self.put)(&(value as i16).to_be_bytes()),
-            2 => (self.put)(&(value as i32).to_be_bytes()),
-            _ => (self.put)(&value.to_be_bytes()),
+            0 => (self.sink)(&(value as i8).to_be_bytes()),
+            1 => (self.sink)(&(value as i16).to_be_bytes()),
+            2 => (self.sink)(&(value as i32).to_be_bytes()),
+            _ => (self.sink)(&value.to_be_bytes()),
         }
     }
 
-    /// Writes an unsigned word.
-    fn word(&mut self, value: u64) {
-        if self.header.width == 64 {
-            (self.put)(&value.to_be_bytes());
+    /// Encodes a class word: an unsigned number of W bits.
+    fn class_word(&mut self, value: u64) {
+        if self.header.bits == 64 {
+            (self.sink)(&value.to_be_bytes());
         } else {
             self.int(value);
         }
     }
 
-    /// Writes a number that fits an int.
+    /// Encodes a number in an int, which must hold it.
     fn int(&mut self, value: u64) {
-        (self.put)(&(value as u32).to_be_bytes());
+        (self.sink)(&(value as u32).to_be_bytes());
     }
 
-    /// Writes a byte.
+    /// Encodes a byte.
     fn byte(&mut self, value: u8) {
-        (self.put)(&[value]);
+        (self.sink)(&[value]);
     }
 
-    /// Writes a string of at most 65,535 bytes behind its length.
+    /// Encodes a string of at most 65,535 bytes: its length, then its bytes.
     fn string(&mut self, bytes: &[u8]) {
-        (self.put)(&(bytes.len() as u16).to_be_bytes());
-        (self.put)(bytes);
+        (self.sink)(&(bytes.len() as u16).to_be_bytes());
+        (self.sink)(bytes);
     }
 }

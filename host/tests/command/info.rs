@@ -1,12 +1,13 @@
-//! `phd info`.
+//! Tests of `phd info`.
 
-use crate::trial::{edited, example, Folder, BEGINNINGS, FIELDS};
+use crate::harness::{edited, example, Folder, FIELDS, STARTS};
+use phd_host::reply;
 
 #[test]
 fn a_whole_dump() {
     let folder = Folder::new("info-whole");
-    folder.put("a.phd", &example());
-    let ran = folder.phd(&["info", "a.phd"]).ended(0).quiet();
+    folder.write("a.phd", &example());
+    let ran = folder.phd(&["info", "a.phd"]).exits(0).no_stderr();
     let report = "\
 a.phd: whole (reply 0)
   All of it was read: 4 records, up to the end tag at byte 73 (0x49).
@@ -31,8 +32,8 @@ a.phd: whole (reply 0)
 #[test]
 fn the_same_dump_cut_off() {
     let folder = Folder::new("info-cut");
-    folder.put("a.phd", &example()[..65]);
-    let ran = folder.phd(&["info", "a.phd"]).ended(1).quiet();
+    folder.write("a.phd", &example()[..65]);
+    let ran = folder.phd(&["info", "a.phd"]).exits(1).no_stderr();
     let report = "\
 a.phd: cut off (reply 1)
   The file ends inside the record that begins at byte 64 (0x40), after 1 byte of it.
@@ -55,10 +56,10 @@ a.phd: cut off (reply 1)
     assert_eq!(ran.out(), report);
 }
 
-/// Where a file of so many bytes of the example ends, in words.
+/// Returns the message about where a file with the first `size` bytes of the example ends.
 fn ending(size: usize) -> String {
     let bytes = |count| if count == 1 { "byte" } else { "bytes" };
-    let begun = BEGINNINGS.iter().rfind(|beginning| **beginning <= size);
+    let begun = STARTS.iter().rfind(|start| **start <= size);
     match begun {
         None if size == 0 => "The file is empty.".into(),
         None => {
@@ -76,7 +77,7 @@ fn ending(size: usize) -> String {
     }
 }
 
-/// What is missing at least of the example's first bytes, in words.
+/// Returns the message about the missing bytes of a file with the first `size` bytes of the example.
 fn missing(size: usize) -> String {
     let mut end = 0;
     for width in FIELDS.concat() {
@@ -87,7 +88,7 @@ fn missing(size: usize) -> String {
     }
     let bytes = match end - size {
         1 => "1 byte of the dump is".into(),
-        lacks => format!("{lacks} bytes of the dump are"),
+        missing => format!("{missing} bytes of the dump are"),
     };
     format!("At least {bytes} missing: what the field at its end still lacked.")
 }
@@ -96,22 +97,22 @@ fn missing(size: usize) -> String {
 fn every_cut() {
     let folder = Folder::new("info-every-cut");
     for size in 0..74 {
-        folder.put("a.phd", &example()[..size]);
-        let ran = folder.phd(&["info", "a.phd"]).ended(1).quiet();
+        folder.write("a.phd", &example()[..size]);
+        let ran = folder.phd(&["info", "a.phd"]).exits(1).no_stderr();
         let (ending, missing) = (ending(size), missing(size));
         let first = format!("a.phd: cut off (reply 1)\n  {ending}\n  {missing}\n");
         assert!(ran.out().starts_with(&first), "{first}{}", ran.out());
-        let begun = BEGINNINGS.iter().filter(|place| **place <= size).count();
+        let begun = STARTS.iter().filter(|place| **place <= size).count();
         let before = match begun {
             0 => "  No record was read, and nothing is known of the header.\n".into(),
-            1 => "  No record stands before that place.\n".into(),
+            1 => "  No record lies before that place.\n".into(),
             2 => "  The 1 record before that place was read whole and is right.\n".into(),
             _ => format!(
                 "  The {} records before that place were read whole and are right.\n",
                 begun - 1
             ),
         };
-        let ran = ran.prints(&before);
+        let ran = ran.stdout_has(&before);
         assert_eq!(ran.out().contains("VM version"), begun > 0, "{}", ran.out());
     }
 }
@@ -119,12 +120,12 @@ fn every_cut() {
 #[test]
 fn bytes_after_the_end_tag() {
     let folder = Folder::new("info-after");
-    folder.put("one", &[&example()[..], b"x"].concat());
-    folder.put("more", &[&example()[..], &[3; 1234]].concat());
-    let ran = folder.phd(&["info", "one", "more"]).ended(0).quiet();
-    ran.prints("1 byte follows the end tag; it is no part of the dump.")
-        .prints("1,234 bytes follow the end tag; they are no part of the dump.")
-        .prints("file size           1,308 bytes");
+    folder.write("one", &[&example()[..], b"x"].concat());
+    folder.write("more", &[&example()[..], &[3; 1234]].concat());
+    let ran = folder.phd(&["info", "one", "more"]).exits(0).no_stderr();
+    ran.stdout_has("1 byte follows the end tag; it is no part of the dump.")
+        .stdout_has("1,234 bytes follow the end tag; they are no part of the dump.")
+        .stdout_has("file size           1,308 bytes");
 }
 
 #[test]
@@ -133,30 +134,30 @@ fn flags_and_vm_version() {
     let start = &example()[..24];
     let plain = [start, b"\0\0\0\x03\x01\x02\x02\x03"].concat();
     let empty = [start, b"\0\0\0\0\x01\x04\0\0\x02\x02\x03"].concat();
-    folder.put("plain", &plain).put("empty", &empty);
-    let ran = folder.phd(&["info", "plain"]).ended(0);
-    ran.prints("address width       64 bit\n")
-        .prints("all objects hashed  yes\n")
-        .prints("from OpenJ9         no\n")
-        .prints("VM version          not given\n")
-        .prints("All of it was read: 0 records, up to the end tag at byte 31 (0x1F).");
-    let ran = folder.phd(&["info", "empty"]).ended(0);
-    ran.prints("address width       32 bit\n")
-        .prints("all objects hashed  no\n")
-        .prints("VM version          \"\"\n");
+    folder.write("plain", &plain).write("empty", &empty);
+    let ran = folder.phd(&["info", "plain"]).exits(0);
+    ran.stdout_has("address width       64 bit\n")
+        .stdout_has("all objects hashed  yes\n")
+        .stdout_has("from OpenJ9         no\n")
+        .stdout_has("VM version          not given\n")
+        .stdout_has("All of it was read: 0 records, up to the end tag at byte 31 (0x1F).");
+    let ran = folder.phd(&["info", "empty"]).exits(0);
+    ran.stdout_has("address width       32 bit\n")
+        .stdout_has("all objects hashed  no\n")
+        .stdout_has("VM version          \"\"\n");
 }
 
-/// An object array of the class A at a byte's gap, with so many references, each to itself, and such a true length.
-fn array(references: u8, length: u32) -> Vec<u8> {
+/// Returns an object array of class A with `refs` references to itself and a true length.
+fn array(refs: u8, length: u32) -> Vec<u8> {
     let mut record = b"\x08\0\x04\0\0\x10\0\0\0\0".to_vec();
-    record.push(references);
-    record.extend(vec![0; references.into()]);
+    record.push(refs);
+    record.extend(vec![0; refs.into()]);
     record.extend(b"\0\0\0\x05");
     record.extend(length.to_be_bytes());
     record
 }
 
-/// The example with records more.
+/// Returns the example with more records.
 fn with(records: &[Vec<u8>]) -> Vec<u8> {
     [&example()[..73], &records.concat(), b"\x03"].concat()
 }
@@ -164,16 +165,16 @@ fn with(records: &[Vec<u8>]) -> Vec<u8> {
 #[test]
 fn every_kind_of_record() {
     let folder = Folder::new("info-kinds");
-    folder.put("a.phd", &with(&[array(2, 1_000_002)]));
-    let ran = folder.phd(&["info", "a.phd"]).ended(0);
-    ran.prints("  classes                        1               0               0\n")
-        .prints("  objects                        2               1               0\n")
-        .prints("  object arrays                  1               2       1,000,000\n")
-        .prints("  primitive arrays               1               0               0\n")
-        .prints("  all                            5               3       1,000,000\n");
+    folder.write("a.phd", &with(&[array(2, 1_000_002)]));
+    let ran = folder.phd(&["info", "a.phd"]).exits(0);
+    ran.stdout_has("  classes                        1               0               0\n")
+        .stdout_has("  objects                        2               1               0\n")
+        .stdout_has("  object arrays                  1               2       1,000,000\n")
+        .stdout_has("  primitive arrays               1               0               0\n")
+        .stdout_has("  all                            5               3       1,000,000\n");
 }
 
-/// Arrays without nulls, with some, with nothing else, and several; what `info` says of them, and the figures of the text's end.
+/// Arrays without nulls, with some, with only nulls, and several of them: the counts of `info` and of the end of the text.
 #[test]
 fn nulls_in_info_and_in_the_text() {
     let folder = Folder::new("info-nulls");
@@ -189,115 +190,142 @@ fn nulls_in_info_and_in_the_text() {
             [3, 2, 3 * u64::from(most) - 2],
         ),
     ];
-    for (records, [arrays, references, nulls]) in trials {
-        folder.put("a.phd", &with(&records));
-        let ran = folder.phd(&["info", "a.phd"]).ended(0).quiet();
-        let said = |name: &str| -> Vec<u64> {
-            let told = ran.out().lines().map(str::trim);
-            let line = told.filter_map(|line| line.strip_prefix(name)).next();
+    for (records, [arrays, refs, nulls]) in trials {
+        folder.write("a.phd", &with(&records));
+        let ran = folder.phd(&["info", "a.phd"]).exits(0).no_stderr();
+        let numbers = |name: &str| -> Vec<u64> {
+            let lines = ran.out().lines().map(str::trim);
+            let line = lines.filter_map(|line| line.strip_prefix(name)).next();
             let numbers = line.unwrap().replace(',', "");
             let numbers = numbers.split_whitespace().map(str::parse);
             numbers.collect::<Result<_, _>>().unwrap()
         };
-        let (rows, listed) = (arrays + 4, references + 1);
-        assert_eq!(said("object arrays "), [arrays, references, nulls]);
-        assert_eq!(said("all "), [rows, listed, nulls]);
+        let (rows, listed) = (arrays + 4, refs + 1);
+        assert_eq!(numbers("object arrays "), [arrays, refs, nulls]);
+        assert_eq!(numbers("all "), [rows, listed, nulls]);
         let all = listed + nulls;
         let last = format!("\n// EOF:  Total 'Objects',Refs(null) : {rows},{all}({nulls})\n");
-        let ran = folder.phd(&["text", "a.phd"]).ended(0).quiet();
+        let ran = folder.phd(&["text", "a.phd"]).exits(0).no_stderr();
         assert!(ran.out().ends_with(&last), "{last}{}", ran.out());
     }
 }
 
-/// The example with an error in its header: other bytes at a place, the reply, and the words for it.
+/// Errors in the header of the example: a place, other bytes there, the reply, and the message.
 const BAD_HEADERS: [(usize, &[u8], u64, &str); 5] = [
     (
         0,
         b"xx",
-        3,
+        reply::NO_DUMP,
         "The file does not begin with the words 'portable",
     ),
-    (23, b"\x07", 4, "The version in the header is not 6"),
-    (27, b"\x0C", 5, "The header has a flag that no one knows."),
-    (28, b"\x05", 6, "The header has a byte that is not allowed"),
-    (32, b"\x1F", 7, "The VM version in the header has a byte"),
+    (
+        23,
+        b"\x07",
+        reply::BAD_VERSION,
+        "The version in the header is not 6",
+    ),
+    (
+        27,
+        b"\x0C",
+        reply::BAD_FLAG,
+        "The header has a flag that no one knows.",
+    ),
+    (
+        28,
+        b"\x05",
+        reply::BAD_TAG,
+        "The header has a byte that is not allowed",
+    ),
+    (
+        32,
+        b"\x1F",
+        reply::BAD_STRING,
+        "The VM version in the header has a byte",
+    ),
 ];
 
-/// The same for a record: the reply's place comes before its words.
+/// Errors in a record of the example: a place, other bytes there, the reply, its place, and the message.
 const BAD_RECORDS: [(usize, &[u8], u64, usize, &str); 5] = [
     (
         64,
         b"\x05",
-        6,
+        reply::BAD_TAG,
         64,
         "begins with a byte that no record begins",
     ),
     (
         52,
         b"\x20",
-        7,
+        reply::BAD_STRING,
         38,
         "is a class without a name, or with a byte",
     ),
     (
         40,
         b"\x80\0",
-        8,
+        reply::OUT_OF_RANGE,
         38,
         "has an address or a reference outside",
     ),
     (
         64,
         b"\xA0",
-        10,
+        reply::EMPTY_SLOT,
         64,
         "names its class by a slot that nothing",
     ),
-    (53, b"\x80", 12, 38, "has a count, a length or a class size"),
+    (
+        53,
+        b"\x80",
+        reply::BAD_COUNT,
+        38,
+        "has a count, a length or a class size",
+    ),
 ];
 
-fn refused(folder: &Folder, dump: &[u8], reply: u64, words: &str) {
-    folder.put("a.phd", dump);
-    let ran = folder.phd(&["info", "a.phd"]).ended(1).quiet();
-    let first = format!("a.phd: refused (reply {reply})\n  {words}");
+/// Checks the report about a dump that is refused.
+fn refused(folder: &Folder, dump: &[u8], reply: u64, message: &str) {
+    folder.write("a.phd", dump);
+    let ran = folder.phd(&["info", "a.phd"]).exits(1).no_stderr();
+    let first = format!("a.phd: refused (reply {reply})\n  {message}");
     assert!(ran.out().starts_with(&first), "{first}\n{}", ran.out());
 }
 
 #[test]
 fn every_refusal() {
     let folder = Folder::new("info-refused");
-    for (place, bytes, reply, words) in BAD_HEADERS {
-        refused(&folder, &edited(place, bytes), reply, words);
+    for (place, bytes, reply, message) in BAD_HEADERS {
+        refused(&folder, &edited(place, bytes), reply, message);
     }
-    for (place, bytes, reply, tag, words) in BAD_RECORDS {
-        let words = format!("The record at byte {tag} (0x{tag:X}) {words}");
-        refused(&folder, &edited(place, bytes), reply, &words);
+    for (place, bytes, reply, tag, message) in BAD_RECORDS {
+        let message = format!("The record at byte {tag} (0x{tag:X}) {message}");
+        refused(&folder, &edited(place, bytes), reply, &message);
     }
     let null = b"\x49\x04\0\0\x10\0\xFB\xFC";
     let null = [&example()[..57], &null[..], &example()[64..]].concat();
-    let words = "The record at byte 57 (0x39) has a reference that is null.\n  \
+    let message = "The record at byte 57 (0x39) has a reference that is null.\n  \
                  The 1 record before that place was read whole and is right. Nothing after it was read.\n";
-    refused(&folder, &null, 9, words);
+    refused(&folder, &null, reply::NULL_REF, message);
     let mut hashed = edited(27, b"\x06");
     hashed[39] = 0x48;
-    let words = "The record at byte 38 (0x26) has hash bits of its own";
-    refused(&folder, &hashed, 11, words);
+    let message = "The record at byte 38 (0x26) has hash bits of its own";
+    refused(&folder, &hashed, reply::HASH_BITS, message);
 }
 
 #[test]
 fn several_files_and_the_worst_status() {
     let folder = Folder::new("info-several");
     folder
-        .put("whole", &example())
-        .put("cut", &example()[..64])
-        .put("other", &example());
-    folder.phd(&["info", "whole", "other"]).ended(0).quiet();
-    let ran = folder.phd(&["info", "whole", "cut", "other"]).ended(1);
-    ran.prints("whole: whole (reply 0)\n")
-        .prints("\n\ncut: cut off (reply 1)\n")
-        .prints("\n\nother: whole (reply 0)\n");
-    let ran = folder.phd(&["info", "none", "cut", "whole"]).ended(2);
-    ran.says("phd: none: no such file\n")
-        .prints("cut: cut off (reply 1)\n")
-        .prints("\n\nwhole: whole (reply 0)\n");
+        .write("whole", &example())
+        .write("cut", &example()[..64])
+        .write("other", &example());
+    folder.phd(&["info", "whole", "other"]).exits(0).no_stderr();
+    let ran = folder.phd(&["info", "whole", "cut", "other"]).exits(1);
+    ran.stdout_has("whole: whole (reply 0)\n")
+        .stdout_has("\n\ncut: cut off (reply 1)\n")
+        .stdout_has("\n\nother: whole (reply 0)\n");
+    let ran = folder.phd(&["info", "none", "cut", "whole"]).exits(2);
+    ran.stderr_has("phd: none: no such file\n")
+        .stdout_has("cut: cut off (reply 1)\n")
+        .stdout_has("\n\nwhole: whole (reply 0)\n");
 }

@@ -1,11 +1,11 @@
-//! Dumps that want more room than the first guess, and dumps that want more than there is.
+//! Tests of dumps that need larger tables than the first guess, and of dumps that need more memory than there is.
 
-use crate::trial::{example, Folder, Ran, PHD, TEXT};
+use crate::harness::{example, Folder, Ran, PHD, TEXT};
 use std::fs::File;
 use std::io::Write;
 use std::process::Stdio;
 
-/// The example up to its second record, and then so many objects of two bytes each.
+/// Returns the example up to its second record, followed by `count` objects of two bytes each.
 pub fn many_records(count: usize) -> Vec<u8> {
     let mut dump = example()[..64].to_vec();
     dump.extend(b"\x80\x01".repeat(count));
@@ -17,15 +17,15 @@ pub fn many_records(count: usize) -> Vec<u8> {
 fn many_short_records() {
     let folder = Folder::new("large-records");
     let dump = many_records(200_000);
-    folder.put("a", &dump);
-    let ran = folder.phd(&["info", "a"]).ended(0).quiet();
-    ran.prints("a: whole (reply 0)\n")
-        .prints("  objects                  200,001               1               0\n")
-        .prints("  all                      200,002               1               0\n")
-        .prints("file size           400,065 bytes\n");
-    folder.phd(&["copy", "a", "b"]).ended(0).quiet();
-    assert!(folder.get("b") == dump);
-    let ran = folder.phd(&["text", "a"]).ended(0).quiet();
+    folder.write("a", &dump);
+    let ran = folder.phd(&["info", "a"]).exits(0).no_stderr();
+    ran.stdout_has("a: whole (reply 0)\n")
+        .stdout_has("  objects                  200,001               1               0\n")
+        .stdout_has("  all                      200,002               1               0\n")
+        .stdout_has("file size           400,065 bytes\n");
+    folder.phd(&["copy", "a", "b"]).exits(0).no_stderr();
+    assert!(folder.read("b") == dump);
+    let ran = folder.phd(&["text", "a"]).exits(0).no_stderr();
     assert_eq!(ran.out().lines().count(), 3 + 2 * 200_002);
     let last = "\n// EOF:  Total 'Objects',Refs(null) : 200002,1(0)\n";
     assert!(ran.out().ends_with(last));
@@ -35,19 +35,19 @@ fn many_short_records() {
 fn many_references() {
     let folder = Folder::new("large-references");
     let mut dump = example()[..64].to_vec();
-    // An object array of 300,000 references, a byte each, that all lead to itself, and then objects of three.
+    // An object array with 300,000 references of one byte each, all to itself, then objects with three references.
     dump.extend(b"\x08\0\x04\0\0\x10\0\0\x04\x93\xE0");
     dump.extend(vec![0; 300_000]);
     dump.extend(b"\0\0\0\x01\0\x04\x93\xE0");
     dump.extend(b"\x98\x01\0\x01\x02".repeat(10_000));
     dump.push(3);
-    folder.put("a", &dump);
-    let ran = folder.phd(&["info", "a"]).ended(0).quiet();
-    ran.prints("  objects                   10,001          30,001               0\n")
-        .prints("  object arrays                  1         300,000               0\n");
-    folder.phd(&["copy", "a", "b"]).ended(0).quiet();
-    assert!(folder.get("b") == dump);
-    let ran = folder.phd(&["text", "a"]).ended(0).quiet();
+    folder.write("a", &dump);
+    let ran = folder.phd(&["info", "a"]).exits(0).no_stderr();
+    ran.stdout_has("  objects                   10,001          30,001               0\n")
+        .stdout_has("  object arrays                  1         300,000               0\n");
+    folder.phd(&["copy", "a", "b"]).exits(0).no_stderr();
+    assert!(folder.read("b") == dump);
+    let ran = folder.phd(&["text", "a"]).exits(0).no_stderr();
     assert!(ran.out().ends_with(" : 10003,330001(0)\n"));
 }
 
@@ -55,20 +55,20 @@ fn many_references() {
 fn a_cut_far_inside() {
     let folder = Folder::new("large-cut");
     let dump = many_records(200_000);
-    folder.put("a", &dump[..300_001]);
-    let ran = folder.phd(&["info", "a"]).ended(1).quiet();
-    ran.prints("begins at byte 300,000 (0x493E0), after 1 byte of it.")
-        .prints("The 149,970 records before that place");
-    folder.phd(&["copy", "a", "b"]).ended(1);
-    assert!(folder.get("b") == [&dump[..300_000], b"\x03"].concat());
+    folder.write("a", &dump[..300_001]);
+    let ran = folder.phd(&["info", "a"]).exits(1).no_stderr();
+    ran.stdout_has("begins at byte 300,000 (0x493E0), after 1 byte of it.")
+        .stdout_has("The 149,970 records before that place");
+    folder.phd(&["copy", "a", "b"]).exits(1);
+    assert!(folder.read("b") == [&dump[..300_000], b"\x03"].concat());
 }
 
-/// The name of the class of `long_named`.
+/// Returns the class name in `long_named`.
 fn long_name() -> String {
     "N".repeat(60_000)
 }
 
-/// The example's class with a long name, its first object, and then so many objects of two bytes each.
+/// Returns the example's class with a long name, its first object, and `count` objects of two bytes each.
 fn long_named(count: usize) -> Vec<u8> {
     let mut dump = example()[..50].to_vec();
     dump.extend(60_000u16.to_be_bytes());
@@ -82,25 +82,27 @@ fn long_named(count: usize) -> Vec<u8> {
 #[test]
 fn a_text_much_longer_than_its_dump() {
     let folder = Folder::new("large-text");
-    folder.put("a", &long_named(300));
-    let ran = folder.phd(&["text", "a"]).ended(0).quiet();
+    folder.write("a", &long_named(300));
+    let ran = folder.phd(&["text", "a"]).exits(0).no_stderr();
     assert_eq!(ran.out().matches(&long_name()).count(), 302);
     assert!(ran.out().ends_with(" : 302,1(0)\n"));
 }
 
 #[test]
-fn just_as_much_memory_as_the_output_takes() {
+fn exactly_as_much_memory_as_the_output_needs() {
     let folder = Folder::new("large-just");
-    folder.put("a", &long_named(20_000));
-    // The name 20,002 times; 17 bytes of version, 31 and 43 with the first two records, 32 with each other, 128 of trailers.
+    folder.write("a", &long_named(20_000));
+    // The name 20,002 times, 17 bytes of version, 31 and 43 more for the first two records, 32 for each other, 128 of trailers.
     let run = "ulimit -v 400000; \"$PHD\" text a -o out";
-    let ran = folder.shell(run).ended(2).prints_nothing();
-    ran.says("phd: a: not enough memory for the output: 1,200,760,219 bytes were asked for\n");
+    let ran = folder.shell(run).exits(2).no_stdout();
+    ran.stderr_has(
+        "phd: a: not enough memory for the output: 1,200,760,219 bytes were asked for\n",
+    );
     assert_eq!(folder.names(), ["a"]);
 }
 
-/// The example's class, and then objects that name their classes by slots which the copy fills otherwise: it takes the fifth
-/// object short, fills no slot by it, and so must name four of the later classes in full, where the dump has slots.
+/// Returns the example's class and objects that use the class cache better than a copy does: the copy writes the fifth object in
+/// the short form, which fills no slot, so it must write four of the later classes in full where this dump has slots.
 fn slots_used_well() -> Vec<u8> {
     let mut dump = example()[..57].to_vec();
     let full = |class: u8| vec![0x40, 1, 0, 0, class, 0];
@@ -120,19 +122,19 @@ fn slots_used_well() -> Vec<u8> {
 fn a_copy_longer_than_its_dump() {
     let folder = Folder::new("large-copy");
     let dump = [&slots_used_well()[..], b"\x03"].concat();
-    folder.put("a", &dump);
-    folder.phd(&["copy", "a", "b"]).ended(0).quiet();
-    assert_eq!(folder.get("b").len(), dump.len() + 4 * 4 - 4);
-    folder.phd(&["copy", "b", "c"]).ended(0).quiet();
-    assert_eq!(folder.get("c"), folder.get("b"));
-    let ran = folder.phd(&["info", "a", "b"]).ended(0).quiet();
+    folder.write("a", &dump);
+    folder.phd(&["copy", "a", "b"]).exits(0).no_stderr();
+    assert_eq!(folder.read("b").len(), dump.len() + 4 * 4 - 4);
+    folder.phd(&["copy", "b", "c"]).exits(0).no_stderr();
+    assert_eq!(folder.read("c"), folder.read("b"));
+    let ran = folder.phd(&["info", "a", "b"]).exits(0).no_stderr();
     assert_eq!(
         ran.out().matches("All of it was read: 14 records").count(),
         2
     );
 }
 
-/// A class whose name has so many bytes.
+/// Returns a class whose name has `name` bytes.
 fn class(name: usize) -> Vec<u8> {
     let length = (name as u16).to_be_bytes();
     let start = b"\x06\0\x01\0\0\0\x10\0\0\0\0";
@@ -142,8 +144,8 @@ fn class(name: usize) -> Vec<u8> {
 #[test]
 fn a_copy_over_the_limit() {
     let folder = Folder::new("large-over");
-    folder.put("old", b"as it was");
-    // A dump of exactly as many bytes as it may have, whose copy has more.
+    folder.write("old", b"as it was");
+    // A dump that is exactly as long as the limit; its copy is longer.
     let (start, long) = (slots_used_well(), class(60_000));
     let rest = 1_073_741_824 - start.len() - 1;
     let last = [&class(rest % long.len() - class(0).len()), &b"\x03"[..]].concat();
@@ -157,28 +159,28 @@ fn a_copy_over_the_limit() {
     }
     input.write_all(&last).unwrap();
     drop(input);
-    let ran = Ran::of(child.wait_with_output().unwrap()).ended(1);
-    let said = "phd: standard input: no dump can be written of it (reply 17): \
+    let ran = Ran::of(child.wait_with_output().unwrap()).exits(1);
+    let message = "phd: standard input: no dump can be written of it (reply 17): \
                 it would have more than 1,073,741,824 bytes\n";
-    assert_eq!(ran.err, said);
-    assert_eq!(folder.get("old"), b"as it was");
+    assert_eq!(ran.err, message);
+    assert_eq!(folder.read("old"), b"as it was");
     assert_eq!(folder.names(), ["old"]);
 }
 
-/// A file of so many bytes that take no room on the disk: an example, and zeroes behind its end tag or in its place.
+/// Writes a sparse file of `size` bytes: `start`, followed by zeroes.
 fn long_file(folder: &Folder, start: &[u8], size: u64) {
-    folder.put("a", start);
+    folder.write("a", start);
     let file = File::options().write(true).open(folder.0.join("a"));
     file.unwrap().set_len(size).unwrap();
 }
 
 #[test]
-fn no_progress_line_where_no_one_looks() {
+fn no_progress_line_without_a_terminal() {
     let folder = Folder::new("large-quiet");
     long_file(&folder, &example(), 20_000_074);
-    let ran = folder.phd(&["info", "a"]).ended(0).quiet();
-    ran.prints("20,000,000 bytes follow the end tag;");
-    let ran = folder.phd(&["text", "a"]).ended(0).quiet();
+    let ran = folder.phd(&["info", "a"]).exits(0).no_stderr();
+    ran.stdout_has("20,000,000 bytes follow the end tag;");
+    let ran = folder.phd(&["text", "a"]).exits(0).no_stderr();
     assert_eq!(ran.out(), TEXT);
 }
 
@@ -186,13 +188,13 @@ fn no_progress_line_where_no_one_looks() {
 fn over_the_limit() {
     let folder = Folder::new("large-limit");
     long_file(&folder, &example(), 1_073_741_825);
-    let ran = folder.phd(&["info", "a"]).ended(1).quiet();
-    ran.prints("a: refused (reply 2)\n")
-        .prints("The file has more than 1,073,741,824 bytes")
-        .prints("file size           more than 1,073,741,824 bytes\n");
-    // A file without an end is read no further than over the limit.
-    let ran = folder.shell("timeout 60 \"$PHD\" info /dev/zero").ended(1);
-    ran.prints("/dev/zero: refused (reply 2)\n");
+    let ran = folder.phd(&["info", "a"]).exits(1).no_stderr();
+    ran.stdout_has("a: refused (reply 2)\n")
+        .stdout_has("The file has more than 1,073,741,824 bytes")
+        .stdout_has("file size           more than 1,073,741,824 bytes\n");
+    // A file without an end is read only until it is over the limit.
+    let ran = folder.shell("timeout 60 \"$PHD\" info /dev/zero").exits(1);
+    ran.stdout_has("/dev/zero: refused (reply 2)\n");
 }
 
 #[test]
@@ -200,14 +202,16 @@ fn no_memory() {
     let folder = Folder::new("large-memory");
     long_file(&folder, &example(), 100_000_000);
     let run = "ulimit -v 400000; \"$PHD\" copy a out";
-    let ran = folder.shell(run).ended(2).prints_nothing();
-    ran.says("phd: a: not enough memory for its records: ")
-        .says(" bytes were asked for\n");
+    let ran = folder.shell(run).exits(2).no_stdout();
+    ran.stderr_has("phd: a: not enough memory for its records: ")
+        .stderr_has(" bytes were asked for\n");
     let run = "ulimit -v 90000; \"$PHD\" info a";
-    let ran = folder.shell(run).ended(2).prints_nothing();
-    ran.says("phd: a: not enough memory to hold the dump: 100,000,000 bytes were asked for\n");
+    let ran = folder.shell(run).exits(2).no_stdout();
+    ran.stderr_has(
+        "phd: a: not enough memory to hold the dump: 100,000,000 bytes were asked for\n",
+    );
     let run = "ulimit -v 90000; \"$PHD\" info - <a";
-    let ran = folder.shell(run).ended(2).prints_nothing();
-    ran.says("phd: standard input: not enough memory to hold the dump: ");
+    let ran = folder.shell(run).exits(2).no_stdout();
+    ran.stderr_has("phd: standard input: not enough memory to hold the dump: ");
     assert_eq!(folder.names(), ["a"]);
 }

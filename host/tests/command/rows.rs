@@ -1,6 +1,6 @@
-//! `phd info --rows`.
+//! Tests of `phd info --rows`.
 
-use crate::trial::{edited, example, Folder, BEGINNINGS, HEADER};
+use crate::harness::{edited, example, Folder, HEADER, STARTS};
 
 /// The table's first line, and the lines of the example's rows.
 const HEADING: &str = "         row  offset      kind             address     class       hash             first        refs        size      length  name or type\n";
@@ -11,12 +11,12 @@ const ROWS: [&str; 4] = [
     "           3  0x00000042  primitive array  0x00001030  0x00000000  none                 1           0           6           3  [C\n",
 ];
 
-/// What comes behind the report that is printed without them.
+/// Returns what `info --rows` prints after the report of `info`.
 fn rows_of(folder: &Folder, dump: &[u8], status: i32) -> String {
-    folder.put("a.phd", dump);
-    let report = folder.phd(&["info", "a.phd"]).ended(status).quiet();
-    let words = [&["info", "--rows", "a.phd"], &["info", "a.phd", "--rows"]];
-    let [one, two] = words.map(|words| folder.phd(words).ended(status).quiet());
+    folder.write("a.phd", dump);
+    let report = folder.phd(&["info", "a.phd"]).exits(status).no_stderr();
+    let orders = [&["info", "--rows", "a.phd"], &["info", "a.phd", "--rows"]];
+    let [one, two] = orders.map(|arguments| folder.phd(arguments).exits(status).no_stderr());
     assert_eq!(one.out(), two.out());
     let rows = one.out().strip_prefix(report.out());
     rows.expect("the report comes first").to_string()
@@ -34,10 +34,7 @@ fn every_cut() {
     let folder = Folder::new("rows-every-cut");
     for size in 0..74 {
         let rows = rows_of(&folder, &example()[..size], 1);
-        let whole = BEGINNINGS[1..]
-            .iter()
-            .filter(|place| **place <= size)
-            .count();
+        let whole = STARTS[1..].iter().filter(|place| **place <= size).count();
         let wanted = match whole {
             0 => "\n  No row was read.\n".into(),
             _ => format!("\n{HEADING}{}", ROWS[..whole].concat()),
@@ -55,7 +52,7 @@ fn a_refused_dump() {
     assert_eq!(rows, "\n  No row was read.\n");
 }
 
-/// Wide addresses, stored hashes and an object array.
+/// Tests 64-bit addresses, stored hashes and an object array.
 #[test]
 fn other_rows() {
     let folder = Folder::new("rows-other");
@@ -80,19 +77,22 @@ fn other_rows() {
 #[test]
 fn several_files() {
     let folder = Folder::new("rows-several");
-    folder.put("a", &example()).put("b", &example()[..65]);
-    let ran = folder.phd(&["info", "--rows", "a", "b"]).ended(1).quiet();
+    folder.write("a", &example()).write("b", &example()[..65]);
+    let ran = folder
+        .phd(&["info", "--rows", "a", "b"])
+        .exits(1)
+        .no_stderr();
     let all = format!("\n{HEADING}{}\nb: cut off", ROWS.concat());
-    ran.prints(&all);
+    ran.stdout_has(&all);
 }
 
-/// Rows that take many parts to print are printed whole; and no one need read them all.
+/// Rows that are printed in many parts are complete, and the reader may stop early.
 #[test]
 fn many_rows() {
     let folder = Folder::new("rows-many");
     let objects = b"\x40\x04\0\0\x10\0".repeat(5_000);
-    folder.put("a", &[HEADER, &objects, b"\x03"].concat());
-    let ran = folder.phd(&["info", "--rows", "a"]).ended(0).quiet();
+    folder.write("a", &[HEADER, &objects, b"\x03"].concat());
+    let ran = folder.phd(&["info", "--rows", "a"]).exits(0).no_stderr();
     let table = ran.out().split("length  name or type\n").nth(1);
     let lines: Vec<&str> = table.expect("a table").lines().collect();
     assert_eq!(lines.len(), 5_000);
@@ -102,5 +102,5 @@ fn many_rows() {
         assert!(line.starts_with(&wanted), "{line}");
     }
     let ran = folder.shell("\"$PHD\" info --rows a | head -n 20 | tail -n 1");
-    ran.ended(0).quiet().prints("0x000000");
+    ran.exits(0).no_stderr().stdout_has("0x000000");
 }

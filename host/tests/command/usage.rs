@@ -1,20 +1,20 @@
-//! Options, wrong command lines, and files that cannot be read.
+//! Tests of options, wrong command lines, and files that cannot be read.
 
-use crate::trial::{example, Folder, PHD, TEXT};
+use crate::harness::{example, Folder, PHD, TEXT};
 
 #[test]
 fn help_and_version() {
     let folder = Folder::new("usage-help");
-    let help = folder.phd(&["--help"]).ended(0).quiet();
-    for words in [&["-h"][..], &["help"], &["info", "--help"], &["copy", "-h"]] {
-        assert_eq!(folder.phd(words).ended(0).quiet().out(), help.out());
+    let help = folder.phd(&["--help"]).exits(0).no_stderr();
+    for arguments in [&["-h"][..], &["help"], &["info", "--help"], &["copy", "-h"]] {
+        assert_eq!(folder.phd(arguments).exits(0).no_stderr().out(), help.out());
     }
-    help.prints("phd info FILE..")
-        .prints("phd info --rows FILE..")
-        .prints("phd text FILE [-o OUT]")
-        .prints("phd copy FILE OUT")
-        .prints("Exit status: 0 done; 1 ");
-    let version = folder.phd(&["--version"]).ended(0).quiet();
+    help.stdout_has("phd info FILE..")
+        .stdout_has("phd info --rows FILE..")
+        .stdout_has("phd text FILE [-o OUT]")
+        .stdout_has("phd copy FILE OUT")
+        .stdout_has("Exit status: 0 done; 1 ");
+    let version = folder.phd(&["--version"]).exits(0).no_stderr();
     assert_eq!(
         version.out(),
         concat!("phd ", env!("CARGO_PKG_VERSION"), "\n")
@@ -24,7 +24,7 @@ fn help_and_version() {
 #[test]
 fn wrong_command_lines() {
     let folder = Folder::new("usage-wrong");
-    folder.put("a", &example());
+    folder.write("a", &example());
     let wrong: [(&[&str], &str); 16] = [
         (&[], "no command is given"),
         (&["--"], "no command is given"),
@@ -46,8 +46,12 @@ fn wrong_command_lines() {
             "--rows belongs to 'info' alone",
         ),
     ];
-    for (words, complaint) in wrong {
-        let ran = folder.phd(words).ended(2).prints_nothing().says(complaint);
+    for (arguments, message) in wrong {
+        let ran = folder
+            .phd(arguments)
+            .exits(2)
+            .no_stdout()
+            .stderr_has(message);
         assert!(ran.err.starts_with("phd: ") && ran.err.contains("phd --help"));
     }
     assert_eq!(folder.names(), ["a"]);
@@ -56,27 +60,40 @@ fn wrong_command_lines() {
 #[test]
 fn names_after_two_dashes() {
     let folder = Folder::new("usage-dashes");
-    folder.put("-x", &example());
-    let ran = folder.phd(&["info", "--", "-x"]).ended(0).quiet();
-    ran.prints("-x: whole (reply 0)\n");
-    folder.phd(&["copy", "--", "-x", "-y"]).ended(0).quiet();
-    assert_eq!(folder.get("-y"), example());
+    folder.write("-x", &example());
+    let ran = folder.phd(&["info", "--", "-x"]).exits(0).no_stderr();
+    ran.stdout_has("-x: whole (reply 0)\n");
+    folder.phd(&["copy", "--", "-x", "-y"]).exits(0).no_stderr();
+    assert_eq!(folder.read("-y"), example());
 }
 
 #[test]
 fn standard_input_and_output() {
     let folder = Folder::new("usage-standard");
-    let ran = folder.fed(&["info", "-"], &example()).ended(0).quiet();
-    ran.prints("standard input: whole (reply 0)\n")
-        .prints("file size           74 bytes\n");
-    let ran = folder.fed(&["text", "-"], &example()).ended(0).quiet();
+    let ran = folder
+        .phd_with_input(&["info", "-"], &example())
+        .exits(0)
+        .no_stderr();
+    ran.stdout_has("standard input: whole (reply 0)\n")
+        .stdout_has("file size           74 bytes\n");
+    let ran = folder
+        .phd_with_input(&["text", "-"], &example())
+        .exits(0)
+        .no_stderr();
     assert_eq!(ran.out(), TEXT);
-    let ran = folder.fed(&["text", "-", "-o", "-"], &example()).ended(0);
-    assert_eq!(ran.quiet().out(), TEXT);
-    let ran = folder.fed(&["copy", "-", "-"], &example()).ended(0).quiet();
+    let ran = folder
+        .phd_with_input(&["text", "-", "-o", "-"], &example())
+        .exits(0);
+    assert_eq!(ran.no_stderr().out(), TEXT);
+    let ran = folder
+        .phd_with_input(&["copy", "-", "-"], &example())
+        .exits(0)
+        .no_stderr();
     assert_eq!(ran.out, example());
-    let ran = folder.fed(&["copy", "-", "-"], &example()[..64]).ended(1);
-    let ran = ran.says("phd: standard input: cut off (reply 1)");
+    let ran = folder
+        .phd_with_input(&["copy", "-", "-"], &example()[..64])
+        .exits(1);
+    let ran = ran.stderr_has("phd: standard input: cut off (reply 1)");
     assert_eq!(ran.out, [&example()[..64], b"\x03"].concat());
     assert_eq!(folder.names(), [""; 0]);
 }
@@ -85,20 +102,20 @@ fn standard_input_and_output() {
 fn files_that_cannot_be_read() {
     let folder = Folder::new("usage-unreadable");
     std::fs::create_dir(folder.0.join("folder")).unwrap();
-    for words in [
+    for arguments in [
         &["info", "none"][..],
         &["text", "none"],
         &["copy", "none", "out"],
     ] {
-        let ran = folder.phd(words).ended(2).prints_nothing();
+        let ran = folder.phd(arguments).exits(2).no_stdout();
         assert_eq!(ran.err, "phd: none: no such file\n");
     }
-    for words in [
+    for arguments in [
         &["info", "folder"][..],
         &["text", "folder"],
         &["copy", "folder", "out"],
     ] {
-        let ran = folder.phd(words).ended(2).prints_nothing();
+        let ran = folder.phd(arguments).exits(2).no_stdout();
         assert_eq!(ran.err, "phd: folder: is a directory, not a dump\n");
     }
     assert_eq!(folder.names(), ["folder"]);

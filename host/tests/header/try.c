@@ -1,54 +1,55 @@
-/* Reads the dump on standard input into tables for the most that so many bytes give, asks how many bytes it takes anew and as text,
- * writes it into just so many, all through include/phd.h, and prints what each call said and the text. */
+/* Calls every function of include/phd.h: reads the dump on standard input into tables of the largest size that it can need, and
+ * writes it again and as text, each into a buffer of exactly the size that a size query returned. Prints the answer of each call,
+ * and the text. */
 #include <phd.h>
 #include <stdio.h>
 
-enum { ROOM = 1 << 16 };
+enum { CAPACITY = 1 << 16 };
 
-static uint8_t dump[ROOM], again[ROOM], text[ROOM];
-static uint64_t rows[ROOM], refs[ROOM], facts[16];
+static uint8_t dump[CAPACITY], copy[CAPACITY], text[CAPACITY];
+static uint64_t rows[CAPACITY], refs[CAPACITY], answer[16];
 
-static void say(const char *call, uint64_t reply) {
+static void print_answer(const char *call, uint64_t reply) {
     printf("%s %d", call, (int)reply);
     for (int i = 0; i < 16; i++)
-        printf(" %llu", (unsigned long long)facts[i]);
+        printf(" %llu", (unsigned long long)answer[i]);
     printf("\n");
 }
 
-static void say_most(size_t size) {
-    size_t most_rows = PHD_MOST_ROWS(size), most_refs = PHD_MOST_REFERENCES(size);
-    printf("most of %d: %d %d\n", (int)size, (int)most_rows, (int)most_refs);
+static void print_max(size_t size) {
+    size_t max_rows = PHD_MAX_ROWS(size), max_refs = PHD_MAX_REFS(size);
+    printf("max of %d: %d %d\n", (int)size, (int)max_rows, (int)max_refs);
 }
 
 int main(void) {
-    size_t size = fread(dump, 1, ROOM, stdin);
+    size_t size = fread(dump, 1, CAPACITY, stdin);
     for (size_t n = 30; n < 36; n++)
-        say_most(n);
-    say_most(size);
-    size_t most_rows = PHD_MOST_ROWS(size) * PHD_ROW, most_refs = PHD_MOST_REFERENCES(size);
-    if (most_rows > ROOM || most_refs > ROOM)
+        print_max(n);
+    print_max(size);
+    size_t max_numbers = PHD_MAX_ROWS(size) * PHD_ROW_LEN, max_refs = PHD_MAX_REFS(size);
+    if (max_numbers > CAPACITY || max_refs > CAPACITY)
         return 5;
-    uint64_t read = phd_read(dump, size, rows, most_rows, refs, most_refs, facts);
-    say("read", read);
-    if (read != PHD_DONE && read != PHD_CUT)
+    uint64_t reply = phd_read(dump, size, rows, max_numbers, refs, max_refs, answer);
+    print_answer("read", reply);
+    if (reply != PHD_DONE && reply != PHD_CUT)
         return 1;
-    if ((read == PHD_CUT) != (facts[PHD_MISSING] != 0))
+    if ((reply == PHD_CUT) != (answer[PHD_MISSING] != 0))
         return 2;
-    uint64_t header[PHD_HEADER];
-    for (int i = 0; i < PHD_HEADER; i++)
-        header[i] = facts[PHD_W + i];
-    size_t numbers = facts[PHD_ROWS] * PHD_ROW;
-    size_t links = facts[PHD_REFERENCES];
-    for (size_t i = 0; i < numbers; i += PHD_ROW)
+    uint64_t header[PHD_HEADER_LEN];
+    for (int i = 0; i < PHD_HEADER_LEN; i++)
+        header[i] = answer[PHD_BITS + i];
+    size_t rows_len = answer[PHD_ROWS] * PHD_ROW_LEN;
+    size_t refs_len = answer[PHD_REFS];
+    for (size_t i = 0; i < rows_len; i += PHD_ROW_LEN)
         printf("row at %llu\n", (unsigned long long)rows[i + PHD_OFFSET]);
-    say("write size", phd_write_size(header, rows, numbers, refs, links, dump, size, facts));
-    if (facts[PHD_REPLY] != PHD_DONE || facts[PHD_PLACE] > ROOM)
+    print_answer("write size", phd_write_size(header, rows, rows_len, refs, refs_len, dump, size, answer));
+    if (answer[PHD_REPLY] != PHD_DONE || answer[PHD_PLACE] > CAPACITY)
         return 3;
-    say("write", phd_write(header, rows, numbers, refs, links, dump, size, again, facts[PHD_PLACE], facts));
-    say("text size", phd_text_size(header, rows, numbers, refs, links, dump, size, facts));
-    if (facts[PHD_REPLY] != PHD_DONE || facts[PHD_PLACE] > ROOM)
+    print_answer("write", phd_write(header, rows, rows_len, refs, refs_len, dump, size, copy, answer[PHD_PLACE], answer));
+    print_answer("text size", phd_text_size(header, rows, rows_len, refs, refs_len, dump, size, answer));
+    if (answer[PHD_REPLY] != PHD_DONE || answer[PHD_PLACE] > CAPACITY)
         return 4;
-    say("text", phd_text(header, rows, numbers, refs, links, dump, size, text, facts[PHD_PLACE], facts));
-    fwrite(text, 1, facts[PHD_PLACE], stdout);
+    print_answer("text", phd_text(header, rows, rows_len, refs, refs_len, dump, size, text, answer[PHD_PLACE], answer));
+    fwrite(text, 1, answer[PHD_PLACE], stdout);
     return 0;
 }

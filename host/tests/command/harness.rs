@@ -1,4 +1,4 @@
-//! What the trials share: the example dump, a folder to run the command in, and what a run gave.
+//! What the tests share: the example dump, a folder to run the command in, and the result of a run.
 
 use std::ffi::OsStr;
 use std::fs;
@@ -15,7 +15,7 @@ pub const RECORDS: [&[u8]; 4] = [
     b"\x80\x04",
     b"\x24\x04\x03\0\0\0\x06",
 ];
-/// The widths of the example's fields, in file order: the header's, those of each record, and the end tag.
+/// The widths of the example's fields, in file order: the header, each record, and the end tag.
 pub const FIELDS: [&[usize]; 6] = [
     &[2, 18, 4, 4, 1, 1, 2, 4, 1, 1],
     &[1, 1, 2, 4, 4, 2, 1, 4],
@@ -24,8 +24,8 @@ pub const FIELDS: [&[usize]; 6] = [
     &[1, 1, 1, 4],
     &[1],
 ];
-/// Where the records and the end tag of the example begin.
-pub const BEGINNINGS: [usize; 5] = [38, 57, 64, 66, 73];
+/// The offsets of the records and of the end tag of the example.
+pub const STARTS: [usize; 5] = [38, 57, 64, 66, 73];
 pub const TEXT: &str = "\
 // Version: Test
 0x00001000 [0] CLS A
@@ -40,19 +40,19 @@ pub const TEXT: &str = "\
 // EOF:  Total 'Objects',Refs(null) : 4,1(0)
 ";
 
-/// The example, 74 bytes.
+/// Returns the example dump, 74 bytes.
 pub fn example() -> Vec<u8> {
     [HEADER, &RECORDS.concat(), b"\x03"].concat()
 }
 
-/// The example with other bytes at a place.
+/// Returns the example with other bytes at a place.
 pub fn edited(place: usize, bytes: &[u8]) -> Vec<u8> {
     let mut dump = example();
     dump[place..place + bytes.len()].copy_from_slice(bytes);
     dump
 }
 
-/// A folder of its own for a test, gone with the test.
+/// A new folder for a test, removed at its end.
 pub struct Folder(pub PathBuf);
 
 impl Folder {
@@ -63,16 +63,16 @@ impl Folder {
         Folder(path)
     }
 
-    pub fn put(&self, name: &str, bytes: &[u8]) -> &Folder {
+    pub fn write(&self, name: &str, bytes: &[u8]) -> &Folder {
         fs::write(self.0.join(name), bytes).unwrap();
         self
     }
 
-    pub fn get(&self, name: &str) -> Vec<u8> {
+    pub fn read(&self, name: &str) -> Vec<u8> {
         fs::read(self.0.join(name)).unwrap()
     }
 
-    /// The names in it, hidden ones too.
+    /// Returns the names of the files in the folder, including hidden ones.
     pub fn names(&self) -> Vec<String> {
         let entries = fs::read_dir(&self.0).unwrap();
         let mut names: Vec<String> = entries
@@ -82,26 +82,28 @@ impl Folder {
         names
     }
 
+    /// Returns a command that runs in the folder.
     pub fn command(&self, program: impl AsRef<OsStr>) -> Command {
         let mut command = Command::new(program);
         command.current_dir(&self.0).stdin(Stdio::null());
         command
     }
 
-    pub fn phd(&self, words: &[&str]) -> Ran {
-        Ran::of(self.command(PHD).args(words).output().unwrap())
+    /// Runs the program with these arguments.
+    pub fn phd(&self, arguments: &[&str]) -> Ran {
+        Ran::of(self.command(PHD).args(arguments).output().unwrap())
     }
 
-    /// Runs a line of the shell, in which $PHD is the program.
+    /// Runs a shell command, in which $PHD is the program.
     pub fn shell(&self, line: &str) -> Ran {
         let mut shell = self.command("sh");
         Ran::of(shell.args(["-c", line]).env("PHD", PHD).output().unwrap())
     }
 
-    /// Runs it with bytes on standard input.
-    pub fn fed(&self, words: &[&str], bytes: &[u8]) -> Ran {
+    /// Runs the program with bytes on standard input.
+    pub fn phd_with_input(&self, arguments: &[&str], bytes: &[u8]) -> Ran {
         let mut command = self.command(PHD);
-        command.args(words).stdin(Stdio::piped());
+        command.args(arguments).stdin(Stdio::piped());
         let mut child = command
             .stdout(Stdio::piped())
             .stderr(Stdio::piped())
@@ -118,7 +120,7 @@ impl Drop for Folder {
     }
 }
 
-/// What a run gave.
+/// The result of a run.
 #[derive(Debug)]
 pub struct Ran {
     pub status: Option<i32>,
@@ -135,32 +137,38 @@ impl Ran {
         }
     }
 
+    /// Returns standard output as text.
     pub fn out(&self) -> &str {
         std::str::from_utf8(&self.out).unwrap()
     }
 
-    pub fn ended(self, status: i32) -> Ran {
+    /// Checks the exit status.
+    pub fn exits(self, status: i32) -> Ran {
         assert_eq!(self.status, Some(status), "{self:?}");
         self
     }
 
-    pub fn quiet(self) -> Ran {
+    /// Checks that standard error is empty.
+    pub fn no_stderr(self) -> Ran {
         assert_eq!(self.err, "");
         self
     }
 
-    pub fn prints(self, words: &str) -> Ran {
-        assert!(self.out().contains(words), "{words:?} in\n{}", self.out());
+    /// Checks that standard output contains a text.
+    pub fn stdout_has(self, text: &str) -> Ran {
+        assert!(self.out().contains(text), "{text:?} in\n{}", self.out());
         self
     }
 
-    pub fn prints_nothing(self) -> Ran {
+    /// Checks that standard output is empty.
+    pub fn no_stdout(self) -> Ran {
         assert_eq!(self.out(), "");
         self
     }
 
-    pub fn says(self, words: &str) -> Ran {
-        assert!(self.err.contains(words), "{words:?} in\n{}", self.err);
+    /// Checks that standard error contains a text.
+    pub fn stderr_has(self, text: &str) -> Ran {
+        assert!(self.err.contains(text), "{text:?} in\n{}", self.err);
         self
     }
 }

@@ -1,16 +1,16 @@
-//! Random numbers from a seed: the same seed gives the same case everywhere.
+//! Random numbers from a seed. The same seed gives the same case everywhere.
 
 /// A splitmix64 generator.
-pub struct Dice {
+pub struct Rng {
     state: u64,
 }
 
-impl Dice {
-    pub fn new(seed: u64) -> Dice {
-        Dice { state: seed }
+impl Rng {
+    pub fn new(seed: u64) -> Rng {
+        Rng { state: seed }
     }
 
-    /// Any number.
+    /// Returns any number.
     pub fn any(&mut self) -> u64 {
         self.state = self.state.wrapping_add(0x9E37_79B9_7F4A_7C15);
         let mut mixed = self.state;
@@ -19,33 +19,33 @@ impl Dice {
         mixed ^ (mixed >> 31)
     }
 
-    /// A number below `limit`, which is not 0.
+    /// Returns a number below `limit`, which must not be 0.
     pub fn below(&mut self, limit: u64) -> u64 {
         ((u128::from(self.any()) * u128::from(limit)) >> 64) as u64
     }
 
-    /// An index below `limit`, which is not 0.
+    /// Returns an index below `limit`, which must not be 0.
     pub fn index(&mut self, limit: usize) -> usize {
         self.below(limit as u64) as usize
     }
 
-    /// True once in so many times.
+    /// Returns true once in `times` times on average.
     pub fn one_in(&mut self, times: u64) -> bool {
         self.below(times) == 0
     }
 
-    /// One of a list that is not empty.
+    /// Returns an element of a list, which must not be empty.
     pub fn pick<T: Copy>(&mut self, list: &[T]) -> T {
         list[self.index(list.len())]
     }
 
-    /// Any bytes.
+    /// Returns any bytes.
     pub fn bytes(&mut self, count: usize) -> Vec<u8> {
         (0..count).map(|_| self.any() as u8).collect()
     }
 }
 
-/// The seed of one case of a run.
+/// Returns the seed of one case of a run.
 pub fn seed_of(base: u64, number: u64) -> u64 {
-    Dice::new(base ^ number.wrapping_mul(0xD134_2543_DE82_EF95)).any()
+    Rng::new(base ^ number.wrapping_mul(0xD134_2543_DE82_EF95)).any()
 }

@@ -1,28 +1,38 @@
-//! Runs numbered cases on two threads. Each case has its own seed, and one that fails is named so that it can be run alone:
-//! `PHD_SEED` is the base seed, `PHD_CASE` one case's number, `PHD_CASES` how many are run.
+//! Runs numbered cases on two threads. Each case has its own seed, so one that fails can be run alone. Three environment
+//! variables choose what runs: `PHD_SEED` is the base seed, `PHD_CASE` the number of a single case, `PHD_CASES` how many run.
 
-use crate::dice::{seed_of, Dice};
-use crate::tally::Tally;
+use crate::coverage::Coverage;
+use crate::rng::{seed_of, Rng};
 use std::panic::{catch_unwind, AssertUnwindSafe};
 use std::sync::atomic::{AtomicBool, Ordering};
 
 const BASE_SEED: u64 = 0x5048_4400_0000_0001;
 const THREADS: u64 = 2;
 
-/// One case: its random numbers, and where it counts what came.
+/// One case: its random numbers, and the counts of what it covered.
 pub struct Case<'a> {
-    pub dice: Dice,
-    pub tally: &'a mut Tally,
+    pub rng: Rng,
+    pub coverage: &'a mut Coverage,
 }
 
-/// A kind of case: its name, its share of a hundred, and what it does.
+/// A kind of case: its name, its share in percent, and its test.
 pub struct Kind {
     pub name: &'static str,
     pub share: u64,
     pub run: fn(&mut Case) -> Result<(), String>,
 }
 
-/// What a whole run is.
+impl Kind {
+    pub const fn new(
+        name: &'static str,
+        share: u64,
+        run: fn(&mut Case) -> Result<(), String>,
+    ) -> Kind {
+        Kind { name, share, run }
+    }
+}
+
+/// A whole run.
 struct Plan<'a> {
     test: &'a str,
     kinds: &'a [Kind],
@@ -30,6 +40,7 @@ struct Plan<'a> {
     failed: AtomicBool,
 }
 
+/// Returns the number in an environment variable.
 fn setting(name: &str) -> Option<u64> {
     let text = std::env::var(name).ok()?;
     let number = match text.strip_prefix("0x") {
@@ -39,8 +50,8 @@ fn setting(name: &str) -> Option<u64> {
     Some(number.unwrap_or_else(|_| panic!("{name} is not a number: {text}")))
 }
 
-/// Runs the cases of a test. The tally is handed out where all of them, and not one alone, ran and passed.
-pub fn run(test: &str, kinds: &[Kind], cases: u64) -> Option<Tally> {
+/// Runs the cases of a test. Returns the coverage, or nothing if only a single case ran. Panics if a case fails.
+pub fn run(test: &str, kinds: &[Kind], cases: u64) -> Option<Coverage> {
     let plan = Plan {
         test,
         kinds,
@@ -48,14 +59,14 @@ pub fn run(test: &str, kinds: &[Kind], cases: u64) -> Option<Tally> {
         failed: AtomicBool::new(false),
     };
     if let Some(number) = setting("PHD_CASE") {
-        let told = plan.case(number, &mut Tally::default());
-        assert!(told.is_ok(), "{}", told.unwrap_err());
+        let result = plan.case(number, &mut Coverage::default());
+        assert!(result.is_ok(), "{}", result.unwrap_err());
         return None;
     }
     let cases = setting("PHD_CASES").unwrap_or(cases);
-    let (mut whole, mut failures) = (Tally::default(), Vec::new());
-    for (tally, failure) in plan.threads(cases) {
-        whole.merge(tally);
+    let (mut whole, mut failures) = (Coverage::default(), Vec::new());
+    for (coverage, failure) in plan.threads(cases) {
+        whole.merge(coverage);
         failures.extend(failure);
     }
     whole.print(test);
@@ -64,10 +75,10 @@ pub fn run(test: &str, kinds: &[Kind], cases: u64) -> Option<Tally> {
 }
 
 impl Plan<'_> {
-    /// Each thread takes every second case, up to the first that fails.
-    fn threads(&self, cases: u64) -> Vec<(Tally, Option<String>)> {
+    /// Runs the cases on all threads, each up to its first failure.
+    fn threads(&self, cases: u64) -> Vec<(Coverage, Option<String>)> {
         std::thread::scope(|scope| {
-            let start = |first| scope.spawn(move || self.some(first, cases));
+            let start = |first| scope.spawn(move || self.share(first, cases));
             let started: Vec<_> = (0..THREADS).map(start).collect();
             let done = started.into_iter().map(|thread| thread.join());
             done.map(|left| left.expect("a thread of cases ends"))
@@ -75,46 +86,47 @@ impl Plan<'_> {
         })
     }
 
-    fn some(&self, first: u64, cases: u64) -> (Tally, Option<String>) {
-        let mut tally = Tally::default();
+    /// Runs the cases of one thread.
+    fn share(&self, first: u64, cases: u64) -> (Coverage, Option<String>) {
+        let mut coverage = Coverage::default();
         for number in (first..cases).step_by(THREADS as usize) {
             if self.failed.load(Ordering::Relaxed) {
                 break;
             }
-            if let Err(told) = self.case(number, &mut tally) {
+            if let Err(error) = self.case(number, &mut coverage) {
                 self.failed.store(true, Ordering::Relaxed);
-                return (tally, Some(told));
+                return (coverage, Some(error));
             }
         }
-        (tally, None)
+        (coverage, None)
     }
 
-    /// One case; what it says of a failure is enough to run it again.
-    fn case(&self, number: u64, tally: &mut Tally) -> Result<(), String> {
+    /// Runs one case. Its error message has what is needed to run it again.
+    fn case(&self, number: u64, coverage: &mut Coverage) -> Result<(), String> {
         let kind = self.kind(number);
         let name: u64 = self.test.bytes().map(u64::from).sum();
         let seed = seed_of(self.base.wrapping_add(name), number);
-        tally.kind(kind.name);
+        coverage.count_case(kind.name);
         let mut case = Case {
-            dice: Dice::new(seed),
-            tally,
+            rng: Rng::new(seed),
+            coverage,
         };
         let done = catch_unwind(AssertUnwindSafe(|| (kind.run)(&mut case)));
-        let what = match done {
+        let error = match done {
             Ok(Ok(())) => return Ok(()),
-            Ok(Err(what)) => what,
+            Ok(Err(error)) => error,
             Err(_) => "the case panicked".to_string(),
         };
         let (test, base, name) = (self.test, self.base, kind.name);
         let again = format!(
-            "PHD_SEED={base:#x} PHD_CASE={number} cargo test --release --test world {test}"
+            "PHD_SEED={base:#x} PHD_CASE={number} cargo test --release --test differential {test}"
         );
         Err(format!(
-            "{test}, case {number} ({name}), seed {seed:#018x}: {what}\nagain: {again}"
+            "{test}, case {number} ({name}), seed {seed:#018x}: {error}\nagain: {again}"
         ))
     }
 
-    /// The kind of a case, by its number alone.
+    /// Returns the kind of a case, which depends only on its number.
     fn kind(&self, number: u64) -> &Kind {
         let mut left = number % self.kinds.iter().map(|kind| kind.share).sum::<u64>();
         for kind in self.kinds {

@@ -1,0 +1,20 @@
+//! Differential tests: compares the proved library with the plain implementation, and checks what is proved of it, on random
+//! cases. A case that fails is printed with its seed and its bytes; `run` explains how to run it again.
+
+mod boundaries;
+mod cases;
+mod compare;
+mod coverage;
+mod cuts;
+mod damage;
+mod encode;
+mod good;
+mod limits;
+mod mutate;
+mod names;
+mod read_back;
+mod rng;
+mod run;
+mod search;
+mod shortest;
+mod tables;
