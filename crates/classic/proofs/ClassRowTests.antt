@@ -17,6 +17,7 @@ use Rattle.phd_check.specs.GoodRows.{all-true}
 use Rattle.phd_check.specs.WellFormed.{length-name-of}
 use Rattle.table.specs.declared.Row.{Row}
 use Rattle.phd_check.proofs.CheckLaws.{all-of-all-true}
+use Rattle.classic.specs.PrimitiveClasses.{Entered}
 use Rattle.classic.specs.ClassicText.{letters, primitive-array-type, is-class-at, is-class-named}
 
 -- The test of kind and address is `is-class-at`.
@@ -68,3 +69,8 @@ module _ (names : List ℕ) (r : Row) (prim : ℕ) (in-bounds : r .place + r .na
       let m : suc (r .place) < length names = omega arith in
       rw (c .0, c .1, slice-cons names (r .place) 1 l, slice-cons names (suc (r .place)) 0 m, add-one, f)
       (all-of-all-true (eqb (getD names (r .place) 0) 0x5B) (eqb (getD names (suc (r .place)) 0) (getD letters prim 0) ∷ []))
+
+-- If it fails, the row changes no class word of primitive arrays.
+pub nothing-entered : (names : List ℕ) (r : Row) → r .place + r .namelen ≤ length names → (classes : List ℕ) → length classes ≡ 8
+    → eqb (r .kind) 1 && eqb (r .namelen) 2 ≡ false → Entered names r classes classes
+nothing-entered names r in-bounds classes l e = record { eight = l; each = λ type b. rw (← not-class-named names r type in-bounds e) }

@@ -50,9 +50,13 @@ abbrev pub is-not-found : Search → Bool
 is-not-found (At i) = false
 is-not-found NotFound = true
 
+-- Whether a row is an object or object array: its lines need the class row of its class word.
+abbrev pub needs-class : Row → Bool
+needs-class r = is-kind 2 r || is-kind 3 r
+
 -- Whether a row is an object or object array for whose class word there is no class row.
 unfoldable pub class-missing : List Row → Row → Bool
-class-missing rows r = (is-kind 2 r || is-kind 3 r) && is-not-found (class-at rows (r .class))
+class-missing rows r = needs-class r && is-not-found (class-at rows (r .class))
 
 -- ---- type, bytes and class word of a row
 
@@ -83,10 +87,14 @@ type-of names rows r =
 unfoldable pub bytes-of : List Row → Row → ℕ
 bytes-of rows r = cond (is-kind 1 r) 0 (cond (is-kind 2 r) (naming-class rows r .size) (4 * r .size))
 
--- The class word that a row's second line shows; for a primitive array, the address of the first class row that is named as its
--- type, or 0 if there is none (docs/FORMAT.md 7.3).
+-- The class word of a primitive array of this type: the address of the first class row that is named as the type, or 0 if there is
+-- none (docs/FORMAT.md 7.3).
+unfoldable pub primitive-class : (names : List ℕ) → List Row → ℕ → ℕ
+primitive-class names rows type = found-row rows (class-named names rows (primitive-array-type type)) .address
+
+-- The class word that a row's second line shows.
 unfoldable pub class-of : (names : List ℕ) → List Row → Row → ℕ
-class-of names rows r = cond (is-kind 4 r) (found-row rows (class-named names rows (primitive-array-type (r .prim))) .address) (r .class)
+class-of names rows r = cond (is-kind 4 r) (primitive-class names rows (r .prim)) (r .class)
 
 -- ---- lines
 

@@ -10,8 +10,10 @@ use lib.Dec.{eqb}
 use borrow.Author.Tests.{eqb-false, eq-eqb}
 use Rattle.table.specs.Rows.{refs-of}
 use Rattle.table.specs.declared.Row.{Row}
+use Rattle.table.specs.declared.Search.{Search}
 use Rattle.digits.specs.Digits.{digit-count}
-use Rattle.classic.specs.ClassicText.{address, class-at, is-not-found, class-missing, bytes-of, class-of, refs-text, second-line}
+use Rattle.classic.specs.ClassicText.{address, class-at, is-not-found, needs-class, class-missing, bytes-of, class-of, refs-text, second-line}
+use Rattle.classic.specs.LastSearch.{ClassFound}
 use Rattle.classic.specs.RowBounds.{RowNumbersInBounds, KnownKind, AllNumbersInBounds}
 use Rattle.digits.specs.DigitLengths.{digit-count-le-20}
 use Rattle.classic_row.specs.RowText.{type-label, label-line, label-type, row-text, row-size, naming-class-in-bounds, bytes-of-lt, row-text-label-parts}
@@ -43,11 +45,20 @@ pub row-text-by-label : (bits : ℕ) (names refs : List ℕ) (rows : List Row) (
 unfolding second-line
 row-text-by-label bits names refs rows r e shown p q = rw (p, q) (row-text-label-parts bits names refs rows r)
 
--- The class row of a row that is neither a class nor a primitive array is missing exactly if the search does not find it.
-pub class-missing-by-search : (rows : List Row) (r : Row) → KnownKind r → (r .kind ≡ 1 → ⊥) → (r .kind ≡ 4 → ⊥) → class-missing rows r ≡ is-not-found (class-at rows (r .class))
-unfolding class-missing
-class-missing-by-search rows r k a p = by (eqb (r .kind) 2) refl
+-- A row that is neither a class nor a primitive array needs a class row.
+needs-class-of : (r : Row) → KnownKind r → (r .kind ≡ 1 → ⊥) → (r .kind ≡ 4 → ⊥) → needs-class r ≡ true
+needs-class-of r k a p = by (eqb (r .kind) 2) refl
   where
-    by : (b : Bool) → eqb (r .kind) 2 ≡ b → (b || eqb (r .kind) 3) && is-not-found (class-at rows (r .class)) ≡ is-not-found (class-at rows (r .class))
+    by : (b : Bool) → eqb (r .kind) 2 ≡ b → b || eqb (r .kind) 3 ≡ true
     by true e = refl
-    by false e = rw (eq-eqb (r .kind) 3 (omega (arith, eqb-false (r .kind) 2 e)))
+    by false e = eq-eqb (r .kind) 3 (omega (arith, eqb-false (r .kind) 2 e))
+
+-- For such a row, the result of the search is that among all rows, and its class row is missing exactly if the search did not find
+-- it.
+pub class-missing-by-search : (rows : List Row) (r : Row) (found : Search) → KnownKind r → (r .kind ≡ 1 → ⊥) → (r .kind ≡ 4 → ⊥) → ClassFound rows r found
+    → (found ≡ class-at rows (r .class)) × (class-missing rows r ≡ is-not-found found)
+unfolding class-missing
+class-missing-by-search rows r found k a p f =
+    let n = needs-class-of r k a p in
+    let e = f .is n in
+    (e, rw (n, e))

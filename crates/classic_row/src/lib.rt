@@ -7,6 +7,8 @@ ghost use Rattle.encode.specs.Writes.{Writes, HasCapacity};
 ghost use Rattle.table.specs.Rows.{rows-of};
 ghost use Rattle.phd.specs.Shapes.{ValidBits};
 ghost use Rattle.classic.specs.ClassicText.{class-missing, class-of};
+ghost use Rattle.classic.specs.LastSearch.{ClassFound};
+ghost use Rattle.classic.specs.PrimitiveClasses.{class-from};
 ghost use Rattle.classic.specs.RowBounds.{RowNumbersInBounds, KnownKind, AllNumbersInBounds};
 ghost use Rattle.classic_row.specs.RowText.{type-label-or-18, row-size-or-18, row-text};
 use table::Row;
@@ -33,10 +35,12 @@ pub enum RowSize {
     Reply(u64),
 }
 
-// Returns the label of a row, or reply 18 for an object or object array whose class row is missing.
-fn find_label(rows: &[u64], row: Row) -> LabelResult
+// Returns the label of a row, or reply 18 for an object or object array whose class row is missing. `found` is the result of the
+// search for the row's class word.
+fn find_label(rows: &[u64], row: Row, found: Search) -> LabelResult
     requires { ⌜ row .size < 2 ^ 32 ⌝ }
     requires { ⌜ KnownKind row ⌝ }
+    requires { ⌜ ClassFound (rows-of (now rows)) row found ⌝ }
     ensures { λ r. ⌜ r ≡ type-label-or-18 (rows-of (now (rows .entry))) row ⌝ }
 {
     if row.kind == 1 {
@@ -54,7 +58,6 @@ fn find_label(rows: &[u64], row: Row) -> LabelResult
             len: 0,
         });
     }
-    let found = classic::class_at(rows, row.class);
     let Search::At(i) = found else {
         return LabelResult::Reply(18);
     };
@@ -73,32 +76,29 @@ fn find_label(rows: &[u64], row: Row) -> LabelResult
     })
 }
 
-// Returns the class word that the second line shows.
-fn class_of(names: &[u8], rows: &[u64], row: Row) -> u64
+// Returns the class word that the second line shows. `classes` are the class words of primitive arrays, by type.
+pub fn class_of(classes: &[u64; 8], row: Row) -> u64
     requires { ⌜ row .prim < 8 ⌝ }
-    requires { ⌜ AllNumbersInBounds (now names) (rows-of (now rows)) ⌝ }
-    ensures { λ r. ⌜ r ≡ class-of (now (names .entry)) (rows-of (now (rows .entry))) row ⌝ }
+    ensures { λ r. ⌜ r ≡ class-from (now (classes .entry)) row ⌝ }
 {
     if row.kind == 4 {
-        let found = classic::class_named(names, rows, row.prim);
-        let Search::At(i) = found else {
-            return 0;
-        };
-        let class = table::row_at(rows, i);
-        return class.address;
+        let prim = row.prim as usize;
+        return classes[prim];
     }
     row.class
 }
 
-// Returns the size of a row's two lines in bytes, or reply 18 if `find_label` does. `bits` is W.
-pub fn row_text_size(bits: u64, names: &[u8], rows: &[u64], row: Row) -> RowSize
+// Returns the size of a row's two lines in bytes, or reply 18 if `find_label` does. `bits` is W; `found` is the result of the search
+// for the row's class word.
+pub fn row_text_size(bits: u64, names: &[u8], rows: &[u64], row: Row, found: Search) -> RowSize
     requires { ⌜ ValidBits bits ⌝ }
     requires { ⌜ AllNumbersInBounds (now names) (rows-of (now rows)) ⌝ }
     requires { ⌜ RowNumbersInBounds (now names) row ⌝ }
     requires { ⌜ KnownKind row ⌝ }
+    requires { ⌜ ClassFound (rows-of (now rows)) row found ⌝ }
     ensures { λ r. ⌜ r ≡ row-size-or-18 bits (now (names .entry)) (rows-of (now (rows .entry))) row ⌝ }
 {
-    match find_label(rows, row) {
+    match find_label(rows, row, found) {
         LabelResult::Reply(reply) => RowSize::Reply(reply),
         LabelResult::Found(e) => {
             let address = 2 + (bits / 4) as usize;
@@ -112,7 +112,8 @@ pub fn row_text_size(bits: u64, names: &[u8], rows: &[u64], row: Row) -> RowSize
     }
 }
 
-// Writes a row's two lines at offset `at`, and returns the offset after them. The row's class row must not be missing.
+// Writes a row's two lines at offset `at`, and returns the offset after them. The row's class row must not be missing; `found` is
+// the result of the search for it. `class` is the class word to show.
 pub fn write_row_text(
     out: &mut [u8],
     at: usize,
@@ -121,22 +122,25 @@ pub fn write_row_text(
     refs: &[u64],
     rows: &[u64],
     row: Row,
+    found: Search,
+    class: u64,
 ) -> usize
     requires { ⌜ ValidBits bits ⌝ }
     requires { ⌜ AllNumbersInBounds (now names) (rows-of (now rows)) ⌝ }
     requires { ⌜ RowNumbersInBounds (now names) row ⌝ }
     requires { ⌜ KnownKind row ⌝ }
+    requires { ⌜ ClassFound (rows-of (now rows)) row found ⌝ }
+    requires { ⌜ class ≡ class-of (now names) (rows-of (now rows)) row ⌝ }
     requires { ⌜ class-missing (rows-of (now rows)) row ≡ false ⌝ }
     requires { ⌜ row .first + row .count ≤ length (now refs) ⌝ }
     requires { ⌜ HasCapacity (now out) at (row-text bits (now names) (now refs) (rows-of (now rows)) row) ⌝ }
     ensures { λ r. ⌜ Writes (now (out .entry)) at (row-text bits (now (names .entry)) (now (refs .entry)) (rows-of (now (rows .entry))) row) (now (out .exit)) r ⌝ }
 {
-    let found = find_label(rows, row);
-    let LabelResult::Found(e) = found else {
+    let label = find_label(rows, row, found);
+    let LabelResult::Found(e) = label else {
         // Not reached: `find_label` returns a reply only for a row whose class row is missing.
         return at;
     };
-    let class = class_of(names, rows, row);
     let first = parts::write_first_line(out, at, bits, names, row, e);
     let next = encode::encode_byte(out, first, 0x0A);
     let second = parts::write_second_line(out, next, bits, class, refs, row);

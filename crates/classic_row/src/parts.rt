@@ -65,7 +65,7 @@ fn write_type(out: &mut [u8], at: usize, names: &[u8], kind: u64, prim: u64, e: 
 {
     if kind == 4 {
         let name = encode::encode_bytes(out, at, b"[");
-        return encode::encode_byte(out, name, classic::prim_letter(prim));
+        return encode::encode_byte(out, name, classic::primitives::prim_letter(prim));
     }
     if kind == 3 {
         return write_array_type(out, at, names, e);

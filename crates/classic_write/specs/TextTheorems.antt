@@ -20,16 +20,18 @@ use Rattle.table.specs.OffsetsIgnored.{EqualExceptOffsets, rows-of-equal}
 use Rattle.table.specs.SizeQuery.{QueryAgrees}
 use Rattle.table.specs.Sums.{sum}
 use Rattle.table.specs.declared.Answer.{Answer}
+use Rattle.table.specs.declared.Search.{Search}
 use Rattle.table.specs.declared.Search.the-variants.{At, NotFound}
 use Rattle.phd_counts.specs.Counts.{nulls, tally-of}
 use Rattle.phd_counts.specs.ExactCounts.{with-nulls, exact-counts as all-exact}
-use Rattle.table.specs.Search.{first-row, IsFirst, NoneSatisfies, first-row-at, first-row-none}
+use Rattle.table.specs.Rows.{nth}
+use Rattle.table.specs.Search.{first-row, found-row, IsFirst, NoneSatisfies, first-row-at, first-row-none}
 use Rattle.digits.specs.Digits.{ascii, text-decimal}
-use Rattle.classic.specs.ClassicText.{is-class-at, class-at, class-missing, row-lines, totals-line, text-lines, text-of, text-rows, text-rows-size, text-result, text-size-result}
+use Rattle.classic.specs.ClassicText.{is-class-at, is-class-named, class-at, class-named, class-missing, primitive-array-type, primitive-class, row-lines, totals-line, text-lines, text-of, text-rows, text-rows-size, text-result, text-size-result}
 use Rattle.classic.specs.RowBounds.{all-refs-in-bounds}
 use Rattle.classic_write.specs.TextParts.{version-text, rows-size, tally-trailers, text-parts}
 use Rattle.classic_write.specs.TextSizes.{length-rows-text}
-use Rattle.classic.specs.ClassRows.{ClassRow, ClassMissing, is-class-at-iff, class-missing-iff}
+use Rattle.classic.specs.ClassRows.{ClassRow, ClassNamed, ClassMissing, is-class-at-iff, is-class-named-iff, class-missing-iff}
 use Rattle.classic_write.specs.TextOutcomes.{text-by-checks, size-query-as-text, size-query-agrees}
 
 -- ---- each reply exactly in its case
@@ -155,6 +157,27 @@ class-at-first rows a = first-row-at (ClassRow a) (is-class-at a) (is-class-at-i
 -- No class row is found exactly if none has this address.
 pub class-at-none : (rows : List Row) (a : ℕ) → (class-at rows a ≡ NotFound) ↔ NoneSatisfies (ClassRow a) rows
 class-at-none rows a = first-row-none (ClassRow a) (is-class-at a) (is-class-at-iff a) rows
+
+-- ---- the class row of a name
+
+-- The class row of a name is the first class row with this name.
+pub class-named-first : (names : List ℕ) (rows : List Row) (name : List ℕ) (i : ℕ) → (class-named names rows name ≡ At i) ↔ IsFirst (ClassNamed names name) rows i
+class-named-first names rows name = first-row-at (ClassNamed names name) (is-class-named names name) (is-class-named-iff names name) rows
+
+-- No class row is found exactly if none has this name.
+pub class-named-none : (names : List ℕ) (rows : List Row) (name : List ℕ) → (class-named names rows name ≡ NotFound) ↔ NoneSatisfies (ClassNamed names name) rows
+class-named-none names rows name = first-row-none (ClassNamed names name) (is-class-named names name) (is-class-named-iff names name) rows
+
+-- The class word of a primitive array is the address of the first class row that is named as its type.
+pub primitive-class-first : (names : List ℕ) (rows : List Row) (type i : ℕ) → IsFirst (ClassNamed names (primitive-array-type type)) rows i
+    → primitive-class names rows type ≡ nth rows i .address
+unfolding primitive-class found-row
+primitive-class-first names rows type i f = ap (λ (found : Search). found-row rows found .address) (class-named-first names rows (primitive-array-type type) i .1 f)
+
+-- It is 0 if no class row is named so.
+pub primitive-class-none : (names : List ℕ) (rows : List Row) (type : ℕ) → NoneSatisfies (ClassNamed names (primitive-array-type type)) rows → primitive-class names rows type ≡ 0
+unfolding primitive-class found-row
+primitive-class-none names rows type n = ap (λ (found : Search). found-row rows found .address) (class-named-none names rows (primitive-array-type type) .1 n)
 
 -- ---- totals of the last line
 

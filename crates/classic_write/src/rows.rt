@@ -27,11 +27,16 @@ pub fn rows_text_size(bits: u64, names: &[u8], rows: &[u64], first: usize) -> Li
     ensures { λ r. ⌜ r ≡ size-or-18 (first-row (class-missing (rows-of (now (rows .entry)))) (rows-of (now (rows .entry)))) (first + rows-size bits (now (names .entry)) (rows-of (now (rows .entry)))) ⌝ }
 {
     let n = rows.len() / table::ROW_WIDTH;
+    let mut last = classic::no_search();
     let mut total = first;
     let mut i: usize = 0;
     while i < n {
         let row = table::row_at(rows, i);
-        match classic_row::row_text_size(bits, names, rows, row) {
+        if (row.kind == 2) | (row.kind == 3) {
+            last = classic::search_class(rows, row.class, last);
+        }
+        let found = last.found;
+        match classic_row::row_text_size(bits, names, rows, row, found) {
             RowSize::Bytes(bytes) => {
                 total += bytes;
             }
@@ -63,12 +68,19 @@ pub fn write_rows_text(
     requires { ⌜ HasCapacity (now out) at (rows-text bits (now names) (now refs) (rows-of (now rows))) ⌝ }
     ensures { λ r. ⌜ Writes (now (out .entry)) at (rows-text bits (now (names .entry)) (now (refs .entry)) (rows-of (now (rows .entry)))) (now (out .exit)) r ⌝ }
 {
+    let classes = classic::primitives::primitive_classes(names, rows);
     let n = rows.len() / table::ROW_WIDTH;
+    let mut last = classic::no_search();
     let mut to = at;
     let mut i: usize = 0;
     while i < n {
         let row = table::row_at(rows, i);
-        to = classic_row::write_row_text(out, to, bits, names, refs, rows, row);
+        if (row.kind == 2) | (row.kind == 3) {
+            last = classic::search_class(rows, row.class, last);
+        }
+        let found = last.found;
+        let class = classic_row::class_of(&classes, row);
+        to = classic_row::write_row_text(out, to, bits, names, refs, rows, row, found, class);
         i += 1;
     }
     to

@@ -122,6 +122,42 @@ module _ (test : Row → Bool) (table : List ℕ) (i : ℕ) (e : first-row test 
   unfolding found-row
   found-row-at = rw e (nth-row table i found-in-table)
 
+-- ---- the row found, of a list with one row more at its start
+
+-- A result among rows, as a result among the same rows after another one.
+abbrev later : Search → Search
+later (At i) = At (suc i)
+later NotFound = NotFound
+
+first-from-suc : (test : Row → Bool) (i : ℕ) (rows : List Row) → first-from test (suc i) rows ≡ later (first-from test i rows)
+unfolding first-from
+first-from-suc test i [] = refl
+first-from-suc test i (r ∷ rows) = by (test r) (first-from-suc test (suc i) rows)
+  where
+    by : (b : Bool) → first-from test (suc (suc i)) rows ≡ later (first-from test (suc i) rows)
+        → cond b (At (suc i)) (first-from test (suc (suc i)) rows) ≡ later (cond b (At i) (first-from test (suc i) rows))
+    by true e = refl
+    by false e = e
+
+found-later : (r : Row) (rows : List Row) (f : Search) → found-row (r ∷ rows) (later f) ≡ found-row rows f
+unfolding found-row
+found-later r rows (At i) = refl
+found-later r rows NotFound = refl
+
+found-head : (r : Row) (rows : List Row) → found-row (r ∷ rows) (At 0) ≡ r
+unfolding found-row
+found-head r rows = refl
+
+-- The first row of a list that passes a test is the first one of the list, if it passes, else the first that passes among the
+-- others.
+pub found-row-cons : (test : Row → Bool) (r : Row) (rows : List Row) → found-row (r ∷ rows) (first-row test (r ∷ rows)) ≡ cond (test r) r (found-row rows (first-row test rows))
+unfolding first-from
+found-row-cons test r rows = by (test r)
+  where
+    by : (b : Bool) → found-row (r ∷ rows) (cond b (At 0) (first-from test 1 rows)) ≡ cond b r (found-row rows (first-row test rows))
+    by true = found-head r rows
+    by false = rw (first-from-suc test 0 rows) (found-later r rows (first-row test rows))
+
 -- ---- a search loop over a table
 
 -- The loop invariant: the search over the rows from index i on gives the result of the search over all rows.

@@ -1,5 +1,5 @@
 //! Generates tables like those of a real heap, with any number of records: mostly small objects with up to three references,
-//! some arrays, and up to a few thousand classes.
+//! some arrays, and up to a few thousand classes. Also tables of many classes and many equal records.
 
 use phd_host::row::{kind, ROW_LEN};
 use phd_host::tables::{Header, Tables};
@@ -18,13 +18,23 @@ pub const HEADER: Header = [64, 0, 1, 0, 0, 0];
 const CLASSES: u64 = 0x7_0000_0000;
 const OBJECTS: u64 = 0x7_0010_0000;
 
-/// The letters of the primitive types.
+/// The address of the first record after many classes.
+const OBJECTS_AFTER: u64 = 0x7_1000_0000;
+
+/// The letters of the primitive types; the first eight classes are those of their arrays.
 const PRIMITIVES: [u8; 8] = *b"ZCFDBSIJ";
+
+/// The primitive type of char arrays.
+const CHAR: u64 = 1;
 
 /// A generator of random numbers (xorshift64) that gives the same in every run.
 struct Rng(u64);
 
 impl Rng {
+    fn new() -> Rng {
+        Rng(0x1234_5678_9ABC_DEF1)
+    }
+
     fn next(&mut self) -> u64 {
         self.0 ^= self.0 << 13;
         self.0 ^= self.0 >> 7;
@@ -52,14 +62,14 @@ impl Heap {
     /// Generates a heap of `n` records, at least one of them a class.
     pub fn of(n: usize) -> Heap {
         let classes = (n / 25).clamp(1, 3000);
-        let mut heap = Heap {
-            rows: Vec::with_capacity(n * ROW_LEN),
-            refs: Vec::with_capacity(2 * n),
-            names: Vec::new(),
-        };
-        let mut rng = Rng(0x1234_5678_9ABC_DEF1);
+        let mut heap = Heap::empty(n);
+        let mut rng = Rng::new();
         for i in 0..classes {
-            heap.class(i, &mut rng);
+            let name = match PRIMITIVES.get(i) {
+                Some(letter) => format!("[{}", char::from(*letter)),
+                None => format!("com/example/part{}/C{}", i % 40, i),
+            };
+            heap.class(i, &name, &mut rng);
         }
         let mut address = OBJECTS;
         let mut recent = [CLASSES; 4];
@@ -69,6 +79,59 @@ impl Heap {
             address += 16 + 8 * rng.below(6);
         }
         heap
+    }
+
+    /// Generates `n` classes and `n` objects of class number `class`.
+    pub fn of_one_class(n: usize, class: usize) -> Heap {
+        let object = Record {
+            kind: kind::OBJECT,
+            class: CLASSES + 256 * class as u64,
+            count: 0,
+            size: 0,
+            length: 0,
+            primitive: 0,
+        };
+        Heap::of_equal(n, |_| false, &object)
+    }
+
+    /// Generates `n` classes, of which number `class` is that of char arrays, and `n` char arrays.
+    pub fn of_char_arrays(n: usize, class: usize) -> Heap {
+        let array = Record {
+            kind: kind::PRIMITIVE_ARRAY,
+            class: 0,
+            count: 0,
+            size: 6,
+            length: 3,
+            primitive: CHAR,
+        };
+        Heap::of_equal(n, |i| i == class, &array)
+    }
+
+    /// Generates `n` classes and `n` equal records. All classes have names of the same length, except those of char arrays.
+    fn of_equal(n: usize, is_char_array: impl Fn(usize) -> bool, record: &Record) -> Heap {
+        let mut heap = Heap::empty(2 * n);
+        let mut rng = Rng::new();
+        for i in 0..n {
+            let name = if is_char_array(i) {
+                "[C".to_string()
+            } else {
+                format!("com/example/C{i:06}")
+            };
+            heap.class(i, &name, &mut rng);
+        }
+        for i in 0..n {
+            heap.record(OBJECTS_AFTER + 16 * i as u64, record, &mut rng);
+        }
+        heap
+    }
+
+    /// Returns a heap without records, with memory for `n` of them.
+    fn empty(n: usize) -> Heap {
+        Heap {
+            rows: Vec::with_capacity(n * ROW_LEN),
+            refs: Vec::with_capacity(2 * n),
+            names: Vec::new(),
+        }
     }
 
     /// Returns the tables to write.
@@ -81,15 +144,10 @@ impl Heap {
         }
     }
 
-    /// Appends class number `i`: the first eight are those of primitive arrays, the others have names like `com/example/C12`.
-    fn class(&mut self, i: usize, rng: &mut Rng) {
+    /// Appends class number `i`.
+    fn class(&mut self, i: usize, name: &str, rng: &mut Rng) {
         let place = self.names.len() as u64;
-        match PRIMITIVES.get(i) {
-            Some(letter) => self.names.extend_from_slice(&[b'[', *letter]),
-            None => self
-                .names
-                .extend_from_slice(format!("com/example/part{}/C{}", i % 40, i).as_bytes()),
-        }
+        self.names.extend_from_slice(name.as_bytes());
         let length = self.names.len() as u64 - place;
         let address = CLASSES + 256 * i as u64;
         let first = self.refs.len() as u64;

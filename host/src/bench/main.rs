@@ -1,14 +1,17 @@
 //! Measures how fast the proved library is compared with the plain implementation, on the same input and in the same run.
-//! Prints a table of times and ratios. Run by hand, in a release build.
+//! Prints a table of times and ratios, then one of how long a text takes to find classes. Run by hand, in a release build.
 
+mod classes;
+mod clock;
 mod heap;
 
+use clock::{keep_least, ratio};
 use heap::{Heap, HEADER};
 use phd_host::answer::{Answer, PLACE, REFS};
 use phd_host::row::ROW_LEN;
 use phd_host::tables::Tables;
 use phd_host::{library, plain, reply};
-use std::time::{Duration, Instant};
+use std::time::Duration;
 
 /// The least times for a heap of one size, by operation. A pair is the library and the plain implementation.
 struct Times {
@@ -28,13 +31,6 @@ type Write = fn(&Tables, &mut [u8], &mut Answer) -> u64;
 
 const READS: [Read; 2] = [library::read, plain::read];
 const WRITES: [Write; 2] = [library::write, plain::write];
-
-/// Measures `work`, and stores its time in `best` if that is less.
-fn keep_least(best: &mut Duration, work: impl FnOnce()) {
-    let start = Instant::now();
-    work();
-    *best = (*best).min(start.elapsed());
-}
 
 impl Times {
     /// Returns times that any measured one replaces.
@@ -145,7 +141,6 @@ fn print_line(t: &Times) {
         let [library, plain] = pair.map(|time| per_record(time, t.records));
         format!("{library:.1} | {plain:.1} | {:.2}", library / plain)
     };
-    let share = |part: Duration, whole: Duration| part.as_secs_f64() / whole.as_secs_f64();
     println!(
         "| {} | {} | {} | {} | {} | {:.2} | {:.1} | {:.3} s | {:.2} |",
         t.records,
@@ -153,10 +148,10 @@ fn print_line(t: &Times) {
         t.tables,
         side(&t.read),
         side(&t.write),
-        share(t.write_size, t.write[0]),
+        ratio(t.write_size, t.write[0]),
         per_record(t.copy, t.records),
         t.text.as_secs_f64(),
-        share(t.text_size, t.text),
+        ratio(t.text_size, t.text),
     );
 }
 
@@ -185,7 +180,7 @@ fn main() {
         eprintln!("phd-bench: {why}");
         std::process::exit(2)
     });
-    println!("nanoseconds for a record, the least of several rounds; below a ratio of 1 the proved library is the faster; a size query is the library's, divided by its own write or text");
+    println!("nanoseconds of processor time for a record, the least of several rounds; below a ratio of 1 the proved library is the faster; a size query is the library's, divided by its own write or text");
     println!("| records | dump bytes | table bytes | read: library | plain | ratio | write: library | plain | ratio | size query | copy of the tables | text | size query |");
     println!("|---|---|---|---|---|---|---|---|---|---|---|---|---|");
     let mut all = Vec::new();
@@ -202,4 +197,5 @@ fn main() {
     ) {
         println!("a record at the largest size over one at 100000: read {read:.2}, write {write:.2}, copy {copy:.2}");
     }
+    classes::print_table();
 }

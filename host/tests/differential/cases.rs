@@ -2,6 +2,7 @@
 //! and random dumps; and buffers that are too small by one.
 
 use crate::boundaries::{self, GAPS, LENGTHS, MISSING, NULLS};
+use crate::class_searches::{count_searches, SEARCHES};
 use crate::compare::{self, check_query, with_dump, with_tables, Operation, Outcome, TEXT, WRITE};
 use crate::coverage::READ_REPLIES;
 use crate::damage;
@@ -67,6 +68,7 @@ fn cases() {
         coverage.rare("reference", &GAPS, LEAST),
         coverage.rare("length", &LENGTHS, LEAST),
         coverage.rare("nulls", &NULLS, LEAST),
+        coverage.rare("search", &SEARCHES, LEAST),
         coverage.rare("missing", &MISSING, LEAST),
     ];
     assert_eq!(
@@ -98,6 +100,7 @@ impl Case<'_> {
         self.coverage.count_reply(operation.name, write.reply);
         if operation.name == TEXT.name && write.reply == reply::DONE {
             boundaries::count_nulls(tables, self.coverage);
+            count_searches(tables, self.coverage);
         }
         Ok(write)
     }

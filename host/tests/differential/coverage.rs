@@ -22,7 +22,7 @@ pub const READ_REPLIES: [u64; 14] = [
 ];
 
 /// What is counted, in the order in which it is printed.
-const TOPICS: [&str; 14] = [
+const TOPICS: [&str; 15] = [
     "read",
     "write",
     "text",
@@ -32,6 +32,7 @@ const TOPICS: [&str; 14] = [
     "reference",
     "length",
     "nulls",
+    "search",
     "missing",
     "longer cut",
     "form",

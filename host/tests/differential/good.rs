@@ -1,5 +1,5 @@
 //! Generates random good tables: rows of every kind, with gaps and references at the boundaries of every width, classes that
-//! repeat so that the class cache is used, and names that a text must find.
+//! repeat so that the class cache is used, and class rows and names that a text must find.
 
 use crate::names;
 use crate::rng::Rng;
@@ -52,6 +52,9 @@ struct Generator<'a> {
     /// The address of the row before, and the class word of the last object.
     previous: u64,
     last_class: u64,
+    /// Whether objects and object arrays have two class words in turn, and which of the two is next.
+    alternating: bool,
+    turn: usize,
     /// One in this many rows has a hash.
     hash_interval: u64,
 }
@@ -71,6 +74,7 @@ impl<'a> Generator<'a> {
             names: bytes,
         };
         let hash_interval = rng.pick(&[2, 6, 100]);
+        let alternating = rng.one_in(6);
         Generator {
             rng,
             max_address,
@@ -79,11 +83,14 @@ impl<'a> Generator<'a> {
             names,
             previous: 0,
             last_class: 0,
+            alternating,
+            turn: 0,
             hash_interval,
         }
     }
 
-    /// Returns the kinds of the rows, and the addresses of the classes: usually each class word has its class row.
+    /// Returns the kinds of the rows, and the addresses of the classes: usually each class word has its class row, sometimes one
+    /// has two.
     fn plan(&mut self, count: u64) -> Vec<(u64, Option<u64>)> {
         let base = self.rng.any() & self.max_address;
         for _ in 0..1 + self.rng.below(7) {
@@ -95,6 +102,9 @@ impl<'a> Generator<'a> {
             let classes = self.classes.iter().take(count as usize);
             plan.extend(classes.map(|class| (kind::CLASS, Some(*class))));
             self.classes.truncate(plan.len());
+            if self.rng.one_in(3) {
+                plan.push((kind::CLASS, Some(self.rng.pick(&self.classes))));
+            }
         } else {
             self.classes.push(self.rng.any() & (self.max_address + 3));
         }
@@ -117,7 +127,7 @@ impl<'a> Generator<'a> {
         (row[HASH_KIND], row[HASH]) = self.hash(kind);
         row[FIRST] = self.tables.refs.len() as u64;
         if kind != kind::PRIMITIVE_ARRAY {
-            row[CLASS] = self.class();
+            row[CLASS] = self.class(kind);
             row[COUNT] = self.count();
         }
         match kind {
@@ -146,8 +156,12 @@ impl<'a> Generator<'a> {
         self.tables.rows.extend(row);
     }
 
-    /// Returns a class word, often the last one again.
-    fn class(&mut self) -> u64 {
+    /// Returns a class word, often the last one again, or for all objects and object arrays the next of two in turn.
+    fn class(&mut self, kind: u64) -> u64 {
+        if self.alternating && kind != kind::CLASS && self.classes.len() > 1 {
+            self.turn = 1 - self.turn;
+            return self.classes[self.turn];
+        }
         if self.rng.one_in(3) && self.classes.contains(&self.last_class) {
             return self.last_class;
         }

@@ -3,6 +3,7 @@
 
 mod boundaries;
 mod cases;
+mod class_searches;
 mod compare;
 mod coverage;
 mod cuts;

@@ -6,19 +6,22 @@ use borrow.Author.Needs.{needs}
 use borrow.Author.Tests.{eq-eqb, ne-eqb}
 use Rattle.table.specs.Rows.{is-kind, rows-of}
 use Rattle.table.specs.Search.{found-in-table, found-row-at}
-use Rattle.classic.specs.ClassicText.{is-not-found, class-missing, naming-class, bytes-of}
+use Rattle.classic.specs.ClassicText.{class-at, is-not-found, class-missing, naming-class, bytes-of}
 use Rattle.classic_row.specs.RowText.{type-label, type-label-or-18}
 use Rattle.classic_row.proofs.RowTextLaws.{class-missing-by-search}
 use Rattle.classic_row.proofs.find_label.Statement.{statement}
 use Rattle.classic_row.proofs.find_label.Tie as tie
 
--- The start of the function, seen from after the search for the class row.
-abbrev start : tie.After-class-at → tie.Start
-start c = c .before .before .before .before .before .before .before
+-- The start of the function, seen from where the row is known to be an object or object array.
+abbrev start : tie.Else2 → tie.Start
+start c = c .before .before .before .before .before .before
 
--- The row's class row is missing exactly if the search found nothing.
-missing : (c : tie.After-class-at) → let a = start c .args in class-missing (rows-of (a .rows .now)) (a .row) ≡ is-not-found (c .class-at .result)
-missing c = class-missing-by-search _ _ (start c .pre .1) (c .before .before .before .before .if1 .left) (c .before .if2 .left) ∙ ap is-not-found (sym (c .class-at .ensures))
+-- There the result of the search is that among all rows, and the row's class row is missing exactly if nothing was found.
+searched : (c : tie.Else2) → let a = start c .args in
+    (a .found ≡ class-at (rows-of (a .rows .now)) (a .row .class)) × (class-missing (rows-of (a .rows .now)) (a .row) ≡ is-not-found (a .found))
+searched c =
+    let s = start c in
+    class-missing-by-search (rows-of (s .args .rows .now)) (s .args .row) (s .args .found) (s .pre .1 .0) (c .before .before .before .if1 .left) (c .if2 .left) (s .pre .1 .1)
 
 -- If the search found a row, it is the class row, and the label is computed from it.
 class : (c : tie.After-row-at) → let a = start (c .before .before .before .before) .args in let class = c .row-at .result in
@@ -27,10 +30,10 @@ class : (c : tie.After-row-at) → let a = start (c .before .before .before .bef
 unfolding type-label naming-class bytes-of
 class c =
     let d = c .before .before in
-    let s = d .before .before in
-    let e = s .before in
-    let f = found-row-at _ _ _ (sym (s .class-at .ensures) ∙ d .found .given .1) in
-    (missing s ∙ ap is-not-found (d .found .given .1), rw (c .row-at .ensures ∙ sym f, ne-eqb _ 1 (e .before .before .before .if1 .left), ne-eqb _ 4 (e .if2 .left)))
+    let e = d .before .before in
+    let s = searched e in
+    let f = found-row-at _ _ _ (sym (s .0) ∙ d .found .given .1) in
+    (s .1 ∙ ap is-not-found (d .found .given .1), rw (c .row-at .ensures ∙ sym f, ne-eqb _ 1 (e .before .before .before .if1 .left), ne-eqb _ 4 (e .if2 .left)))
 
 returns : tie.Need-returns
 unfolding type-label-or-18 class-missing type-label naming-class bytes-of
@@ -43,9 +46,6 @@ returns-2 : tie.Need-returns-2
 unfolding type-label-or-18 class-missing type-label naming-class bytes-of
 returns-2 c = rw (c .if2 .taken)
 
-class-at-requires : tie.Need-class-at-requires
-class-at-requires c κs = search needs
-
 enum-known-found : tie.Need-enum-known-found
 enum-known-found c = search needs
 
@@ -54,10 +54,10 @@ enum-told c = search needs
 
 returns-3 : tie.Need-returns-3
 unfolding type-label-or-18
-returns-3 c = rw (missing (c .before .before) ∙ ap is-not-found (c .enum-told .given .1)) refl
+returns-3 c = rw (searched (c .before .before) .1 ∙ ap is-not-found (c .enum-told .given .1)) refl
 
 row-at-requires : tie.Need-row-at-requires
-row-at-requires c κs = found-in-table _ _ _ (sym (c .before .before .before .class-at .ensures) ∙ c .before .found .given .1)
+row-at-requires c κs = found-in-table _ _ _ (sym (searched (c .before .before .before) .0) ∙ c .before .found .given .1)
 
 returns-4 : tie.Need-returns-4
 unfolding type-label-or-18
@@ -74,7 +74,6 @@ find-label-spec =
     returns
     mul-array-bytes
     returns-2
-    class-at-requires
     enum-known-found
     enum-told
     returns-3

@@ -71,20 +71,20 @@ add-first-3 c = omega (arith, most c)
 add-first-4 : tie.Need-add-first-4
 add-first-4 c = omega (arith, most c)
 
-add-t12 : tie.Need-add-t12
-add-t12 c = omega (arith, most c)
-
-add-t15 : tie.Need-add-t15
-add-t15 c = search needs
-
-mul-t14 : tie.Need-mul-t14
-mul-t14 c = omega (arith, most c)
-
 add-t13 : tie.Need-add-t13
 add-t13 c = omega (arith, most c)
 
-add-t17 : tie.Need-add-t17
-add-t17 c = omega (arith, most c)
+add-t16 : tie.Need-add-t16
+add-t16 c = search needs
+
+mul-t15 : tie.Need-mul-t15
+mul-t15 c = omega (arith, most c)
+
+add-t14 : tie.Need-add-t14
+add-t14 c = omega (arith, most c)
+
+add-t18 : tie.Need-add-t18
+add-t18 c = omega (arith, most c)
 
 returns : tie.Need-returns
 unfolding row-size-or-18
@@ -110,10 +110,10 @@ row-text-size-spec =
     type-size-requires
     add-first-3
     add-first-4
-    add-t12
-    add-t15
-    mul-t14
     add-t13
-    add-t17
+    add-t16
+    mul-t15
+    add-t14
+    add-t18
     returns
     returns-2)

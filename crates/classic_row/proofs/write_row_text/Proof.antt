@@ -13,33 +13,33 @@ use Rattle.classic_row.proofs.RowTextLaws.{label-bounds, row-text-by-la
 use Rattle.classic_row.proofs.write_row_text.Statement.{statement}
 use Rattle.classic_row.proofs.write_row_text.Tie as tie
 
-abbrev start : tie.After-class-of → tie.Start
-start c = c .before .before .before .before .before .before .before .before .before
+abbrev start : tie.After-known-told → tie.Start
+start c = c .before .before .before .before .before .before .before .before
 
 -- The label that was found is the row's.
-abbrev found : tie.After-class-of → TypeLabel
-found c = c .before .before .found .given .0 .0
+abbrev label : tie.After-known-told → TypeLabel
+label c = c .before .label .given .0 .0
 
-found-is : (c : tie.After-class-of) → found c ≡ type-label (rows-of (start c .args .rows .now)) (start c .args .row)
-found-is c = let d = c .before .before in label-means _ _ _ (sym (d .found .given .1) ∙ d .before .before .find-label .ensures) .1
+label-is : (c : tie.After-known-told) → label c ≡ type-label (rows-of (start c .args .rows .now)) (start c .args .row)
+label-is c = let d = c .before in label-means _ _ _ (sym (d .label .given .1) ∙ d .before .before .find-label .ensures) .1
 
--- The row's text from the label and class word found: the first line, its line end, and the second line with its line end.
-abbrev first : tie.After-class-of → List ℕ
-first c = let a = start c .args in label-line (a .bits) (a .names .now) (a .row) (found c)
+-- The row's text from the label found and the class word passed in: the first line, its line end, and the second line with its line end.
+abbrev first : tie.After-known-told → List ℕ
+first c = let a = start c .args in label-line (a .bits) (a .names .now) (a .row) (label c)
 
-abbrev second : tie.After-class-of → List ℕ
-second c = let a = start c .args in address (a .bits) (c .class-of .result) ++ refs-text (a .bits) (refs-of (a .refs .now) (a .row))
+abbrev second : tie.After-known-told → List ℕ
+second c = let a = start c .args in address (a .bits) (a .class) ++ refs-text (a .bits) (refs-of (a .refs .now) (a .row))
 
-abbrev rest : tie.After-class-of → List ℕ
+abbrev rest : tie.After-known-told → List ℕ
 rest c = second c ++ (0x0A ∷ [])
 
-text : (c : tie.After-class-of) → let a = start c .args in
+text : (c : tie.After-known-told) → let a = start c .args in
     row-text (a .bits) (a .names .now) (a .refs .now) (rows-of (a .rows .now)) (a .row) ≡ first c ++ ((0x0A ∷ []) ++ rest c)
-text c = row-text-by-label _ _ _ _ _ _ _ (found-is c) (c .class-of .ensures)
+text c = row-text-by-label _ _ _ _ _ _ _ (label-is c) (start c .pre .1 .1 .1 .1 .1 .0)
 
 -- The output has capacity for the text, and after each call for the rest of it.
-in-bounds : (c : tie.After-class-of) → HasCapacity (start c .args .out .now) (start c .args .at) (first c ++ ((0x0A ∷ []) ++ rest c))
-in-bounds c = rw (text c) at (start c .pre .1 .1 .1 .1 .1 .1)
+in-bounds : (c : tie.After-known-told) → HasCapacity (start c .args .out .now) (start c .args .at) (first c ++ ((0x0A ∷ []) ++ rest c))
+in-bounds c = rw (text c) at (start c .pre .1 .1 .1 .1 .1 .1 .1 .1)
 
 after-first : (c : tie.After-write-first-line) → HasCapacity (c .write-first-line .last .0) (c .write-first-line .result) ((0x0A ∷ []) ++ rest (c .before .before))
 after-first c = capacity-after (c .write-first-line .ensures) ((0x0A ∷ []) ++ rest (c .before .before)) (in-bounds (c .before .before))
@@ -52,8 +52,8 @@ after-byte c =
 find-label-requires : tie.Need-find-label-requires
 find-label-requires c κs = search needs
 
-enum-known-found : tie.Need-enum-known-found
-enum-known-found c = search needs
+enum-known-label : tie.Need-enum-known-label
+enum-known-label c = search needs
 
 enum-told : tie.Need-enum-told
 enum-told c = search needs
@@ -63,18 +63,15 @@ returns : tie.Need-returns
 returns c =
     let d = c .before .before in
     let f = label-means _ _ _ (sym (c .enum-told .given .1) ∙ d .find-label .ensures) .0 in
-    let g = d .before .before .before .before .before .pre .1 .1 .1 .1 .0 in
+    let g = d .before .before .before .before .before .pre .1 .1 .1 .1 .1 .1 .0 in
     let z : _≡_ {A = ℕ} 0 1 = cc in
     absurd (omega arith)
-
-class-of-requires : tie.Need-class-of-requires
-class-of-requires c κs = search needs
 
 write-first-line-requires : tie.Need-write-first-line-requires
 write-first-line-requires c κs =
     let w = c .before in
     let p = start w .pre in
-    let e = label-bounds _ _ _ _ (p .1 .0) (p .1 .1 .0) (found-is w) in
+    let e = label-bounds _ _ _ _ (p .1 .0) (p .1 .1 .0) (label-is w) in
     (p .0, (p .1 .1 .0 .prim-lt, (e .name-in-bounds .0, capacity-first (start w .args .out .now) _ (first w) ((0x0A ∷ []) ++ rest w) (in-bounds w))))
 
 encode-byte-requires : tie.Need-encode-byte-requires
@@ -87,7 +84,7 @@ write-second-line-requires c κs =
     let b = c .before .before .before in
     let w = b .before .before .before .before .before .before in
     let p = start w .pre in
-    (p .0, (p .1 .1 .1 .1 .1 .0, capacity-first (b .encode-byte .last .0) _ (second w) (0x0A ∷ []) (after-byte b)))
+    (p .0, (p .1 .1 .1 .1 .1 .1 .1 .0, capacity-first (b .encode-byte .last .0) _ (second w) (0x0A ∷ []) (after-byte b)))
 
 encode-byte-requires-2 : tie.Need-encode-byte-requires-2
 encode-byte-requires-2 c κs =
@@ -110,10 +107,9 @@ write-row-text-spec =
     tie.close
     (tie.spec
     find-label-requires
-    enum-known-found
+    enum-known-label
     enum-told
     returns
-    class-of-requires
     write-first-line-requires
     encode-byte-requires
     write-second-line-requires

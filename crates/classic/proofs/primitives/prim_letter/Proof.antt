@@ -2,8 +2,8 @@
 use mathlib.Core.Path.{refl}
 use borrow.Author.Needs.{needs}
 use Rattle.classic.specs.ClassicText.{letters}
-use Rattle.classic.proofs.prim_letter.Statement.{statement}
-use Rattle.classic.proofs.prim_letter.Tie as tie
+use Rattle.classic.proofs.primitives.prim_letter.Statement.{statement}
+use Rattle.classic.proofs.primitives.prim_letter.Tie as tie
 
 array-read-result : tie.Need-array-read-result
 array-read-result c = search needs

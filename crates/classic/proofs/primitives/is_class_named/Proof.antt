@@ -2,8 +2,8 @@
 use native.Mathlib.Omega.{arith}
 use borrow.Author.Needs.{needs}
 use Rattle.classic.proofs.ClassRowTests.{not-class-named, class-name-two-bytes, class-named-bytes}
-use Rattle.classic.proofs.is_class_named.Statement.{statement}
-use Rattle.classic.proofs.is_class_named.Tie as tie
+use Rattle.classic.proofs.primitives.is_class_named.Statement.{statement}
+use Rattle.classic.proofs.primitives.is_class_named.Tie as tie
 
 shared-slice-read-result : tie.Need-shared-slice-read-result
 shared-slice-read-result c = omega (arith, class-name-two-bytes (c .before .before .before .before .before .args .row) (c .before .if1 .taken))
