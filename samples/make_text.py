@@ -116,6 +116,33 @@ def classes():
         yield f"class-name-{length}", written((d if length > 256 else d.medium(0x1030, 0x1010)).end())
 
 
+# ---- the class of the row before
+
+
+def neighbours():
+    d = one_class().klass(0x1010, b"B", 32).klass(0x1020, b"C", 48)
+    for i in range(12):
+        form = d.medium if i % 3 else d.array
+        form(d.address + 0x10, 0x1000 + 0x10 * (i % 2))
+    yield "before-alternates", written(d.end())
+
+    # class rows, primitive arrays and class rows at the same address between objects of one class
+    d = one_class().medium(0x1010, 0x1000).klass(0x1020, b"B", 32).medium(0x1030, 0x1000).primitive(0x1040, 1, 3, 6)
+    d.medium(0x1050, 0x1000).klass(0x1000, b"Again", 40, 0x1000, code=1).medium(0x1060, 0x1000, code=1)
+    yield "before-class-between", written(d.array(0x1070, 0x1000, [], 2).array(0x1080, 0x1020, [], 2).medium(0x1090, 0x1020).end())
+
+    # the same with the class rows last: the first of two with one address
+    d = empty_dump().with_header().medium(0x1000, 0x2000, code=1).medium(0x1010, 0x2000).array(0x1020, 0x2010, [], 3)
+    d.medium(0x1030, 0x2010).medium(0x1040, 0x2000).klass(0x2010, b"First", 8, code=2).klass(0x2000, b"Late", 16)
+    yield "before-classes-last", written(d.klass(0x2010, b"Second", 24).klass(0x2000, b"Later", 32).end())
+
+    # the class of the row before is there, and the next one is not; the class word 0 is not there either
+    for word in (0x1004, 0x2000, 0):
+        d = one_class().medium(0x1010, 0x1000).medium(0x1020, 0x1000)
+        yield f"before-then-missing-{word:x}", refused(d.medium(0x1030, word).medium(0x1040, 0x1000).end(), 18, 3)
+    yield "before-none-missing-0", refused(one_class().primitive(0x1010, 1, 3, 6).medium(0x1020, 0).end(), 18, 2)
+
+
 # ---- arrays
 
 NAMES = b"java/lang/String", b"[I", b"[[I", b"[Ljava/lang/String;", b"[", b"A[", b"L", b"LA;", b";", b"~!"
@@ -381,9 +408,9 @@ def changed_tables():
 
 
 def samples():
-    for group in (headers, addresses, classes, arrays, primitive_arrays, hashes, sizes, counts, nulls, missing_classes, cuts):
+    for group in (headers, addresses, classes, neighbours, arrays, primitive_arrays, hashes, sizes, counts, nulls, missing_classes):
         yield from group()
-    for group in (bad_headers, bad_rows, changed_tables):
+    for group in (cuts, bad_headers, bad_rows, changed_tables):
         yield from group()
 
 

@@ -24,6 +24,7 @@ no-search = record { class = 0; found = NotFound }
 unfoldable pub search-after : List Row → Row → LastSearch → LastSearch
 search-after rows r last = cond (needs-class r) (search-for rows (r .class)) last
 
+-- Its two cases.
 module _ (rows : List Row) (r : Row) (last next : LastSearch) where
   pub search-after-instance : needs-class r ≡ true → next ≡ search-for rows (r .class) → next ≡ search-after rows r last
   unfolding search-after
@@ -35,24 +36,24 @@ module _ (rows : List Row) (r : Row) (last next : LastSearch) where
 
 -- If the last search found a row, then the search for its class word among all rows finds that row. If it found none, nothing is
 -- known: no search may have been made.
-pub record Holds (rows : List Row) (last : LastSearch) : Type 0 where
+pub record LastSearchHolds (rows : List Row) (last : LastSearch) : Type 0 where
   pub found : (i : ℕ) → last .found ≡ At i → class-at rows (last .class) ≡ At i
 
 -- It holds before any row.
-pub no-search-holds : (rows : List Row) → Holds rows no-search
+pub no-search-holds : (rows : List Row) → LastSearchHolds rows no-search
 no-search-holds rows = record { found = λ i e. let z : _≡_ {A = ℕ} 0 1 = cc in absurd (omega arith) }
 
 -- It holds after each row.
-pub search-after-holds : (rows : List Row) (r : Row) (last next : LastSearch) → Holds rows last → next ≡ search-after rows r last → Holds rows next
+pub search-after-holds : (rows : List Row) (r : Row) (last next : LastSearch) → LastSearchHolds rows last → next ≡ search-after rows r last → LastSearchHolds rows next
 unfolding search-after
 search-after-holds rows r last next h e = rw e (by (needs-class r))
   where
-    by : (b : Bool) → Holds rows (cond b (search-for rows (r .class)) last)
+    by : (b : Bool) → LastSearchHolds rows (cond b (search-for rows (r .class)) last)
     by true = record { found = λ i e. e }
     by false = h
 
 -- The same class word gives the same row: a last search for a class word that found a row is the search for it among all rows.
-pub same-class-same-row : (rows : List Row) (last : LastSearch) (class i : ℕ) → Holds rows last → last .class ≡ class → last .found ≡ At i → last ≡ search-for rows class
+pub same-class-same-row : (rows : List Row) (last : LastSearch) (class i : ℕ) → LastSearchHolds rows last → last .class ≡ class → last .found ≡ At i → last ≡ search-for rows class
 same-class-same-row rows last class i h e f =
     let g : last .found ≡ class-at rows class = f ∙ sym (rw e at (h .found i f)) in
     λ j. record { class = e j; found = g j }

@@ -15,11 +15,11 @@ use Rattle.table.specs.declared.Row.{Row}
 use Rattle.table.specs.Search.{first-from, found-row, found-row-cons}
 use Rattle.classic.specs.ClassicText.{primitive-array-type, is-class-named, primitive-class, class-of}
 
--- The class word of a type, after a row before the others was seen, if it was `class`.
+-- The class word of a type among a row and the rows after it, if among the rows after it it is `class`.
 abbrev pub entered-class : (names : List ℕ) → Row → ℕ → ℕ → ℕ
 entered-class names r type class = cond (is-class-named names (primitive-array-type type) r) (r .address) class
 
--- Class words by type, before and after a row was entered.
+-- Class words by type, `before` and `after` a row is entered.
 pub record Entered (names : List ℕ) (r : Row) (before after : List ℕ) : Type 0 where
   pub eight : length after ≡ 8
   pub each : (type : ℕ) → type < 8 → getD after type 0 ≡ entered-class names r type (getD before type 0)

@@ -1,10 +1,9 @@
-// Classic text: the definition of the text (specs/ClassicText.antt), and the functions that find class rows by address. The class
-// rows of primitive arrays, which are found by name, are in primitives.rt. Each function's contract is an equation with the
-// definition.
+// Classic text: the definition of the text (specs/ClassicText.antt), and the functions that find class rows: by address here, by
+// the name of a primitive array's type in primitives.rt. The contract of each function here is an equation with a definition.
 ghost use mathlib.Core.Path.{_≡_};
 ghost use Rattle.table.specs.Rows.{rows-of};
 ghost use Rattle.classic.specs.ClassicText.{class-at};
-ghost use Rattle.classic.specs.LastSearch.{Holds, no-search, search-for};
+ghost use Rattle.classic.specs.LastSearch.{LastSearchHolds, no-search, search-for};
 use table::Search;
 
 pub mod primitives;
@@ -43,7 +42,7 @@ pub fn no_search() -> LastSearch
 
 // Returns the search for a class word. Looks at the last search first: if it found a row for the same class word, it is that search.
 pub fn search_class(rows: &[u64], class: u64, last: LastSearch) -> LastSearch
-    requires { ⌜ Holds (rows-of (now rows)) last ⌝ }
+    requires { ⌜ LastSearchHolds (rows-of (now rows)) last ⌝ }
     ensures { λ r. ⌜ r ≡ search-for (rows-of (now (rows .entry))) class ⌝ }
 {
     if last.class == class {

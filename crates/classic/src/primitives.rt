@@ -1,7 +1,6 @@
-// The class rows of primitive arrays: the first class row with the name of each type, such as `[C`.
+// The class words of primitive arrays: for each type the address of the first class row that is named as the type, such as `[C`.
 ghost use mathlib.Core.Path.{_≡_};
-ghost use mathlib.Core.Bool.{cond};
-ghost use Prim.Native.Nat.{ℕ, _+_, _≤_, _<_};
+ghost use Prim.Native.Nat.{_+_, _≤_, _<_};
 ghost use lib.ListN.{length, getD};
 ghost use Rattle.table.specs.Rows.{rows-of};
 ghost use Rattle.classic.specs.ClassicText.{letters, primitive-array-type, is-class-named};

@@ -1,17 +1,16 @@
 //! Measures how long a text takes to find the classes of its rows: many classes, then objects of the last of them or of the
 //! first; and many classes of which the last or the first is that of char arrays, then char arrays.
 
-use crate::clock::{keep_least, ratio};
+use crate::clock::ratio;
 use crate::heap::Heap;
-use phd_host::answer::PLACE;
-use phd_host::{library, reply};
+use crate::text::TextTimes;
 use std::time::Duration;
 
 /// How many classes there are, and how many objects or arrays.
 const COUNT: usize = 20_000;
-const ROUNDS: usize = 7;
+const ROUNDS: usize = 25;
 
-/// Generates a heap of so many classes, in which the class of the given number counts.
+/// Generates so many classes, and as many rows of the class with the given number.
 type MakeHeap = fn(usize, usize) -> Heap;
 
 const KINDS: [(&str, MakeHeap); 2] = [
@@ -19,36 +18,13 @@ const KINDS: [(&str, MakeHeap); 2] = [
     ("char arrays", Heap::of_char_arrays),
 ];
 
-/// The least times of a text and of its size query.
-struct TextTimes {
-    text: Duration,
-    size: Duration,
-}
-
-/// Measures the text of a heap and its size query once more.
-fn time_text(heap: &Heap, times: &mut TextTimes) {
-    let mut answer = [0; 16];
-    keep_least(&mut times.size, || {
-        library::text_size(&heap.tables(), &mut answer);
-    });
-    let size = answer[PLACE];
-    let mut out = vec![1; size as usize];
-    keep_least(&mut times.text, || {
-        library::text(&heap.tables(), &mut out, &mut answer);
-    });
-    assert_eq!(answer[..=PLACE], [reply::DONE, size], "the text is written");
-}
-
-/// Measures a heap in which the last class counts and one in which the first does, in turn.
+/// Measures a heap whose rows have the last class and one whose rows have the first, in turn.
 fn measure(heap: MakeHeap) -> [TextTimes; 2] {
     let heaps = [heap(COUNT, COUNT - 1), heap(COUNT, 0)];
-    let mut times = heaps.each_ref().map(|_| TextTimes {
-        text: Duration::MAX,
-        size: Duration::MAX,
-    });
+    let mut times = [TextTimes::NONE; 2];
     for _ in 0..ROUNDS {
         for (heap, times) in heaps.iter().zip(&mut times) {
-            time_text(heap, times);
+            times.measure(heap);
         }
     }
     times

@@ -4,6 +4,7 @@
 mod classes;
 mod clock;
 mod heap;
+mod text;
 
 use clock::{keep_least, ratio};
 use heap::{Heap, HEADER};
@@ -12,6 +13,7 @@ use phd_host::row::ROW_LEN;
 use phd_host::tables::Tables;
 use phd_host::{library, plain, reply};
 use std::time::Duration;
+use text::TextTimes;
 
 /// The least times for a heap of one size, by operation. A pair is the library and the plain implementation.
 struct Times {
@@ -22,8 +24,7 @@ struct Times {
     write: [Duration; 2],
     write_size: Duration,
     copy: Duration,
-    text: Duration,
-    text_size: Duration,
+    text: TextTimes,
 }
 
 type Read = fn(&[u8], &mut [u64], &mut [u64], &mut Answer) -> u64;
@@ -43,8 +44,7 @@ impl Times {
             write: [Duration::MAX; 2],
             write_size: Duration::MAX,
             copy: Duration::MAX,
-            text: Duration::MAX,
-            text_size: Duration::MAX,
+            text: TextTimes::NONE,
         }
     }
 }
@@ -73,7 +73,7 @@ fn measure(n: usize, rounds: usize) -> Times {
     for _ in 0..rounds {
         time_round(&heap, &dump, &mut buffers, &mut times);
     }
-    time_text(&heap, &mut times);
+    times.text.measure(&heap);
     times
 }
 
@@ -116,20 +116,6 @@ fn tables_of<'a>(rows: &'a [u64], refs: &'a [u64], dump: &'a [u8]) -> Tables<'a>
     }
 }
 
-/// Measures the text of a heap and its size query, once.
-fn time_text(heap: &Heap, times: &mut Times) {
-    let mut answer = [0; 16];
-    keep_least(&mut times.text_size, || {
-        library::text_size(&heap.tables(), &mut answer);
-    });
-    let size = answer[PLACE];
-    let mut out = vec![0; size as usize];
-    keep_least(&mut times.text, || {
-        library::text(&heap.tables(), &mut out, &mut answer);
-    });
-    assert_eq!(answer[..=PLACE], [reply::DONE, size], "the text is written");
-}
-
 /// Returns the nanoseconds for each of `n` records.
 fn per_record(time: Duration, n: usize) -> f64 {
     time.as_nanos() as f64 / n as f64
@@ -150,8 +136,8 @@ fn print_line(t: &Times) {
         side(&t.write),
         ratio(t.write_size, t.write[0]),
         per_record(t.copy, t.records),
-        t.text.as_secs_f64(),
-        ratio(t.text_size, t.text),
+        t.text.text.as_secs_f64(),
+        ratio(t.text.size, t.text.text),
     );
 }
 

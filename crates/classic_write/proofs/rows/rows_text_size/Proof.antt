@@ -7,7 +7,7 @@ use Prim.Native.Nat.{_-_, _<_}
 use native.Mathlib.Omega.{arith}
 use Rattle.table.specs.Table.{row-count}
 use Rattle.table.specs.Rows.{rows-of}
-use Rattle.classic.specs.LastSearch.{Holds, search-after, search-after-instance, search-after-other, no-search-holds, search-after-holds, search-after-found}
+use Rattle.classic.specs.LastSearch.{LastSearchHolds, search-after, search-after-instance, search-after-other, no-search-holds, search-after-holds, search-after-found}
 use Rattle.classic_row.specs.RowText.{SizeMeans, size-means}
 use Rattle.classic_row.specs.declared.RowSize.the-variants.{Bytes}
 use Rattle.classic_write.specs.TextInvariants.{SizeLoop, size-loop-start, size-loop-end, size-loop-refuses, size-loop-bound, size-loop-step, row-in-bounds, row-known-kind}
@@ -15,7 +15,7 @@ use Rattle.classic_write.proofs.rows.rows_text_size.Statement.{statemen
 use Rattle.classic_write.proofs.rows.rows_text_size.Tie as tie
 
 abbrev Inv-loop : tie.InvT-loop
-Inv-loop bits names rows first n last₀ total₀ i₀ last total i = SizeLoop bits names rows first i total × Holds (rows-of rows) last
+Inv-loop bits names rows first n last₀ total₀ i₀ last total i = SizeLoop bits names rows first i total × LastSearchHolds (rows-of rows) last
 
 abbrev μ-loop : tie.MeasureT-loop
 μ-loop bits names rows first n last₀ total₀ i₀ last total i = n - i

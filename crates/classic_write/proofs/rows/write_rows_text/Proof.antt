@@ -7,7 +7,7 @@ use Prim.Native.Nat.{_-_, _<_}
 use native.Mathlib.Omega.{arith}
 use Rattle.table.specs.Table.{row-count}
 use Rattle.table.specs.Rows.{rows-of}
-use Rattle.classic.specs.LastSearch.{Holds, search-after, search-after-instance, search-after-other, no-search-holds, search-after-holds, search-after-found}
+use Rattle.classic.specs.LastSearch.{LastSearchHolds, search-after, search-after-instance, search-after-other, no-search-holds, search-after-holds, search-after-found}
 use Rattle.classic.specs.PrimitiveClasses.{class-from-is}
 use Rattle.classic.specs.RowBounds.{RowNumbersInBounds}
 use Rattle.classic_write.specs.TextInvariants.{WriteLoop, write-loop-start, write-loop-end, write-loop-capacity, write-loop-step, row-in-bounds, row-known-kind, row-refs-in-bounds, row-has-class}
@@ -15,7 +15,7 @@ use Rattle.classic_write.proofs.rows.write_rows_text.Statement.{stateme
 use Rattle.classic_write.proofs.rows.write_rows_text.Tie as tie
 
 abbrev Inv-loop : tie.InvT-loop
-Inv-loop out₀ at bits names refs rows classes n last₀ to₀ i₀ out last to i = WriteLoop bits names refs rows at out₀ i to out × Holds (rows-of rows) last
+Inv-loop out₀ at bits names refs rows classes n last₀ to₀ i₀ out last to i = WriteLoop bits names refs rows at out₀ i to out × LastSearchHolds (rows-of rows) last
 
 abbrev μ-loop : tie.MeasureT-loop
 μ-loop out₀ at bits names refs rows classes n last₀ to₀ i₀ out last to i = n - i
