@@ -32,6 +32,7 @@ inside c = omega arith
 abbrev row : tie.Joined1 Inv-loop μ-loop → tie.After-row-at Inv-loop μ-loop
 row c = c .before .before .before
 
+-- There the last search is that after the row.
 searched : (c : tie.Joined1 Inv-loop μ-loop) → let w = row c in
     c .if1 .last ≡ search-after (rows-of (start (w .before) .args .rows .now)) (w .row-at .result) (w .before .before .loop .last)
 searched c = ⊎-elim (λ w. search-after-instance _ _ _ _ (w .0 .taken) (w .2 ∙ w .1 .ensures)) (λ w. search-after-other _ _ _ _ (w .0 .left) (w .1)) (c .if1 .came)
