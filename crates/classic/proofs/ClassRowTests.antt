@@ -1,7 +1,7 @@
 -- The tests of a row that the functions compute are `is-class-at` and `is-class-named`.
 -- Assumes nothing.
 use mathlib.Core.Path.{_≡_, refl, sym, ap, _∙_}
-use mathlib.Core.Bool.{Bool, true, false, _&&_, and-false}
+use mathlib.Core.Bool.{Bool, true, false, _&&_}
 use mathlib.Core.List.{List, [], _∷_}
 use Prim.Native.Nat.{ℕ, suc, _+_, _≤_, _<_}
 use native.Mathlib.Numerals.{add-one}
@@ -12,6 +12,7 @@ use borrow.Author.Tests.{eqb-true, eqb-false}
 use Rattle.decode.specs.Values.{and-left, and-right}
 use Rattle.decode.specs.Slices.{slice-cons}
 use Rattle.phd.specs.Phd.{bytes-equal}
+use Rattle.phd.specs.ByteTests.{bytes-equal-iff}
 use Rattle.table.specs.Rows.{name-of}
 use Rattle.phd_check.specs.GoodRows.{all-true}
 use Rattle.phd_check.specs.WellFormed.{length-name-of}
@@ -29,11 +30,11 @@ is-class-at-test a r = refl
 
 -- Lists of different lengths are not equal.
 different-lengths-differ : (xs ys : List ℕ) → (length xs ≡ length ys → ⊥) → bytes-equal xs ys ≡ false
-unfolding bytes-equal
-different-lengths-differ [] [] n = absurd (n refl)
-different-lengths-differ [] (y ∷ ys) n = refl
-different-lengths-differ (x ∷ xs) [] n = refl
-different-lengths-differ (x ∷ xs) (y ∷ ys) n = rw (different-lengths-differ xs ys (λ e. n (ap suc e))) (and-false (eqb x y))
+different-lengths-differ xs ys n = by (bytes-equal xs ys) refl
+  where
+    by : (b : Bool) → bytes-equal xs ys ≡ b → b ≡ false
+    by true e = absurd (n (ap length (bytes-equal-iff xs ys .0 e)))
+    by false e = refl
 
 length-primitive-array-type : (prim : ℕ) → length (primitive-array-type prim) ≡ 2
 unfolding primitive-array-type
@@ -70,7 +71,7 @@ module _ (names : List ℕ) (r : Row) (prim : ℕ) (in-bounds : r .place + r .na
       rw (c .0, c .1, slice-cons names (r .place) 1 l, slice-cons names (suc (r .place)) 0 m, add-one, f)
       (all-of-all-true (eqb (getD names (r .place) 0) 0x5B) (eqb (getD names (suc (r .place)) 0) (getD letters prim 0) ∷ []))
 
--- If it fails, the row changes no class word of primitive arrays.
+-- If the test of kind and name length fails, the row changes no class word of primitive arrays.
 pub nothing-entered : (names : List ℕ) (r : Row) → r .place + r .namelen ≤ length names → (classes : List ℕ) → length classes ≡ 8
     → eqb (r .kind) 1 && eqb (r .namelen) 2 ≡ false → Entered names r classes classes
 nothing-entered names r in-bounds classes l e = record { eight = l; each = λ type b. rw (← not-class-named names r type in-bounds e) }

@@ -6,11 +6,12 @@ use mathlib.Core.Logic.{_↔_, _⊎_, inl, inr}
 use Prim.Native.Nat.{ℕ}
 use native.Mathlib.Omega.{arith}
 use mathlib.Core.Bool.{Bool, true, false, _||_}
-use mathlib.Core.List.{List, [], _∷_}
+use mathlib.Core.List.{List}
 use lib.Dec.{eqb}
 use borrow.Author.Tests.{eqb-true, eq-eqb}
 use Rattle.decode.specs.Values.{and-left, and-right}
 use Rattle.phd.specs.Phd.{bytes-equal}
+use Rattle.phd.specs.ByteTests.{bytes-equal-iff}
 use Rattle.table.specs.Rows.{is-kind, name-of}
 use Rattle.table.specs.Search.{NoneSatisfies, first-row-none}
 use Rattle.table.specs.declared.Row.{Row}
@@ -41,25 +42,13 @@ is-class-at-iff a r = (
   λ c. rw (eq-eqb _ _ (c .kind), eq-eqb _ _ (c .address)),
 )
 
-bytes-equal-eq : (xs ys : List ℕ) → bytes-equal xs ys ≡ true → xs ≡ ys
-unfolding bytes-equal
-bytes-equal-eq [] [] e = refl
-bytes-equal-eq [] (y ∷ ys) e = let z : _≡_ {A = ℕ} 0 1 = cc in absurd (omega arith)
-bytes-equal-eq (x ∷ xs) [] e = let z : _≡_ {A = ℕ} 0 1 = cc in absurd (omega arith)
-bytes-equal-eq (x ∷ xs) (y ∷ ys) e = rw (eqb-true x y (and-left (eqb x y) (bytes-equal xs ys) e), bytes-equal-eq xs ys (and-right (eqb x y) (bytes-equal xs ys) e))
-
-bytes-equal-refl : (xs : List ℕ) → bytes-equal xs xs ≡ true
-unfolding bytes-equal
-bytes-equal-refl [] = refl
-bytes-equal-refl (x ∷ xs) = rw (eq-eqb x x refl, bytes-equal-refl xs)
-
 -- `is-class-named` tests exactly for a class row with this name.
 pub is-class-named-iff : (names name : List ℕ) (r : Row) → (is-class-named names name r ≡ true) ↔ ClassNamed names name r
 unfolding is-class-named
 is-class-named-iff names name r =
     let same : Bool = bytes-equal (name-of names r) name in (
-      λ e. record { kind = eqb-true _ _ (and-left (is-kind 1 r) same e); same-name = bytes-equal-eq _ _ (and-right (is-kind 1 r) same e) },
-      λ c. rw (eq-eqb _ _ (c .kind), c .same-name, bytes-equal-refl),
+      λ e. record { kind = eqb-true _ _ (and-left (is-kind 1 r) same e); same-name = bytes-equal-iff _ _ .0 (and-right (is-kind 1 r) same e) },
+      λ c. rw (eq-eqb _ _ (c .kind), bytes-equal-iff _ _ .1 (c .same-name)),
     )
 
 or-cases : (a b : Bool) → a || b ≡ true → (a ≡ true) ⊎ (b ≡ true)

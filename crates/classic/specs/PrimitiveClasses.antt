@@ -82,7 +82,7 @@ unfolding primitive-class found-row first-from
 no-classes names = record { eight = length-replicate {A = ℕ} 8 0; each = λ type l. getD-replicate {A = ℕ} 8 type 0 0 l }
 
 -- A row before others decides, if it is a class row with the name of the type.
-pub primitive-class-cons : (names : List ℕ) (r : Row) (rows : List Row) (type : ℕ) → primitive-class names (r ∷ rows) type ≡ entered-class names r type (primitive-class names rows type)
+primitive-class-cons : (names : List ℕ) (r : Row) (rows : List Row) (type : ℕ) → primitive-class names (r ∷ rows) type ≡ entered-class names r type (primitive-class names rows type)
 unfolding primitive-class
 primitive-class-cons names r rows type =
     ap (λ (found : Row). found .address) (found-row-cons (is-class-named names (primitive-array-type type)) r rows) ∙ by (is-class-named names (primitive-array-type type) r) _
@@ -92,7 +92,7 @@ primitive-class-cons names r rows type =
     by false other = refl
 
 -- With a row entered, the class words are those of all rows.
-pub entered-classes : (names : List ℕ) (r : Row) (rows : List Row) (before after : List ℕ) → PrimitiveClasses names rows before → Entered names r before after → PrimitiveClasses names (r ∷ rows) after
+entered-classes : (names : List ℕ) (r : Row) (rows : List Row) (before after : List ℕ) → PrimitiveClasses names rows before → Entered names r before after → PrimitiveClasses names (r ∷ rows) after
 entered-classes names r rows before after p e = record { eight = e .eight; each = λ type l. rw (primitive-class-cons, ← p .each type l) (e .each type l) }
 
 -- The loop invariant: the class words are those of the rows from index i on.

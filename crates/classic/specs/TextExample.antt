@@ -1,7 +1,7 @@
 -- The dump of docs/FORMAT.md 9 as classic text: the tables of its reading give the eleven lines. Then an object array with nulls,
--- and class rows with the same address or name. All hold by computation. A reader must believe that the dump (`dump`, ReadCases of
--- phd) and the lines are 01's, that the array's lines are those of change request 3, and that an object has the first class row with
--- its class word, a char array the first that is named `[C`.
+-- the types of primitive arrays, and class rows with the same address or name. All hold by computation. A reader must believe that
+-- the dump (`dump`, ReadCases of phd), the lines and the types are 01's, that the array's lines are those of change request 3, and
+-- that an object has the first class row with its class word, a char array the first that is named `[C`.
 use mathlib.Core.Path.{_≡_, refl}
 use Prim.Native.Nat.{ℕ, _*_}
 use mathlib.Core.List.{List, [], _∷_, _++_, map}
@@ -88,6 +88,13 @@ pub array-text-example : let h : Header = record { bits = 32; hashed = false; op
 unfolding unfold-text
 array-text-example = refl
 
+-- ---- types of primitive arrays
+
+-- The types 0 to 7 are those of 01's table.
+pub primitive-types : map primitive-array-type (0 ∷ 1 ∷ 2 ∷ 3 ∷ 4 ∷ 5 ∷ 6 ∷ 7 ∷ []) ≡ map ascii ("[Z" ∷ "[C" ∷ "[F" ∷ "[D" ∷ "[B" ∷ "[S" ∷ "[I" ∷ "[J" ∷ [])
+unfolding unfold-text
+primitive-types = refl
+
 -- ---- class rows with the same address or name
 
 -- A class row with this address, instance size, and place and length of the name; an object with this address and class word.
@@ -98,13 +105,15 @@ abbrev object-row : ℕ → ℕ → List ℕ
 object-row a class = row-of (2 ∷ a ∷ class ∷ 0 ∷ 0 ∷ [])
 
 -- The rows: two classes at 0x1000, A and B, with an object of that class word after each; two classes that are named `[C`, at 0x2000
--- and 0x3000; a char array. The name bytes are `AB[C`.
+-- and 0x3000; a char array; an array of char arrays. The name bytes are `AB[C`.
 abbrev class-rows : List ℕ
 class-rows =
     class-row 0x1000 16 0 1 ++ object-row 0x1010 0x1000 ++ class-row 0x1000 24 1 1 ++ object-row 0x1020 0x1000
     ++ class-row 0x2000 0 2 2 ++ class-row 0x3000 0 2 2 ++ row-of (4 ∷ 0x1030 ∷ 0 ∷ 0 ∷ 0 ∷ 0 ∷ 0 ∷ 6 ∷ 3 ∷ 0 ∷ 0 ∷ 1 ∷ [])
+    ++ row-of (3 ∷ 0x1040 ∷ 0x2000 ∷ 0 ∷ 0 ∷ 0 ∷ 0 ∷ 7 ∷ 0 ∷ [])
 
--- The expected lines: both objects have A's name and size, and the char array's class word is 0x2000.
+-- The expected lines: both objects have A's name and size, the char array's class word is 0x2000, and the type of the array of char
+-- arrays is `[[C`.
 abbrev expected-class-lines : List String
 expected-class-lines =
     "// Version: "
@@ -122,8 +131,10 @@ expected-class-lines =
     ∷ "0x00000000"
     ∷ "0x00001030 [24] OBJ [C"
     ∷ "0x00002000"
-    ∷ "// Breakdown - Classes: 4, Objects: 2, ObjectArrays: 0, PrimitiveArrays: 1"
-    ∷ "// EOF:  Total 'Objects',Refs(null) : 7,0(0)"
+    ∷ "0x00001040 [28] OBJ [[C"
+    ∷ "0x00002000"
+    ∷ "// Breakdown - Classes: 4, Objects: 2, ObjectArrays: 1, PrimitiveArrays: 1"
+    ∷ "// EOF:  Total 'Objects',Refs(null) : 8,0(0)"
     ∷ []
 
 -- The text of these rows is these lines.

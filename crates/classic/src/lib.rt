@@ -30,7 +30,7 @@ pub fn class_at(rows: &[u64], address: u64) -> Search
     Search::NotFound
 }
 
-// Returns the last search of a pass that has made no search.
+// Returns the state before the first search of a pass: a search that found no row.
 pub fn no_search() -> LastSearch
     ensures { λ r. ⌜ r ≡ no-search ⌝ }
 {
