@@ -2,10 +2,8 @@
 ghost use mathlib.Core.Path.{_≡_};
 ghost use Prim.Native.Nat.{_+_, _≤_, _<_};
 ghost use lib.ListN.{length, getD};
-ghost use Rattle.table.specs.Rows.{rows-of};
 ghost use Rattle.classic.specs.ClassicText.{letters, primitive-array-type, is-class-named};
-ghost use Rattle.classic.specs.PrimitiveClasses.{PrimitiveClasses, Entered};
-ghost use Rattle.classic.specs.RowBounds.{AllNumbersInBounds};
+ghost use Rattle.classic.specs.PrimitiveClasses.{Entered};
 use table::Row;
 
 // The signature letters of the primitive types 0 to 7: Z C F D B S I J (docs/FORMAT.md 3.1).
@@ -34,7 +32,7 @@ fn is_class_named(names: &[u8], row: Row, prim: u64) -> bool
 }
 
 // Enters a row into the class words by type: if it is a class row with the name of a type, its address is the type's class word.
-fn enter_row(names: &[u8], row: Row, classes: [u64; 8]) -> [u64; 8]
+pub fn enter_row(names: &[u8], row: Row, classes: [u64; 8]) -> [u64; 8]
     requires { ⌜ length classes ≡ 8 ⌝ }
     requires { ⌜ row .place + row .namelen ≤ length (now names) ⌝ }
     ensures { λ r. ⌜ Entered (now (names .entry)) row classes r ⌝ }
@@ -50,21 +48,4 @@ fn enter_row(names: &[u8], row: Row, classes: [u64; 8]) -> [u64; 8]
         }
     }
     entered
-}
-
-// Returns the class words of primitive arrays, by type: the address of the first class row with the name of the type, 0 if there is
-// none. One pass, from the last row to the first: of several class rows with one name, the first is entered last.
-pub fn primitive_classes(names: &[u8], rows: &[u64]) -> [u64; 8]
-    requires { ⌜ AllNumbersInBounds (now names) (rows-of (now rows)) ⌝ }
-    ensures { λ r. ⌜ PrimitiveClasses (now (names .entry)) (rows-of (now (rows .entry))) r ⌝ }
-{
-    let mut classes = [0u64; 8];
-    let mut i = rows.len() / table::ROW_WIDTH;
-    while 0 < i {
-        i -= 1;
-        let row = table::row_at(rows, i);
-        let entered = enter_row(names, row, classes);
-        classes = entered;
-    }
-    classes
 }

@@ -13,7 +13,7 @@ use Rattle.table.specs.declared.Row.{Row}
 use Rattle.table.specs.declared.Search.{Search}
 use Rattle.digits.specs.Digits.{digit-count}
 use Rattle.classic.specs.ClassicText.{address, class-at, is-not-found, needs-class, class-missing, bytes-of, class-of, refs-text, second-line}
-use Rattle.classic.specs.LastSearch.{ClassFound}
+use Rattle.class_index.specs.LastSearch.{ClassFound}
 use Rattle.classic.specs.RowBounds.{RowNumbersInBounds, KnownKind, AllNumbersInBounds}
 use Rattle.digits.specs.DigitLengths.{digit-count-le-20}
 use Rattle.classic_row.specs.RowText.{type-label, label-line, label-type, row-text, row-size, naming-class-in-bounds, bytes-of-lt, row-text-label-parts}

@@ -7,7 +7,7 @@ ghost use Rattle.encode.specs.Writes.{Writes, HasCapacity};
 ghost use Rattle.table.specs.Rows.{rows-of};
 ghost use Rattle.phd.specs.Shapes.{ValidBits};
 ghost use Rattle.classic.specs.ClassicText.{class-missing, class-of};
-ghost use Rattle.classic.specs.LastSearch.{ClassFound};
+ghost use Rattle.class_index.specs.LastSearch.{ClassFound};
 ghost use Rattle.classic.specs.PrimitiveClasses.{class-from};
 ghost use Rattle.classic.specs.RowBounds.{RowNumbersInBounds, KnownKind, AllNumbersInBounds};
 ghost use Rattle.classic_row.specs.RowText.{type-label-or-18, row-size-or-18, row-text};

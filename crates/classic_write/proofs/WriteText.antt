@@ -1,5 +1,5 @@
--- The three parts of the text, sized and written one after the other, give the whole text: for `check_and_size` and
--- `write_if_fits`.
+-- The three parts of the text, sized and written one after the other, give the whole text: for `size_good` and `write_if_fits`. And what the
+-- class index asks of good tables.
 use mathlib.Core.Path.{_≡_}
 use Prim.Native.Nat.{ℕ, _+_, _^_, _≤_, _<_}
 use native.Mathlib.Omega.{arith}
@@ -7,6 +7,8 @@ use mathlib.Core.List.{List, _++_}
 use lib.ListN.{length}
 use lib.Seq.{sets}
 use Rattle.encode.specs.Writes.{Writes, HasCapacity, writes-then, capacity-first, capacity-after}
+use Rattle.table.specs.Table.{row-count}
+use Rattle.table.specs.Rows.{rows-of, length-rows}
 use Rattle.table.specs.declared.Row.{Row}
 use Rattle.phd.specs.declared.Header.{Header}
 use Rattle.phd_check.specs.GoodRows.{TablesGood}
@@ -14,10 +16,15 @@ use Rattle.phd_counts.specs.Counts.{tally-of}
 use Rattle.phd_counts.specs.ExactCounts.{exact-counts}
 use Rattle.phd_counts.specs.declared.Tally.{Tally}
 use Rattle.classic.specs.ClassicText.{text-of}
+use Rattle.classic.specs.RowBounds.{AllNumbersInBounds, all-in-bounds}
 use Rattle.classic_write.specs.TextParts.{TallyBound, version-text, rows-text, rows-size, tally-trailers, text-parts}
 use Rattle.classic_write.specs.TextSizes.{tally-bound, trailers-le}
 use Rattle.classic_write.specs.TextOutcomes.{rows-size-lt}
 use Rattle.classic_write.specs.TextTheorems.{text-length}
+
+-- Good tables have few rows, and their numbers are in bounds.
+pub good-enterable : (h : Header) (names refs table : List ℕ) → TablesGood h names refs (rows-of table) → (row-count table < 2 ^ 31) × AllNumbersInBounds names (rows-of table)
+good-enterable h names refs table a = (omega (arith, length-rows table, exact-counts h names refs (rows-of table) a .few .rows-bound), all-in-bounds h names refs (rows-of table) a)
 
 module _ (h : Header) (names refs : List ℕ) (rows : List Row) (t : Tally) (e : t ≡ tally-of rows) where
   parts : text-of h names refs rows ≡ version-text names (h .vm) ++ (rows-text (h .bits) names refs rows ++ tally-trailers t)

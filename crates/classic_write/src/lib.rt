@@ -4,7 +4,10 @@ ghost use mathlib.Core.Path.{_≡_};
 ghost use lib.ListN.{length};
 ghost use Rattle.table.specs.Buffer.{overwrite};
 ghost use Rattle.table.specs.Rows.{rows-of};
+ghost use Rattle.phd_check.specs.GoodRows.{TablesGood};
 ghost use Rattle.classic.specs.ClassicText.{text-result, text-size-result};
+ghost use Rattle.classic.specs.PrimitiveClasses.{PrimitiveClasses};
+ghost use Rattle.class_index.specs.ClassIndex.{IndexHolds};
 ghost use Rattle.classic_write.specs.SizedText.{SizedTextMeans, CheckedText};
 use phd::Header;
 use phd_counts::Tally;
@@ -15,23 +18,31 @@ mod rows;
 mod trailers;
 mod version;
 
+// Tables with at most so many rows are searched without a class index.
+const FEW_ROWS: usize = 64;
+
 // The result of checking and sizing a text before any byte of it is written: a refusal, or the size and the counts of the rows.
 enum SizedText {
     Refused(Answer),
     Sized(usize, Tally),
 }
 
-// Checks the header and the rows, then computes the size of the text. The pass that sizes the lines of the rows also checks that
-// no row's class row is missing.
-fn check_and_size(header: Header, rows: &[u64], refs: &[u64], names: &[u8]) -> SizedText
+// Computes the size of the text of good tables. The pass that sizes the lines of the rows also checks that no row's class row is
+// missing. `slots` are those of the class index, if `certified` says so.
+fn size_good(
+    header: Header,
+    rows: &[u64],
+    refs: &[u64],
+    names: &[u8],
+    slots: &[u32],
+    certified: bool,
+) -> SizedText
+    requires { ⌜ TablesGood header (now names) (now refs) (rows-of (now rows)) ⌝ }
+    requires { ⌜ IndexHolds (rows-of (now rows)) (now slots) certified ⌝ }
     ensures { λ r. ⌜ SizedTextMeans header (now (names .entry)) (now (refs .entry)) (rows-of (now (rows .entry))) r ⌝ }
 {
-    let checked = phd_check::check(header, names, refs, rows);
-    if checked.reply != 0 {
-        return SizedText::Refused(checked);
-    }
     let first = version::version_size(names, header.vm);
-    match rows::rows_text_size(header.bits, names, rows, first) {
+    match rows::rows_text_size(header.bits, names, rows, slots, certified, first) {
         LinesSize::Refused(refusal) => SizedText::Refused(refusal),
         LinesSize::Bytes(lines) => {
             let tally = phd_counts::count_all(rows);
@@ -40,12 +51,20 @@ fn check_and_size(header: Header, rows: &[u64], refs: &[u64], names: &[u8]) -> S
     }
 }
 
-// Returns how many bytes the whole rows of a table and their references take as classic text. This size query makes the checks of
-// `text` except that of the output, and writes nothing.
-pub fn text_size(header: Header, rows: &[u64], refs: &[u64], names: &[u8]) -> Answer
+// Returns the answer of the size query for good tables. The class index is made in `slots`.
+fn text_size_with(
+    header: Header,
+    rows: &[u64],
+    refs: &[u64],
+    names: &[u8],
+    slots: &mut [u32],
+) -> Answer
+    requires { ⌜ TablesGood header (now names) (now refs) (rows-of (now rows)) ⌝ }
     ensures { λ r. ⌜ r ≡ text-size-result header (now (names .entry)) (now (refs .entry)) (now (rows .entry)) ⌝ }
 {
-    match check_and_size(header, rows, refs, names) {
+    class_index::enter_classes(names, rows, slots);
+    let certified = class_index::certify(rows, slots);
+    match size_good(header, rows, refs, names, slots, certified) {
         SizedText::Refused(refusal) => refusal,
         SizedText::Sized(size, _) => Answer {
             reply: 0,
@@ -54,8 +73,26 @@ pub fn text_size(header: Header, rows: &[u64], refs: &[u64], names: &[u8]) -> An
     }
 }
 
+// Returns how many bytes the whole rows of a table and their references take as classic text. This size query makes the checks of
+// `text` except that of the output, and writes nothing.
+pub fn text_size(header: Header, rows: &[u64], refs: &[u64], names: &[u8]) -> Answer
+    ensures { λ r. ⌜ r ≡ text-size-result header (now (names .entry)) (now (refs .entry)) (now (rows .entry)) ⌝ }
+{
+    let checked = phd_check::check(header, names, refs, rows);
+    if checked.reply != 0 {
+        return checked;
+    }
+    if rows.len() <= FEW_ROWS * table::ROW_WIDTH {
+        let mut none = [0u32; 0];
+        return text_size_with(header, rows, refs, names, &mut none);
+    }
+    let mut slots = [0u32; class_index::SLOTS];
+    text_size_with(header, rows, refs, names, &mut slots)
+}
+
 // Writes the text of checked tables if the output has capacity for it, else returns reply 17. `size` is the size of the text, and
-// `tally` has the counts of the rows.
+// `tally` has the counts of the rows. `slots` are those of the class index, if `certified` says so; `classes` are the class words of
+// primitive arrays, by type.
 fn write_if_fits(
     size: usize,
     tally: Tally,
@@ -63,9 +100,14 @@ fn write_if_fits(
     rows: &[u64],
     refs: &[u64],
     names: &[u8],
+    slots: &[u32],
+    certified: bool,
+    classes: &[u64; 8],
     out: &mut [u8],
 ) -> Answer
     requires { ⌜ CheckedText header (now names) (now refs) (rows-of (now rows)) size tally ⌝ }
+    requires { ⌜ IndexHolds (rows-of (now rows)) (now slots) certified ⌝ }
+    requires { ⌜ PrimitiveClasses (now names) (rows-of (now rows)) (now classes) ⌝ }
     ensures is { λ r. ⌜ r ≡ text-result header (now (names .entry)) (now (refs .entry)) (now (rows .entry)) (length (now (out .entry))) .answer ⌝ }
     ensures out { λ _. ⌜ now (out .exit) ≡ overwrite (now (out .entry)) (text-result header (now (names .entry)) (now (refs .entry)) (now (rows .entry)) (length (now (out .entry))) .bytes) ⌝ }
 {
@@ -76,11 +118,53 @@ fn write_if_fits(
         };
     }
     let at = version::write_version(out, names, header.vm);
-    let end = rows::write_rows_text(out, at, header.bits, names, refs, rows);
+    let end = rows::write_rows_text(
+        out,
+        at,
+        header.bits,
+        names,
+        refs,
+        rows,
+        slots,
+        certified,
+        classes,
+    );
     trailers::write_trailers(out, end, tally);
     Answer {
         reply: 0,
         place: size,
+    }
+}
+
+// Writes the text of good tables, or returns reply 17 or 18. The class index is made in `slots`, once for all passes over the rows.
+fn text_with(
+    header: Header,
+    rows: &[u64],
+    refs: &[u64],
+    names: &[u8],
+    slots: &mut [u32],
+    out: &mut [u8],
+) -> Answer
+    requires { ⌜ TablesGood header (now names) (now refs) (rows-of (now rows)) ⌝ }
+    ensures is { λ r. ⌜ r ≡ text-result header (now (names .entry)) (now (refs .entry)) (now (rows .entry)) (length (now (out .entry))) .answer ⌝ }
+    ensures out { λ _. ⌜ now (out .exit) ≡ overwrite (now (out .entry)) (text-result header (now (names .entry)) (now (refs .entry)) (now (rows .entry)) (length (now (out .entry))) .bytes) ⌝ }
+{
+    let classes = class_index::enter_classes(names, rows, slots);
+    let certified = class_index::certify(rows, slots);
+    match size_good(header, rows, refs, names, slots, certified) {
+        SizedText::Refused(refusal) => refusal,
+        SizedText::Sized(size, tally) => write_if_fits(
+            size,
+            tally,
+            header,
+            rows,
+            refs,
+            names,
+            slots,
+            certified,
+            &classes,
+            out,
+        ),
     }
 }
 
@@ -90,8 +174,14 @@ pub fn text(header: Header, rows: &[u64], refs: &[u64], names: &[u8], out: &mut 
     ensures is { λ r. ⌜ r ≡ text-result header (now (names .entry)) (now (refs .entry)) (now (rows .entry)) (length (now (out .entry))) .answer ⌝ }
     ensures out { λ _. ⌜ now (out .exit) ≡ overwrite (now (out .entry)) (text-result header (now (names .entry)) (now (refs .entry)) (now (rows .entry)) (length (now (out .entry))) .bytes) ⌝ }
 {
-    match check_and_size(header, rows, refs, names) {
-        SizedText::Refused(refusal) => refusal,
-        SizedText::Sized(size, tally) => write_if_fits(size, tally, header, rows, refs, names, out),
+    let checked = phd_check::check(header, names, refs, rows);
+    if checked.reply != 0 {
+        return checked;
     }
+    if rows.len() <= FEW_ROWS * table::ROW_WIDTH {
+        let mut none = [0u32; 0];
+        return text_with(header, rows, refs, names, &mut none, out);
+    }
+    let mut slots = [0u32; class_index::SLOTS];
+    text_with(header, rows, refs, names, &mut slots, out)
 }

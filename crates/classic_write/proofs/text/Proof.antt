@@ -1,29 +1,32 @@
--- `text` satisfies its contract: it returns a refusal before it writes a byte, or the answer of `write_if_fits`.
+-- `text` satisfies its contract: it returns the refusal of the check, or the answer of `text_with`.
 use borrow.Author.Needs.{needs}
-use mathlib.Core.Path.{subst}
-use Rattle.table.specs.CheckOrder.{refused-unchanged}
-use Rattle.classic_write.specs.TextOutcomes.{size-query-agrees}
-use Rattle.classic_write.specs.SizedText.{SizedTextMeans}
+use Rattle.table.specs.Rows.{rows-of}
+use Rattle.table.specs.CheckOrder.{checked-input-ok, refused-unchanged}
+use Rattle.phd_check.specs.GoodRows.{TablesGood}
+use Rattle.classic_write.specs.TextOutcomes.{check-refusal, size-query-agrees}
 use Rattle.classic_write.proofs.text.Statement.{statement}
 use Rattle.classic_write.proofs.text.Tie as tie
 
-check-and-size-requires : tie.Need-check-and-size-requires
-check-and-size-requires c κs = search needs
+-- Tables that passed the check are good.
+good : (c : tie.Else1) → let a = c .before .before .before .before .before .before .before .args in TablesGood (a .header) (a .names .now) (a .refs .now) (rows-of (a .rows .now))
+good c = checked-input-ok _ _ _ (c .before .before .check .ensures) (c .if1 .left)
 
-enum-known-refusal : tie.Need-enum-known-refusal
-enum-known-refusal c = search needs
-
-enum-known-size : tie.Need-enum-known-size
-enum-known-size c = search needs
+check-requires : tie.Need-check-requires
+check-requires c κs = search needs
 
 returns : tie.Need-returns
 returns c =
-    let m = c .before in
-    let r = subst (SizedTextMeans _ _ _ _) (m .refusal .given .1) (m .before .before .check-and-size .ensures) in
-    refused-unchanged _ _ _ _ (size-query-agrees _ _ _ _ _ _ (r .0) .refusal (r .1))
+    let t = c .if1 .taken in
+    refused-unchanged _ _ _ _ (size-query-agrees _ _ _ _ _ _ (check-refusal _ _ _ _ _ (c .before .before .check .ensures) t) .refusal t)
 
-write-if-fits-requires : tie.Need-write-if-fits-requires
-write-if-fits-requires c κs = let m = c .before .before in subst (SizedTextMeans _ _ _ _) (m .size .given .1) (m .before .before .check-and-size .ensures)
+mul-if2 : tie.Need-mul-if2
+mul-if2 c = search needs
+
+slice-aggregate-text-with : tie.Need-slice-aggregate-text-with
+slice-aggregate-text-with c = search needs
+
+text-with-requires : tie.Need-text-with-requires
+text-with-requires c κs = good (c .before .before .before)
 
 same-length : tie.Need-same-length
 same-length c = search needs
@@ -31,14 +34,30 @@ same-length c = search needs
 returns-2 : tie.Need-returns-2
 returns-2 c = search needs
 
+slice-aggregate-text-with-2 : tie.Need-slice-aggregate-text-with-2
+slice-aggregate-text-with-2 c = search needs
+
+text-with-requires-2 : tie.Need-text-with-requires-2
+text-with-requires-2 c κs = good (c .before .before .before)
+
+same-length-2 : tie.Need-same-length-2
+same-length-2 c = search needs
+
+returns-3 : tie.Need-returns-3
+returns-3 c = search needs
+
 pub text-spec : {M : Type 1} → statement M
 text-spec =
     tie.close
     (tie.spec
-    check-and-size-requires
-    enum-known-refusal
-    enum-known-size
-    write-if-fits-requires
+    check-requires
     returns
+    mul-if2
+    slice-aggregate-text-with
+    text-with-requires
     same-length
-    returns-2)
+    returns-2
+    slice-aggregate-text-with-2
+    text-with-requires-2
+    same-length-2
+    returns-3)

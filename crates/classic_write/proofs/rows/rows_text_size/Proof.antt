@@ -7,7 +7,7 @@ use Prim.Native.Nat.{_-_, _<_}
 use native.Mathlib.Omega.{arith}
 use Rattle.table.specs.Table.{row-count}
 use Rattle.table.specs.Rows.{rows-of}
-use Rattle.classic.specs.LastSearch.{LastSearchHolds, search-after, search-after-instance, search-after-other, no-search-holds, search-after-holds, search-after-found}
+use Rattle.class_index.specs.LastSearch.{LastSearchHolds, search-after, search-after-instance, search-after-other, no-search-holds, search-after-holds, search-after-found}
 use Rattle.classic_row.specs.RowText.{SizeMeans, size-means}
 use Rattle.classic_row.specs.declared.RowSize.the-variants.{Bytes}
 use Rattle.classic_write.specs.TextInvariants.{SizeLoop, size-loop-start, size-loop-end, size-loop-refuses, size-loop-bound, size-loop-step, row-in-bounds, row-known-kind}
@@ -15,14 +15,14 @@ use Rattle.classic_write.proofs.rows.rows_text_size.Statement.{statemen
 use Rattle.classic_write.proofs.rows.rows_text_size.Tie as tie
 
 abbrev Inv-loop : tie.InvT-loop
-Inv-loop bits names rows first n last₀ total₀ i₀ last total i = SizeLoop bits names rows first i total × LastSearchHolds (rows-of rows) last
+Inv-loop bits names rows slots certified first n last₀ total₀ i₀ last total i = SizeLoop bits names rows first i total × LastSearchHolds (rows-of rows) last
 
 abbrev μ-loop : tie.MeasureT-loop
-μ-loop bits names rows first n last₀ total₀ i₀ last total i = n - i
+μ-loop bits names rows slots certified first n last₀ total₀ i₀ last total i = n - i
 
 -- The start of the function, seen from an iteration of the loop.
 abbrev start : tie.In-loop Inv-loop μ-loop → tie.Start Inv-loop μ-loop
-start c = c .before .before .before .before .before
+start c = c .before .before .before .before .before .before
 
 inside : (c : tie.In-loop Inv-loop μ-loop) → c .before .loop .i < row-count (start c .args .rows .now)
 unfolding row-count
@@ -46,20 +46,20 @@ no-search-requires : tie.Need-no-search-requires Inv-loop μ-loop
 no-search-requires c κs = search needs
 
 loop-holds : tie.Need-loop-holds Inv-loop μ-loop
-loop-holds c = (size-loop-start _ _ _ _ (c .before .before .before .pre .1 .1), rw (c .no-search .ensures) (no-search-holds _))
+loop-holds c = (size-loop-start _ _ _ _ (c .before .before .before .before .pre .1 .1 .1), rw (c .no-search .ensures) (no-search-holds _))
 
 row-at-requires : tie.Need-row-at-requires Inv-loop μ-loop
 row-at-requires c κs = inside c
 
 search-class-requires : tie.Need-search-class-requires Inv-loop μ-loop
-search-class-requires c κs = c .before .before .before .before .before .loop .inv .1
+search-class-requires c κs = let d = c .before .before .before .before in (start d .pre .1 .0, d .before .loop .inv .1)
 
 row-text-size-requires : tie.Need-row-text-size-requires Inv-loop μ-loop
 row-text-size-requires c κs =
     let d = row c .before in
     let p = start d .pre in
     let e = row c .row-at .ensures in
-    (p .0, (p .1 .0, (row-in-bounds _ _ _ (inside d) e _ (p .1 .0), (row-known-kind _ _ _ (inside d) e _ (p .1 .0), search-after-found _ _ _ _ (searched c)))))
+    (p .0, (p .1 .1 .0, (row-in-bounds _ _ _ (inside d) e _ (p .1 .1 .0), (row-known-kind _ _ _ (inside d) e _ (p .1 .1 .0), search-after-found _ _ _ _ (searched c)))))
 
 enum-known-bytes : tie.Need-enum-known-bytes Inv-loop μ-loop
 enum-known-bytes c = search needs

@@ -9,8 +9,8 @@ use mathlib.Core.List.{List}
 use Rattle.table.specs.declared.Row.{Row}
 use Rattle.table.specs.declared.Search.{Search}
 use Rattle.table.specs.declared.Search.the-variants.{At, NotFound}
 use Rattle.classic.specs.ClassicText.{class-at, needs-class}
-use Rattle.classic.specs.declared.LastSearch.{LastSearch}
+use Rattle.class_index.specs.declared.LastSearch.{LastSearch}
 
 -- The search for a class word among all rows, as the last search.
 abbrev pub search-for : List Row → ℕ → LastSearch
