@@ -5,16 +5,29 @@ ghost use lib.ListN.{length, take, drop};
 ghost use Rattle.encode.specs.Writes.{Writes, HasCapacity};
 ghost use Rattle.phd.specs.Shapes.{ValidBits};
 ghost use Rattle.classic.specs.ClassicText.{address, refs-text};
+ghost use Rattle.classic_fields.specs.AddressParts.{high-digits};
 
-// Writes an address: `0x` and W / 4 upper-case hexadecimal digits; `bits` is W.
+// Writes the digits of an address before its last eight: eight for W 64 and none for W 32; `bits` is W.
+fn write_high_digits(out: &mut [u8], at: usize, bits: u64, a: u64) -> usize
+    requires { ⌜ ValidBits bits ⌝ }
+    requires { ⌜ HasCapacity (now out) at (high-digits bits a) ⌝ }
+    ensures { λ r. ⌜ Writes (now (out .entry)) at (high-digits bits a) (now (out .exit)) r ⌝ }
+{
+    if bits == 64 {
+        return digits::write_hex8(out, at, a / 0x1_0000_0000);
+    }
+    at
+}
+
+// Writes an address: `0x` and W / 4 upper-case hexadecimal digits; `bits` is W. The digits are written eight at a time.
 pub fn write_address(out: &mut [u8], at: usize, bits: u64, a: u64) -> usize
     requires { ⌜ ValidBits bits ⌝ }
     requires { ⌜ HasCapacity (now out) at (address bits a) ⌝ }
     ensures { λ r. ⌜ Writes (now (out .entry)) at (address bits a) (now (out .exit)) r ⌝ }
 {
-    let k = (bits / 4) as usize;
     let digits = encode::encode_bytes(out, at, b"0x");
-    digits::write_digits(out, digits, 16, k, a)
+    let last = write_high_digits(out, digits, bits, a);
+    digits::write_hex8(out, last, a)
 }
 
 // Writes `count` references from index `first` of the table on, each after a space.

@@ -11,7 +11,7 @@ use borrow.Author.Tests.{lt-ltb, le-ltb}
 use Rattle.io.specs.Digits.{glyph, digits, Fewest}
 use Rattle.digits.specs.Digits.{uppercase, upper-digits, digit-count-in, digit-count, decimal}
 
-length-digits : (b k n : ℕ) → length (digits b k n) ≡ k
+pub length-digits : (b k n : ℕ) → length (digits b k n) ≡ k
 length-digits b zero n = refl
 length-digits b (suc k) n = simp (length-append, length-digits b k (n / b)) (omega arith)
 

@@ -1,41 +1,50 @@
--- `write_address` satisfies its contract: the digits are written after `0x`.
+-- `write_address` satisfies its contract: it writes the parts of the address one after the other.
 use borrow.Author.Needs.{needs}
-use mathlib.Core.List.{[], _∷_}
-use Prim.Native.Nat.{_/_}
-use native.Mathlib.Omega.{arith}
-use Rattle.encode.specs.Writes.{writes-then, capacity-after, capacity-first}
-use Rattle.digits.specs.Digits.{upper-digits}
-use Rattle.classic.specs.ClassicText.{address}
+use mathlib.Core.Path.{refl}
+use Rattle.encode.specs.WriteProgress.{WriteProgress, progress-start, next-part-fits, progress-next, progress-done}
+use Rattle.classic_fields.specs.AddressParts.{address-parts, address-join}
 use Rattle.classic_fields.proofs.write_address.Statement.{statement}
 use Rattle.classic_fields.proofs.write_address.Tie as tie
+
+-- The write before its first part, after `0x`, and after the digits before the last eight.
+abbrev none : tie.Start → WriteProgress
+none c =
+    let a = c .args in
+    progress-start (a .out .now) (a .at) (address-parts (a .bits) (a .a)) (address-join (a .bits) (a .a) (c .pre .0)) (c .pre .1)
+
+abbrev prefix : tie.After-encode-bytes → WriteProgress
+prefix c = progress-next (none (c .before .before .before .before)) (c .encode-bytes .ensures)
+
+abbrev high : tie.After-write-high-digits → WriteProgress
+high c = progress-next (prefix (c .before .before .before .before)) (c .write-high-digits .ensures)
 
 slice-aggregate-encode-bytes : tie.Need-slice-aggregate-encode-bytes
 slice-aggregate-encode-bytes c = search needs
 
 encode-bytes-requires : tie.Need-encode-bytes-requires
-unfolding address
-encode-bytes-requires c κs =
-    let s = c .before .before .before in
-    capacity-first (s .args .out .now) (s .args .at) (48 ∷ 120 ∷ []) (upper-digits 16 (s .args .bits / 4) (s .args .a)) (s .pre .1)
+encode-bytes-requires c κs = next-part-fits (none (c .before .before .before))
 
-write-digits-requires : tie.Need-write-digits-requires
-unfolding address
-write-digits-requires c κs =
+write-high-digits-requires : tie.Need-write-high-digits-requires
+write-high-digits-requires c κs =
     let p = c .before .before .before in
-    let s = p .before .before .before .before in
-    ((omega arith, omega arith), capacity-after (p .encode-bytes .ensures) (upper-digits 16 (s .args .bits / 4) (s .args .a)) (s .pre .1))
+    (p .before .before .before .before .pre .0, next-part-fits (prefix p))
+
+write-hex8-requires : tie.Need-write-hex8-requires
+write-hex8-requires c κs = next-part-fits (high (c .before .before .before))
 
 same-length : tie.Need-same-length
 same-length c = search needs
 
 returns : tie.Need-returns
-unfolding address
-returns c =
-    let q = c .before .before in
-    let p = q .before .before .before .before in
-    writes-then (p .encode-bytes .ensures) (q .write-digits .ensures)
+returns c = let p = c .before .before in progress-done (progress-next (high (p .before .before .before .before)) (p .write-hex8 .ensures)) refl
 
 pub write-address-spec : {M : Type 1} → statement M
 write-address-spec =
     tie.close
-    (tie.spec slice-aggregate-encode-bytes encode-bytes-requires write-digits-requires same-length returns)
+    (tie.spec
+    slice-aggregate-encode-bytes
+    encode-bytes-requires
+    write-high-digits-requires
+    write-hex8-requires
+    same-length
+    returns)
