@@ -16,6 +16,8 @@ use Rattle.table.specs.declared.Search.the-variants.{NotFound}
 use Rattle.classic.specs.ClassicText.{class-missing, row-lines, unlines}
 use Rattle.classic.specs.RowBounds.{RowNumbersInBounds, KnownKind, AllNumbersInBounds, RefsInBounds, AllRefsInBounds}
 use Rattle.classic_row.specs.RowText.{row-text, row-size}
+use Rattle.phd_counts.specs.Counts.{tally-of}
+use Rattle.phd_counts.specs.declared.Tally.{Tally}
 use Rattle.classic_write.specs.TextParts.{rows-text, rows-size, size-or-18}
 use Rattle.classic_write.specs.TextSizes.{unlines-row-cons}
 use Rattle.classic_write.specs.declared.rows.LinesSize.{LinesSize}
@@ -87,16 +89,16 @@ module _ (bits : ℕ) (names table : List ℕ) where
 
   -- The result that the contract requires.
   abbrev size-loop-answer : ℕ → LinesSize
-  size-loop-answer version-size = size-or-18 (first-row (class-missing (rows-of table)) (rows-of table)) (version-size + rows-size bits names (rows-of table))
+  size-loop-answer version-size = size-or-18 (first-row (class-missing (rows-of table)) (rows-of table)) (version-size + rows-size bits names (rows-of table)) (tally-of (rows-of table))
 
-  -- After the last row, the total is the required result.
-  pub size-loop-end : (version-size i total : ℕ) → SizeLoop version-size i total → row-count table ≤ i → Bytes total ≡ size-loop-answer version-size
+  -- After the last row, the total and the tally of all rows are the required result.
+  pub size-loop-end : (version-size i total : ℕ) (t : Tally) → SizeLoop version-size i total → t ≡ tally-of (rows-of table) → row-count table ≤ i → Bytes total t ≡ size-loop-answer version-size
   unfolding rows-size
-  size-loop-end version-size i total z l =
+  size-loop-end version-size i total t z q l =
       let n = sum-left-none (row-size bits names (rows-of table)) table i l in
       let s = z .sum in
       let e : total ≡ version-size + rows-size bits names (rows-of table) = omega arith in
-      rw (e, ← search-done _ _ _ (z .no-class-missing) l)
+      rw (e, q, ← search-done _ _ _ (z .no-class-missing) l)
 
   -- If the class row of row i, which is r, is missing, reply 18 with the place i is the required result.
   pub size-loop-refuses : (version-size i total : ℕ) (r : Row) → SizeLoop version-size i total → i < row-count table → r ≡ row-at table i → class-missing (rows-of table) r ≡ true

@@ -20,6 +20,7 @@ use Rattle.table.specs.declared.Search.the-variants.{At, NotFound}
 use Rattle.table.specs.declared.Search.{Search}
 use Rattle.classic.specs.ClassicText.{class-missing, text-of, text-rows, text-rows-size}
 use Rattle.classic.specs.RowBounds.{all-in-bounds, all-refs-in-bounds}
+use Rattle.phd_counts.specs.declared.Tally.{Tally}
 use Rattle.classic_write.specs.TextParts.{version-text, rows-size, size-or-18}
 use Rattle.classic_write.specs.TextSizes.{version-le, rows-size-le}
 use Rattle.classic_write.specs.declared.rows.LinesSize.the-variants.{Bytes, Refused}
@@ -44,15 +45,15 @@ module _ (h : Header) (names refs : List ℕ) (rows : List Row) (out-capacity : 
 -- ---- the size query
 
 -- If the pass that sizes the rows returns a size, no class row is missing, and it is the size n.
-pub size-has-classes : (f : Search) (n m : ℕ) → Bytes m ≡ size-or-18 f n → (f ≡ NotFound) × (m ≡ n)
-size-has-classes (At i) n m e = let z : _≡_ {A = ℕ} 0 1 = cc in absurd (omega arith)
-size-has-classes NotFound n m e = (refl, cc)
+pub size-has-classes : (f : Search) (n m : ℕ) (t u : Tally) → Bytes m u ≡ size-or-18 f n t → (f ≡ NotFound) × (m ≡ n) × (u ≡ t)
+size-has-classes (At i) n m t u e = let z : _≡_ {A = ℕ} 0 1 = cc in absurd (omega arith)
+size-has-classes NotFound n m t u e = (refl, cc, cc)
 
 -- If it returns a refusal, that is the refusal of the third check, 18.
-refusal-is-18 : (f : Search) (n : ℕ) (w : Answer) (bytes : List ℕ) → Refused w ≡ size-or-18 f n → (w ≡ checked-write true NotFound f true bytes .answer) × (w .reply ≡ 0 → ⊥)
+refusal-is-18 : (f : Search) (n : ℕ) (t : Tally) (w : Answer) (bytes : List ℕ) → Refused w ≡ size-or-18 f n t → (w ≡ checked-write true NotFound f true bytes .answer) × (w .reply ≡ 0 → ⊥)
 unfolding checked-write refused
-refusal-is-18 (At i) n w bytes e = let q : w ≡ record { reply = 18; place = i } = cc in (q, λ z. omega (arith, rw q at z))
-refusal-is-18 NotFound n w bytes e = let z : _≡_ {A = ℕ} 0 1 = cc in absurd (omega arith)
+refusal-is-18 (At i) n t w bytes e = let q : w ≡ record { reply = 18; place = i } = cc in (q, λ z. omega (arith, rw q at z))
+refusal-is-18 NotFound n t w bytes e = let z : _≡_ {A = ℕ} 0 1 = cc in absurd (omega arith)
 
 module _ (h : Header) (names refs : List ℕ) (rows : List Row) where
   -- A refusal by the first two checks (15, 16) is the answer of the size query.
@@ -61,10 +62,10 @@ module _ (h : Header) (names refs : List ℕ) (rows : List Row) where
   check-refusal w e z = query-refused _ _ _ _ _ w e z
 
   -- For good tables a refusal by the pass that sizes the rows is the answer of the size query.
-  pub class-refusal : TablesGood h names refs rows → (w : Answer) (n : ℕ) → Refused w ≡ size-or-18 (first-row (class-missing rows) rows) n
+  pub class-refusal : TablesGood h names refs rows → (w : Answer) (n : ℕ) (t : Tally) → Refused w ≡ size-or-18 (first-row (class-missing rows) rows) n t
       → (w ≡ text-rows-size h names refs rows) × (w .reply ≡ 0 → ⊥)
   unfolding text-rows-size
-  class-refusal a w n e = rw (a .0, a .1, text-rows-size) (refusal-is-18 _ n w _ e)
+  class-refusal a w n t e = rw (a .0, a .1, text-rows-size) (refusal-is-18 _ n t w _ e)
 
   -- If all three checks pass, the size query returns 0 with the length of the text.
   pub size-query-size : TablesGood h names refs rows → first-row (class-missing rows) rows ≡ NotFound

@@ -34,10 +34,10 @@ rows-text bits names refs rows = unlines (row-lines bits names refs rows rows)
 unfoldable pub rows-size : ℕ → (names : List ℕ) → List Row → ℕ
 rows-size bits names rows = sum (row-size bits names rows) rows
 
--- From the search for missing class rows: reply 18 with the index of the first row found, or n bytes if none is found.
-abbrev pub size-or-18 : Search → ℕ → LinesSize
-size-or-18 (At i) n = Refused (record { reply = 18; place = i })
-size-or-18 NotFound n = Bytes n
+-- From the search for missing class rows: reply 18 with the index of the first row found, or n bytes and the counts t if none is found.
+abbrev pub size-or-18 : Search → ℕ → Tally → LinesSize
+size-or-18 (At i) n t = Refused (record { reply = 18; place = i })
+size-or-18 NotFound n t = Bytes n t
 
 -- ---- the trailers
 

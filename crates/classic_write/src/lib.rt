@@ -27,8 +27,8 @@ enum SizedText {
     Sized(usize, Tally),
 }
 
-// Computes the size of the text of good tables. The pass that sizes the lines of the rows also checks that no row's class row is
-// missing. `slots` are those of the class index, if `certified` says so.
+// Computes the size of the text of good tables. The pass that sizes the lines of the rows also counts the rows, and checks that no
+// row's class row is missing. `slots` are those of the class index, if `certified` says so.
 fn size_good(
     header: Header,
     rows: &[u64],
@@ -44,8 +44,7 @@ fn size_good(
     let first = version::version_size(names, header.vm);
     match rows::rows_text_size(header.bits, names, rows, slots, certified, first) {
         LinesSize::Refused(refusal) => SizedText::Refused(refusal),
-        LinesSize::Bytes(lines) => {
-            let tally = phd_counts::count_all(rows);
+        LinesSize::Bytes(lines, tally) => {
             SizedText::Sized(lines + trailers::trailers_size(tally), tally)
         }
     }

@@ -6,21 +6,25 @@ ghost use Rattle.table.specs.Rows.{rows-of};
 ghost use Rattle.table.specs.Search.{first-row};
 ghost use Rattle.table.specs.declared.Search.the-variants.{NotFound};
 ghost use Rattle.phd.specs.Shapes.{ValidBits};
+ghost use Rattle.phd_counts.specs.Counts.{tally-of};
+ghost use Rattle.phd_counts.specs.CountLoop.{CountBounds};
 ghost use Rattle.classic.specs.ClassicText.{class-missing};
 ghost use Rattle.classic.specs.PrimitiveClasses.{PrimitiveClasses};
 ghost use Rattle.classic.specs.RowBounds.{AllNumbersInBounds, AllRefsInBounds};
 ghost use Rattle.class_index.specs.ClassIndex.{IndexHolds};
 ghost use Rattle.classic_write.specs.TextParts.{rows-size, size-or-18, rows-text};
 use classic_row::RowSize;
+use phd_counts::Tally;
 use table::Answer;
 
-// The size in bytes of the version line and the lines of the rows, or the refusal of a row whose class row is missing.
+// The size in bytes of the version line and the lines of the rows, and the counts of the rows; or the refusal of a row whose class row
+// is missing.
 pub enum LinesSize {
-    Bytes(usize),
+    Bytes(usize, Tally),
     Refused(Answer),
 }
 
-// Returns the size of the lines of all rows plus `first`, the size of the version line, or reply 18 with the index of the first
+// Returns the size of the lines of all rows plus `first`, the size of the version line, and the counts of the rows; or reply 18 with the index of the first
 // object or object array whose class row is missing. `slots` are those of the class index, if `certified` says so.
 pub fn rows_text_size(
     bits: u64,
@@ -34,10 +38,12 @@ pub fn rows_text_size(
     requires { ⌜ IndexHolds (rows-of (now rows)) (now slots) certified ⌝ }
     requires { ⌜ AllNumbersInBounds (now names) (rows-of (now rows)) ⌝ }
     requires { ⌜ first + rows-size bits (now names) (rows-of (now rows)) < 2 ^ 63 ⌝ }
-    ensures { λ r. ⌜ r ≡ size-or-18 (first-row (class-missing (rows-of (now (rows .entry)))) (rows-of (now (rows .entry)))) (first + rows-size bits (now (names .entry)) (rows-of (now (rows .entry)))) ⌝ }
+    requires { ⌜ CountBounds (rows-of (now rows)) ⌝ }
+    ensures { λ r. ⌜ r ≡ size-or-18 (first-row (class-missing (rows-of (now (rows .entry)))) (rows-of (now (rows .entry)))) (first + rows-size bits (now (names .entry)) (rows-of (now (rows .entry)))) (tally-of (rows-of (now (rows .entry)))) ⌝ }
 {
     let n = rows.len() / table::ROW_WIDTH;
     let mut last = class_index::no_search();
+    let mut tally = phd_counts::no_rows();
     let mut total = first;
     let mut i: usize = 0;
     while i < n {
@@ -57,9 +63,10 @@ pub fn rows_text_size(
                 });
             }
         }
+        tally = phd_counts::add_row(tally, row);
         i += 1;
     }
-    LinesSize::Bytes(total)
+    LinesSize::Bytes(total, tally)
 }
 
 // Writes the lines of all rows at offset `at`, and returns the offset after them. No row's class row may be missing. `slots` are

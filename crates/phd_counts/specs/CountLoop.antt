@@ -11,7 +11,7 @@ use Rattle.table.specs.Table.{row-count}
 use Rattle.table.specs.Rows.{row-at, is-kind, rows-of, length-rows}
 use Rattle.table.specs.Sums.{sum, sum-left-next, SumInvariant, sum-start, sum-next, sum-done}
 use Rattle.table.specs.declared.Row.{Row}
-use Rattle.phd_counts.specs.Counts.{kind-count, row-ref-count, nulls-of, nulls, tally-of, add-row}
+use Rattle.phd_counts.specs.Counts.{kind-count, row-ref-count, nulls-of, nulls, no-rows, tally-of, add-row}
 use Rattle.phd_counts.specs.declared.Tally.{Tally}
 
 -- Bounds on the numbers of rows, references and nulls, far below what 64 bits hold.
@@ -67,8 +67,8 @@ pub record CountedBefore (rows : List ℕ) (i : ℕ) (t : Tally) : Type 0 where
   pub refs : SumInvariant row-ref-count rows i (t .refs)
   pub nulls : SumInvariant nulls-of rows i (t .nulls)
 
--- The empty tally is that of the rows before row 0.
-pub counted-before-first : (rows : List ℕ) → CountedBefore rows 0 (record { classes = 0; objects = 0; arrays = 0; primitives = 0; rows = 0; refs = 0; nulls = 0 })
+-- The tally of no rows is that of the rows before row 0.
+pub counted-before-first : (rows : List ℕ) → CountedBefore rows 0 no-rows
 counted-before-first rows = record {
   classes = sum-start (kind-count 1) rows;
   objects = sum-start (kind-count 2) rows;

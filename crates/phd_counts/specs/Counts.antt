@@ -44,6 +44,10 @@ tally-of rows = record {
   nulls = nulls rows;
 }
 
+-- The tally of no rows.
+abbrev pub no-rows : Tally
+no-rows = record { classes = 0; objects = 0; arrays = 0; primitives = 0; rows = 0; refs = 0; nulls = 0 }
+
 -- The tally with one more row.
 unfoldable pub add-row : Tally → Row → Tally
 add-row t r = record {

@@ -8,6 +8,7 @@ use Rattle.table.specs.Search.{first-row}
 use Rattle.table.specs.declared.Search.the-variants.{NotFound}
 use Rattle.phd_check.specs.GoodRows.{TablesGood}
 use Rattle.phd_check.specs.WellFormed.{header-bits-good}
+use Rattle.phd_counts.specs.Counts.{tally-of}
 use Rattle.phd_counts.specs.ExactCounts.{exact-counts}
 use Rattle.classic.specs.ClassicText.{class-missing}
 use Rattle.classic.specs.RowBounds.{all-in-bounds}
@@ -31,7 +32,8 @@ first c = c .before .before .before .before
 classed : (c : tie.After-known-told2) → let a = start (first c) .args in
     (first-row (class-missing (rows-of (a .rows .now))) (rows-of (a .rows .now)) ≡ NotFound)
     × (c .before .lines .given .0 .0 ≡ first c .version-size .result + rows-size (a .header .bits) (a .names .now) (rows-of (a .rows .now)))
-classed c = size-has-classes _ _ _ (sym (c .before .lines .given .1) ∙ c .before .before .before .rows-text-size .ensures)
+    × (c .before .lines .given .0 .1 .0 ≡ tally-of (rows-of (a .rows .now)))
+classed c = size-has-classes _ _ _ _ _ (sym (c .before .lines .given .1) ∙ c .before .before .before .rows-text-size .ensures)
 
 version-size-requires : tie.Need-version-size-requires
 version-size-requires c κs = good-vm-in-bounds _ _ _ _ (c .before .before .before .before .pre .0)
@@ -41,7 +43,7 @@ rows-text-size-requires c κs =
     let p = right c in
     let s = rows-size-lt _ _ _ _ p in
     let e = c .version-size .ensures in
-    (header-bits-good _ _ _ _ (p .0), (start c .pre .1, (all-in-bounds _ _ _ _ p, omega arith)))
+    (header-bits-good _ _ _ _ (p .0), (start c .pre .1, (all-in-bounds _ _ _ _ p, (omega arith, exact-counts _ _ _ _ p .few))))
 
 enum-known-refusal : tie.Need-enum-known-refusal
 enum-known-refusal c = search needs
@@ -49,33 +51,31 @@ enum-known-refusal c = search needs
 enum-known-lines : tie.Need-enum-known-lines
 enum-known-lines c = search needs
 
-count-all-requires : tie.Need-count-all-requires
-count-all-requires c κs = exact-counts _ _ _ _ (right (first c)) .few
-
 trailers-size-requires : tie.Need-trailers-size-requires
-trailers-size-requires c κs = tally-bound-of _ _ _ _ _ (c .count-all .ensures) (right (first (c .before)))
+trailers-size-requires c κs = tally-bound-of _ _ _ _ _ (classed c .2) (right (first c))
 
 add-t14 : tie.Need-add-t14
 add-t14 c =
-    let d = c .before .before in
-    let z = size-lt _ _ _ _ _ (c .before .count-all .ensures) (right (first d)) _ _ _ (first d .version-size .ensures) (classed d .1) (c .trailers-size .ensures) in
+    let d = c .before in
+    let k = classed d in
+    let z = size-lt _ _ _ _ _ (k .2) (right (first d)) _ _ _ (first d .version-size .ensures) (k .1) (c .trailers-size .ensures) in
     omega arith
 
 returns : tie.Need-returns
 returns c =
     let s = c .before .before .before in
-    class-refusal _ _ _ _ (right (s .before)) _ _ (sym (c .before .refusal .given .1) ∙ s .rows-text-size .ensures)
+    class-refusal _ _ _ _ (right (s .before)) _ _ _ (sym (c .before .refusal .given .1) ∙ s .rows-text-size .ensures)
 
 returns-2 : tie.Need-returns-2
 returns-2 c =
-    let d = c .before .before in
-    let e = c .before .count-all .ensures in
+    let d = c .before in
+    let k = classed d in
     let p = right (first d) in
     record {
       tables-good = p;
-      classes = classed d .0;
-      size-is = size-is _ _ _ _ _ e p _ _ _ (first d .version-size .ensures) (classed d .1) (c .trailers-size .ensures);
-      tally-is = e;
+      classes = k .0;
+      size-is = size-is _ _ _ _ _ (k .2) p _ _ _ (first d .version-size .ensures) (k .1) (c .trailers-size .ensures);
+      tally-is = k .2;
     }
 
 pub size-good-spec : {M : Type 1} → statement M
@@ -86,7 +86,6 @@ size-good-spec =
     rows-text-size-requires
     enum-known-refusal
     enum-known-lines
-    count-all-requires
     trailers-size-requires
     add-t14
     returns

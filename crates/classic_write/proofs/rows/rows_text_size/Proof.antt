@@ -1,5 +1,6 @@
 -- `rows_text_size` satisfies its contract: the invariant is that the total so far and the size of the rows that are left give the
--- size of the version line and all rows, that no class row is missing so far, and that the last search holds.
+-- size of the version line and all rows, that no class row is missing so far, that the last search holds, and that the tally is that of
+-- the rows so far.
 use borrow.Author.Needs.{needs}
 use mathlib.Core.Path.{_≡_, sym, _∙_}
 use mathlib.Core.Logic.{⊎-elim}
@@ -7,6 +8,7 @@ use Prim.Native.Nat.{_-_, _<_}
 use native.Mathlib.Omega.{arith}
 use Rattle.table.specs.Table.{row-count}
 use Rattle.table.specs.Rows.{rows-of}
+use Rattle.phd_counts.specs.CountLoop.{CountedBefore, counted-before-first, counted-before-next, counted-no-overflow, counted-before-end}
 use Rattle.class_index.specs.LastSearch.{LastSearchHolds, search-after, search-after-instance, search-after-other, no-search-holds, search-after-holds, search-after-found}
 use Rattle.classic_row.specs.RowText.{SizeMeans, size-means}
 use Rattle.classic_row.specs.declared.RowSize.the-variants.{Bytes}
@@ -15,14 +17,14 @@ use Rattle.classic_write.proofs.rows.rows_text_size.Statement.{statemen
 use Rattle.classic_write.proofs.rows.rows_text_size.Tie as tie
 
 abbrev Inv-loop : tie.InvT-loop
-Inv-loop bits names rows slots certified first n last₀ total₀ i₀ last total i = SizeLoop bits names rows first i total × LastSearchHolds (rows-of rows) last
+Inv-loop bits names rows slots certified first n last₀ tally₀ total₀ i₀ last tally total i = SizeLoop bits names rows first i total × (LastSearchHolds (rows-of rows) last × CountedBefore rows i tally)
 
 abbrev μ-loop : tie.MeasureT-loop
-μ-loop bits names rows slots certified first n last₀ total₀ i₀ last total i = n - i
+μ-loop bits names rows slots certified first n last₀ tally₀ total₀ i₀ last tally total i = n - i
 
 -- The start of the function, seen from an iteration of the loop.
 abbrev start : tie.In-loop Inv-loop μ-loop → tie.Start Inv-loop μ-loop
-start c = c .before .before .before .before .before .before
+start c = c .before .before .before .before .before .before .before
 
 inside : (c : tie.In-loop Inv-loop μ-loop) → c .before .loop .i < row-count (start c .args .rows .now)
 unfolding row-count
@@ -46,13 +48,19 @@ no-search-requires : tie.Need-no-search-requires Inv-loop μ-loop
 no-search-requires c κs = search needs
 
 loop-holds : tie.Need-loop-holds Inv-loop μ-loop
-loop-holds c = (size-loop-start _ _ _ _ (c .before .before .before .before .pre .1 .1 .1), rw (c .no-search .ensures) (no-search-holds _))
+loop-holds c = (
+  size-loop-start _ _ _ _ (c .before .before .before .before .before .pre .1 .1 .1 .0),
+  (rw (c .before .no-search .ensures) (no-search-holds _), rw (c .no-rows .ensures) (counted-before-first _)),
+)
+
+no-rows-requires : tie.Need-no-rows-requires Inv-loop μ-loop
+no-rows-requires c κs = search needs
 
 row-at-requires : tie.Need-row-at-requires Inv-loop μ-loop
 row-at-requires c κs = inside c
 
 search-class-requires : tie.Need-search-class-requires Inv-loop μ-loop
-search-class-requires c κs = let d = c .before .before .before .before in (start d .pre .1 .0, d .before .loop .inv .1)
+search-class-requires c κs = let d = c .before .before .before .before in (start d .pre .1 .0, d .before .loop .inv .1 .0)
 
 row-text-size-requires : tie.Need-row-text-size-requires Inv-loop μ-loop
 row-text-size-requires c κs =
@@ -82,24 +90,31 @@ returns c =
     let s = size-means _ _ _ _ _ (sym (c .before .reply .given .1) ∙ t .row-text-size .ensures) in
     rw (s .1) (size-loop-refuses _ _ _ _ _ _ _ (d .before .loop .inv .0) (inside d) (w .row-at .ensures) (s .0))
 
+add-row-requires : tie.Need-add-row-requires Inv-loop μ-loop
+add-row-requires c κs =
+    let w = row (c .before .before .before .before) in
+    let d = w .before in
+    counted-no-overflow _ _ _ (d .before .loop .inv .1 .1) _ (inside d) (w .row-at .ensures) (start d .pre .1 .1 .1 .1)
+
 add-i : tie.Need-add-i Inv-loop μ-loop
-add-i c = let d = row (c .before .before .before .before) .before in omega (arith, d .loop-test .taken, start d .good .1 .1 .0)
+add-i c = let d = row (c .before .before .before .before .before) .before in omega (arith, d .loop-test .taken, start d .good .1 .1 .0)
 
 loop-less : tie.Need-loop-less Inv-loop μ-loop
 loop-less c = search needs
 
 loop-again : tie.Need-loop-again Inv-loop μ-loop
 loop-again c =
-    let j = c .before .before .before .before in
+    let k = c .before in
+    let j = k .before .before .before .before in
     let d = row j .before in
-    let s = means (c .before) in (
+    let s = means (k .before) in (
       size-loop-step _ _ _ _ _ _ _ _ (d .before .loop .inv .0) (inside d) (row j .row-at .ensures) (s .1) (s .0),
-      search-after-holds _ _ _ _ (d .before .loop .inv .1) (searched j),
+      (search-after-holds _ _ _ _ (d .before .loop .inv .1 .0) (searched j), counted-before-next _ _ _ (d .before .loop .inv .1 .1) _ _ (inside d) (row j .row-at .ensures) (c .add-row .ensures)),
     )
 
 returns-2 : tie.Need-returns-2 Inv-loop μ-loop
 unfolding row-count
-returns-2 c = size-loop-end _ _ _ _ _ _ (c .before .loop .inv .0) (omega arith)
+returns-2 c = let l = c .before in size-loop-end _ _ _ _ _ _ _ (l .loop .inv .0) (counted-before-end _ _ _ (l .loop .inv .1 .1) (omega arith)) (omega arith)
 
 pub rows-text-size-spec : {M : Type 1} → statement M
 rows-text-size-spec =
@@ -108,6 +123,7 @@ rows-text-size-spec =
     Inv-loop
     μ-loop
     no-search-requires
+    no-rows-requires
     loop-holds
     row-at-requires
     search-class-requires
@@ -116,6 +132,7 @@ rows-text-size-spec =
     add-total
     enum-known-reply
     returns
+    add-row-requires
     add-i
     loop-less
     loop-again
