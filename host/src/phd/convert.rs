@@ -11,12 +11,26 @@ use crate::progress;
 use phd_host::answer::{self, Answer};
 use phd_host::row::{ADDRESS, CLASS, OFFSET};
 use phd_host::{library, reply};
+use std::thread;
+
+/// The stack for the library, in bytes. A text takes about 520 KB of it, for an index of the classes.
+const STACK: usize = 4 << 20;
 
 /// The output format.
 #[derive(Clone, Copy)]
 pub enum Format {
     Text,
     Dump,
+}
+
+impl Format {
+    /// Returns the name for messages.
+    fn name(self) -> &'static str {
+        match self {
+            Format::Text => "text",
+            Format::Dump => "dump",
+        }
+    }
 }
 
 /// Reads the source and writes the target. Of a dump that is cut off or damaged, the records before that place are written.
@@ -26,7 +40,7 @@ pub fn run(source: &Source, target: &Target, format: Format) -> Result<Status, E
     if !dump.is_whole() {
         report_partial(&dump)?;
     }
-    let bytes = convert(&dump, format)?;
+    let bytes = convert_on_thread(&dump, format)?;
     output::send(target, &bytes)?;
     Ok(status(&dump))
 }
@@ -53,10 +67,27 @@ fn report_partial(dump: &Dump) -> Result<(), Error> {
     Ok(())
 }
 
+/// Converts on a thread with a stack of its own, so that the limit of the main thread's stack does not matter.
+fn convert_on_thread(dump: &Dump, format: Format) -> Result<Vec<u8>, Error> {
+    let not_started = |error| {
+        let why = format!("a thread with a stack of 4 MB cannot be started: {error}");
+        let message = format!("no {} can be made of it: {why}", format.name());
+        Error::failed(&dump.name, message)
+    };
+    thread::scope(|scope| {
+        let started = thread::Builder::new()
+            .stack_size(STACK)
+            .spawn_scoped(scope, || convert(dump, format));
+        let ended = started.map_err(not_started)?.join();
+        ended.unwrap_or_else(|panic| std::panic::resume_unwind(panic))
+    })
+}
+
 /// Returns the bytes of the output. A size query comes first, and a buffer of exactly that size is allocated.
 fn convert(dump: &Dump, format: Format) -> Result<Vec<u8>, Error> {
     let size = query_size(dump, format)?;
-    let doing = format!("writing the records of {}", dump.name);
+    print_size(dump, format, size as u64);
+    let doing = format!("making the {} of {}", format.name(), dump.name);
     let _line = progress::show(&doing, Some(size as u64));
     let mut out = memory::zeroed(size)
         .map_err(|error| Error::failed(&dump.name, error.message("for the output")))?;
@@ -88,12 +119,19 @@ fn query_size(dump: &Dump, format: Format) -> Result<usize, Error> {
     }
 }
 
+/// Prints how many bytes the output will have, if making it takes long.
+fn print_size(dump: &Dump, format: Format, size: u64) {
+    if progress::is_shown(Some(size)) {
+        let bytes = messages::count(size, "byte");
+        let rounded = messages::rounded(size);
+        let message = format!("the {} will have {bytes} ({rounded})", format.name());
+        error::print_about(&dump.name, &message);
+    }
+}
+
 /// Returns the error for a refused write or text.
 fn write_error(dump: &Dump, format: Format, reply: u64, place: u64) -> Error {
-    let what = match format {
-        Format::Text => "text",
-        Format::Dump => "dump",
-    };
+    let what = format.name();
     let why = match reply {
         reply::BAD_HEADER => "the header cannot be written, or there are too many records".into(),
         reply::BAD_ROW => format!("{} cannot be written", record(dump, place)),

@@ -26,6 +26,15 @@ pub fn count(number: u64, thing: &str) -> String {
     format!("{} {thing}{ending}", grouped(number))
 }
 
+/// Formats a number of bytes in MB, or in GB if there are so many.
+pub fn rounded(bytes: u64) -> String {
+    if bytes < 1_000_000_000 {
+        format!("{} MB", bytes / 1_000_000)
+    } else {
+        format!("{:.1} GB", bytes as f64 / 1e9)
+    }
+}
+
 /// Formats a place in a file, in decimal and hexadecimal.
 pub fn at(place: u64) -> String {
     format!("byte {} (0x{place:X})", grouped(place))

@@ -1,11 +1,14 @@
 //! Writes results to standard output, or to a file, which is written whole or not at all.
 
 use crate::error::Error;
-use crate::progress;
+use crate::progress::Percentage;
 use std::ffi::OsString;
 use std::fs::{self, File, OpenOptions, Permissions};
-use std::io::{self, ErrorKind, Write};
+use std::io::{self, ErrorKind, IsTerminal, Write};
 use std::path::{Path, PathBuf};
+
+/// A result is written in parts of this many bytes, and its progress is shown after each of them.
+const PART: usize = 4_000_000;
 
 /// Where a result goes.
 pub enum Target {
@@ -60,24 +63,34 @@ pub fn print(text: &str) -> Result<Sent, Error> {
 /// Writes bytes to the target.
 pub fn send(target: &Target, bytes: &[u8]) -> Result<Sent, Error> {
     let Target::File(path) = target else {
-        let written = write(io::stdout().lock(), bytes);
-        return outcome(written, "standard output");
+        let name = "standard output";
+        return outcome(write(&mut io::stdout().lock(), bytes, name).map(drop), name);
     };
     let name = path.display().to_string();
-    let _line = progress::show(&format!("writing {name}"), Some(bytes.len() as u64));
     let written = match fs::metadata(path) {
         // A device or a pipe is written directly: only a file can be replaced.
         Ok(metadata) if !metadata.is_file() => {
-            File::create(path).and_then(|file| write(file, bytes))
+            File::create(path).and_then(|mut file| write(&mut file, bytes, &name).map(drop))
         }
-        metadata => replace(path, metadata.ok().map(|it| it.permissions()), bytes),
+        metadata => {
+            let permissions = metadata.ok().map(|it| it.permissions());
+            replace(path, permissions, bytes, &name)
+        }
     };
     outcome(written, &name)
 }
 
-fn write(mut to: impl Write, bytes: &[u8]) -> io::Result<()> {
-    to.write_all(bytes)?;
-    to.flush()
+/// Writes bytes part by part. Shows how many percent are written, unless they go to a terminal, and returns that line.
+fn write(to: &mut (impl Write + IsTerminal), bytes: &[u8], name: &str) -> io::Result<Percentage> {
+    let visible = !to.is_terminal();
+    let mut line = Percentage::show(&format!("writing {name}"), bytes.len() as u64, visible);
+    for part in bytes.chunks(PART) {
+        to.write_all(part)?;
+        // What standard output still holds in its buffer is not written.
+        to.flush()?;
+        line.add(part.len() as u64);
+    }
+    Ok(line)
 }
 
 /// Returns how a write ended. A closed pipe is no error.
@@ -102,12 +115,18 @@ fn folder(path: &Path) -> &Path {
     }
 }
 
-/// Writes a temporary file in the same folder and renames it to `path`. It gets the permissions of the file that it replaces.
-fn replace(path: &Path, permissions: Option<Permissions>, bytes: &[u8]) -> io::Result<()> {
+/// Writes a temporary file in the same folder and renames it to `path`, shown as `name`. It gets the permissions of the file that
+/// it replaces.
+fn replace(
+    path: &Path,
+    permissions: Option<Permissions>,
+    bytes: &[u8],
+    name: &str,
+) -> io::Result<()> {
     // If the path is a link, the file that it leads to is replaced.
     let path = fs::canonicalize(path).unwrap_or_else(|_| path.into());
     let (temporary, file) = create_temporary(&path)?;
-    let done = fill(file, permissions, bytes).and_then(|()| fs::rename(&temporary, &path));
+    let done = fill(file, permissions, bytes, name).and_then(|()| fs::rename(&temporary, &path));
     if done.is_err() {
         let _ = fs::remove_file(&temporary);
     }
@@ -115,11 +134,16 @@ fn replace(path: &Path, permissions: Option<Permissions>, bytes: &[u8]) -> io::R
 }
 
 /// Writes a new file and makes sure that it is on the disk.
-fn fill(mut file: File, permissions: Option<Permissions>, bytes: &[u8]) -> io::Result<()> {
+fn fill(
+    mut file: File,
+    permissions: Option<Permissions>,
+    bytes: &[u8],
+    name: &str,
+) -> io::Result<()> {
     if let Some(permissions) = permissions {
         file.set_permissions(permissions)?;
     }
-    file.write_all(bytes)?;
+    let _line = write(&mut file, bytes, name)?;
     // Some file systems report only here that they are full.
     file.sync_all()
 }

@@ -1,4 +1,4 @@
-//! Tests of dumps that need larger tables than the first guess, and of dumps that need more memory than there is.
+//! Tests of dumps that need larger tables than the first guess, and of dumps that need more memory or stack than there is.
 
 use crate::harness::{example, Folder, Ran, PHD, TEXT};
 use std::fs::File;
@@ -69,7 +69,7 @@ fn long_name() -> String {
 }
 
 /// Returns the example's class with a long name, its first object, and `count` objects of two bytes each.
-fn long_named(count: usize) -> Vec<u8> {
+pub fn long_named(count: usize) -> Vec<u8> {
     let mut dump = example()[..50].to_vec();
     dump.extend(60_000u16.to_be_bytes());
     dump.extend(long_name().as_bytes());
@@ -135,7 +135,7 @@ fn a_copy_longer_than_its_dump() {
 }
 
 /// Returns a class whose name has `name` bytes.
-fn class(name: usize) -> Vec<u8> {
+pub fn class(name: usize) -> Vec<u8> {
     let length = (name as u16).to_be_bytes();
     let start = b"\x06\0\x01\0\0\0\x10\0\0\0\0";
     [start, &length[..], &vec![b'N'; name], &[0; 4]].concat()
@@ -214,4 +214,33 @@ fn no_memory() {
     let ran = folder.shell(run).exits(2).no_stdout();
     ran.stderr_has("phd: standard input: not enough memory to hold the dump: ");
     assert_eq!(folder.names(), ["a"]);
+}
+
+#[test]
+fn a_small_stack() {
+    let folder = Folder::new("large-stack");
+    for count in [60, 1000] {
+        folder.write("a", &many_records(count));
+        let run = "ulimit -s 256; \"$PHD\" text a && \"$PHD\" copy a b";
+        let ran = folder.shell(run).exits(0).no_stderr();
+        let rows = count + 2;
+        assert!(ran.out().ends_with(&format!(" : {rows},1(0)\n")));
+        assert!(folder.read("b") == folder.read("a"));
+    }
+}
+
+#[test]
+fn no_memory_for_the_stack() {
+    let folder = Folder::new("large-thread");
+    folder.write("a", &example());
+    // With some of these limits there is memory for the program and not for another 4 MB.
+    let limits = (2000..20_000).step_by(500);
+    let run = |limit| folder.shell(&format!("ulimit -v {limit}; \"$PHD\" text a -o out"));
+    let message =
+        "phd: a: no text can be made of it: a thread with a stack of 4 MB cannot be started: ";
+    let refused = |ran: &Ran| ran.status == Some(2) && ran.err.contains(message);
+    assert!(limits.clone().any(|limit| refused(&run(limit))));
+    assert_eq!(folder.names(), ["a"]);
+    run(20_000).exits(0).no_stderr();
+    assert_eq!(folder.read("out"), TEXT.as_bytes());
 }

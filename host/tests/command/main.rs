@@ -6,4 +6,5 @@ mod info;
 mod large;
 mod output;
 mod rows;
+mod terminal;
 mod usage;
