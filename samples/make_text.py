@@ -8,6 +8,7 @@ dump (text.py); for refused tables this file has the reply and the row.
 """
 import sys
 
+from class_index import many_rows
 from crate import fill_crate
 from dump import EXAMPLE, HASHED, NONE, OPENING, WIDTH, file_label
 from text import REFS, ROWS, TYPES, PassedTables, empty_dump, refused, written
@@ -408,9 +409,9 @@ def changed_tables():
 
 
 def samples():
-    for group in (headers, addresses, classes, neighbours, arrays, primitive_arrays, hashes, sizes, counts, nulls, missing_classes):
+    for group in (headers, addresses, classes, neighbours, many_rows, arrays, primitive_arrays, hashes, sizes, counts, nulls):
         yield from group()
-    for group in (cuts, bad_headers, bad_rows, changed_tables):
+    for group in (missing_classes, cuts, bad_headers, bad_rows, changed_tables):
         yield from group()
 
 
