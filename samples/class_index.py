@@ -38,8 +38,8 @@ def arranged(classes, words, before, bits=64):
 
 
 def changing(classes, count):
-    """Returns so many class words of these classes, in a changing order."""
-    return [classes[(7 * i + i // 4) % len(classes)] for i in range(count)]
+    """Returns so many class words: these classes in a changing order, over and over."""
+    return [classes[i * 7919 % len(classes)] for i in range(count)]
 
 
 def many_rows():
