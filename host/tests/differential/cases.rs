@@ -2,6 +2,7 @@
 //! and random dumps; and buffers that are too small by one.
 
 use crate::boundaries::{self, GAPS, LENGTHS, MISSING, NULLS};
+use crate::class_index::{count_indexed, INDEXED, ROWS};
 use crate::class_searches::{count_searches, SEARCHES};
 use crate::compare::{self, check_query, with_dump, with_tables, Operation, Outcome, TEXT, WRITE};
 use crate::coverage::READ_REPLIES;
@@ -69,6 +70,8 @@ fn cases() {
         coverage.rare("length", &LENGTHS, LEAST),
         coverage.rare("nulls", &NULLS, LEAST),
         coverage.rare("search", &SEARCHES, LEAST),
+        coverage.rare("rows", &ROWS, LEAST),
+        coverage.rare("index", &INDEXED, LEAST),
         coverage.rare("missing", &MISSING, LEAST),
     ];
     assert_eq!(
@@ -101,6 +104,9 @@ impl Case<'_> {
         if operation.name == TEXT.name && write.reply == reply::DONE {
             boundaries::count_nulls(tables, self.coverage);
             count_searches(tables, self.coverage);
+        }
+        if operation.name == TEXT.name {
+            count_indexed(tables, write.reply, self.coverage);
         }
         Ok(write)
     }

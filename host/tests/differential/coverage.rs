@@ -22,7 +22,7 @@ pub const READ_REPLIES: [u64; 14] = [
 ];
 
 /// What is counted, in the order in which it is printed.
-const TOPICS: [&str; 15] = [
+const TOPICS: [&str; 17] = [
     "read",
     "write",
     "text",
@@ -33,6 +33,8 @@ const TOPICS: [&str; 15] = [
     "length",
     "nulls",
     "search",
+    "rows",
+    "index",
     "missing",
     "longer cut",
     "form",

@@ -258,7 +258,7 @@ fn check_written_cut(
 /// Dumps that the library wrote: a cut gives the records that lie completely within it, and the first rows alone give the start
 /// of the dump.
 fn written_dumps(case: &mut Case) -> Result<(), String> {
-    let tables = good::tables(&mut case.rng);
+    let tables = good::small_tables(&mut case.rng);
     let encoded = encode::canonical(&tables);
     let capacity = encoded.bytes.len() + case.rng.index(9);
     let write = write_by(library::write, &tables, capacity, case.rng.any());
@@ -290,14 +290,14 @@ fn written_dumps(case: &mut Case) -> Result<(), String> {
 }
 
 fn loose_dumps(case: &mut Case) -> Result<(), String> {
-    let tables = good::tables(&mut case.rng);
+    let tables = good::small_tables(&mut case.rng);
     let loose = encode::loose(&tables, &mut case.rng);
     let capacities = (tables.count() * ROW_LEN, tables.refs.len());
     case.cuts(&loose.bytes, &loose.starts, capacities)
 }
 
 fn damaged_dumps(case: &mut Case) -> Result<(), String> {
-    let tables = good::tables(&mut case.rng);
+    let tables = good::small_tables(&mut case.rng);
     let mut encoded = encode::loose(&tables, &mut case.rng);
     let (dump, place) = damage::damaged(&mut case.rng, &encoded);
     let capacities = ((tables.count() + 2) * ROW_LEN, tables.refs.len() + 9);

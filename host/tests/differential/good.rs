@@ -1,6 +1,7 @@
 //! Generates random good tables: rows of every kind, with gaps and references at the boundaries of every width, classes that
 //! repeat so that the class cache is used, and class rows and names that a text must find.
 
+use crate::class_index::{ROWS_WITHOUT, SAME_SLOT};
 use crate::names;
 use crate::rng::Rng;
 use crate::tables::*;
@@ -24,14 +25,29 @@ const KINDS: [u64; 12] = [
     kind::PRIMITIVE_ARRAY,
 ];
 
-/// Returns good tables with at most about 40 rows, rarely 300.
+/// Returns good tables, one in ten with so many rows that a text may find their class rows in an index.
 pub fn tables(rng: &mut Rng) -> OwnedTables {
+    if !rng.one_in(10) {
+        return small_tables(rng);
+    }
+    let many = 65 + rng.below(70);
+    let count = rng.pick(&[63, 64, 65, 66, many, many, many, many]);
+    tables_of(rng, count)
+}
+
+/// Returns good tables with at most about 40 rows, rarely 300.
+pub fn small_tables(rng: &mut Rng) -> OwnedTables {
     let count = match rng.below(400) {
         0 => 300,
         1..=40 => rng.below(3),
         41..=240 => 1 + rng.below(12),
         _ => rng.below(40),
     };
+    tables_of(rng, count)
+}
+
+/// Returns good tables with so many rows, or one more.
+fn tables_of(rng: &mut Rng, count: u64) -> OwnedTables {
     let mut generator = Generator::new(rng, count > 40);
     for (kind, address) in generator.plan(count) {
         generator.row(kind, address);
@@ -92,11 +108,7 @@ impl<'a> Generator<'a> {
     /// Returns the kinds of the rows, and the addresses of the classes: usually each class word has its class row, sometimes one
     /// has two.
     fn plan(&mut self, count: u64) -> Vec<(u64, Option<u64>)> {
-        let base = self.rng.any() & self.max_address;
-        for _ in 0..1 + self.rng.below(7) {
-            let class = self.nearby(base);
-            self.classes.push(class);
-        }
+        self.choose_classes(count);
         let mut plan = Vec::new();
         if count > 0 && !self.rng.one_in(5) {
             let classes = self.classes.iter().take(count as usize);
@@ -111,12 +123,38 @@ impl<'a> Generator<'a> {
         while (plan.len() as u64) < count {
             plan.push((self.rng.pick(&KINDS), None));
         }
-        if self.rng.one_in(2) {
-            for index in (1..plan.len()).rev() {
-                plan.swap(index, self.rng.index(index + 1));
+        match self.rng.below(8) {
+            0..=3 => {
+                for index in (1..plan.len()).rev() {
+                    plan.swap(index, self.rng.index(index + 1));
+                }
             }
+            // The planned class rows come last, in the other order.
+            4 => plan.reverse(),
+            _ => (),
         }
         plan
+    }
+
+    /// Chooses the class words: up to seven near each other, or for many rows often many, and then often such as share an index
+    /// slot of a text.
+    fn choose_classes(&mut self, count: u64) {
+        let base = self.rng.any() & self.max_address;
+        if count <= ROWS_WITHOUT as u64 || self.rng.one_in(2) {
+            for _ in 0..1 + self.rng.below(7) {
+                let class = self.nearby(base);
+                self.classes.push(class);
+            }
+            return;
+        }
+        let many = 2 + self.rng.below(100);
+        let apart = if self.tables.is_wide() && self.rng.one_in(2) {
+            SAME_SLOT
+        } else {
+            4 * (1 + self.rng.below(100))
+        };
+        let base = base / 2 & !3;
+        self.classes.extend((0..many).map(|at| base + at * apart));
     }
 
     /// Appends a row.

@@ -3,6 +3,7 @@
 
 mod boundaries;
 mod cases;
+mod class_index;
 mod class_searches;
 mod compare;
 mod coverage;
@@ -10,6 +11,7 @@ mod cuts;
 mod damage;
 mod encode;
 mod good;
+mod indexed_texts;
 mod limits;
 mod mutate;
 mod names;

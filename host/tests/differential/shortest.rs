@@ -59,7 +59,7 @@ fn written(case: &mut Case, tables: &OwnedTables) -> Result<(Vec<u8>, Vec<usize>
 
 /// The search finds a record of a written dump, and nothing shorter.
 fn written_records(case: &mut Case) -> Result<(), String> {
-    let tables = good::tables(&mut case.rng);
+    let tables = good::small_tables(&mut case.rng);
     if tables.count() == 0 {
         return Ok(());
     }
@@ -80,7 +80,7 @@ fn written_records(case: &mut Case) -> Result<(), String> {
 
 /// The search finds an encoding of a loose record that is not longer, and often a shorter one. So it can find shorter ones.
 fn loose_records(case: &mut Case) -> Result<(), String> {
-    let tables = good::tables(&mut case.rng);
+    let tables = good::small_tables(&mut case.rng);
     if tables.count() == 0 {
         return Ok(());
     }
@@ -99,7 +99,7 @@ fn loose_records(case: &mut Case) -> Result<(), String> {
 
 /// If the shortest record of a written dump has at most three bytes, every shorter run of bytes is tried.
 fn every_run(case: &mut Case) -> Result<(), String> {
-    let tables = good::tables(&mut case.rng);
+    let tables = good::small_tables(&mut case.rng);
     let (dump, starts) = written(case, &tables)?;
     let size = |index: &usize| starts[index + 1] - starts[*index];
     let Some(index) = (0..tables.count()).min_by_key(size) else {
