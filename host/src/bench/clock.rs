@@ -39,3 +39,8 @@ pub fn keep_least(best: &mut Duration, work: impl FnOnce()) {
 pub fn ratio(time: Duration, other: Duration) -> f64 {
     time.as_secs_f64() / other.as_secs_f64()
 }
+
+/// Returns the nanoseconds for each of `n` records.
+pub fn per_record(time: Duration, n: usize) -> f64 {
+    time.as_nanos() as f64 / n as f64
+}

@@ -19,7 +19,7 @@ const CLASSES: u64 = 0x7_0000_0000;
 const OBJECTS: u64 = 0x7_0010_0000;
 
 /// The address of the first record after many classes.
-const OBJECTS_AFTER: u64 = 0x7_1000_0000;
+pub const OBJECTS_AFTER: u64 = 0x7_1000_0000;
 
 /// The letters of the primitive types; the first eight classes are those of their arrays.
 const PRIMITIVES: [u8; 8] = *b"ZCFDBSIJ";
@@ -28,10 +28,10 @@ const PRIMITIVES: [u8; 8] = *b"ZCFDBSIJ";
 const CHAR: u64 = 1;
 
 /// A generator of random numbers (xorshift64) that gives the same in every run.
-struct Rng(u64);
+pub struct Rng(u64);
 
 impl Rng {
-    fn new() -> Rng {
+    pub fn new() -> Rng {
         Rng(0x1234_5678_9ABC_DEF1)
     }
 
@@ -43,25 +43,30 @@ impl Rng {
     }
 
     /// Returns a number below `limit`.
-    fn below(&mut self, limit: u64) -> u64 {
+    pub fn below(&mut self, limit: u64) -> u64 {
         (self.next() >> 11) % limit
     }
 }
 
 /// The numbers of a row that differ here.
-struct Record {
-    kind: u64,
-    class: u64,
-    count: u64,
-    size: u64,
-    length: u64,
-    primitive: u64,
+pub struct Record {
+    pub kind: u64,
+    pub class: u64,
+    pub count: u64,
+    pub size: u64,
+    pub length: u64,
+    pub primitive: u64,
+}
+
+/// Returns how many of `n` records are classes in a heap like a real one.
+pub fn usual_classes(n: usize) -> usize {
+    (n / 25).clamp(1, 3000)
 }
 
 impl Heap {
     /// Generates a heap of `n` records, at least one of them a class.
     pub fn of(n: usize) -> Heap {
-        let classes = (n / 25).clamp(1, 3000);
+        let classes = usual_classes(n);
         let mut heap = Heap::empty(n);
         let mut rng = Rng::new();
         for i in 0..classes {
@@ -85,7 +90,7 @@ impl Heap {
     pub fn of_one_class(n: usize, class: usize) -> Heap {
         let object = Record {
             kind: kind::OBJECT,
-            class: CLASSES + 256 * class as u64,
+            class: Heap::class_address(class),
             count: 0,
             size: 0,
             length: 0,
@@ -126,7 +131,7 @@ impl Heap {
     }
 
     /// Returns a heap without records, with memory for `n` of them.
-    fn empty(n: usize) -> Heap {
+    pub fn empty(n: usize) -> Heap {
         Heap {
             rows: Vec::with_capacity(n * ROW_LEN),
             refs: Vec::with_capacity(2 * n),
@@ -144,12 +149,17 @@ impl Heap {
         }
     }
 
+    /// Returns the address of class number `i`.
+    pub fn class_address(i: usize) -> u64 {
+        CLASSES + 256 * i as u64
+    }
+
     /// Appends class number `i`.
-    fn class(&mut self, i: usize, name: &str, rng: &mut Rng) {
+    pub fn class(&mut self, i: usize, name: &str, rng: &mut Rng) {
         let place = self.names.len() as u64;
         self.names.extend_from_slice(name.as_bytes());
         let length = self.names.len() as u64 - place;
-        let address = CLASSES + 256 * i as u64;
+        let address = Heap::class_address(i);
         let first = self.refs.len() as u64;
         let count = rng.below(4);
         for _ in 0..count {
@@ -173,7 +183,7 @@ impl Heap {
     }
 
     /// Appends a record at an address, with references of which most are close to it.
-    fn record(&mut self, address: u64, r: &Record, rng: &mut Rng) {
+    pub fn record(&mut self, address: u64, r: &Record, rng: &mut Rng) {
         let first = self.refs.len() as u64;
         for _ in 0..r.count {
             let near = rng.below(10) < 7;
@@ -221,7 +231,7 @@ fn next_record(classes: u64, recent: &mut [u64; 4], rng: &mut Rng) -> Record {
     let class = if again {
         recent[rng.below(4) as usize]
     } else {
-        CLASSES + 256 * rng.below(classes)
+        Heap::class_address(rng.below(classes) as usize)
     };
     if what < 18 {
         return object_array(class, rng);

@@ -1,12 +1,15 @@
 //! Measures how fast the proved library is compared with the plain implementation, on the same input and in the same run.
-//! Prints a table of times and ratios, then one of how long a text takes to find classes. Run by hand, in a release build.
+//! Prints a table of times and ratios, then tables of the text: how long it takes to find classes, and how long it takes compared
+//! with the plain implementation and with copying its bytes. Run by hand, in a release build.
 
 mod classes;
 mod clock;
 mod heap;
+mod objects;
 mod text;
+mod text_ratios;
 
-use clock::{keep_least, ratio};
+use clock::{keep_least, per_record, ratio};
 use heap::{Heap, HEADER};
 use phd_host::answer::{Answer, PLACE, REFS};
 use phd_host::row::ROW_LEN;
@@ -116,11 +119,6 @@ fn tables_of<'a>(rows: &'a [u64], refs: &'a [u64], dump: &'a [u8]) -> Tables<'a>
     }
 }
 
-/// Returns the nanoseconds for each of `n` records.
-fn per_record(time: Duration, n: usize) -> f64 {
-    time.as_nanos() as f64 / n as f64
-}
-
 /// Prints a line of the table.
 fn print_line(t: &Times) {
     let side = |pair: &[Duration; 2]| {
@@ -170,7 +168,7 @@ fn main() {
     println!("| records | dump bytes | table bytes | read: library | plain | ratio | write: library | plain | ratio | size query | copy of the tables | text | size query |");
     println!("|---|---|---|---|---|---|---|---|---|---|---|---|---|");
     let mut all = Vec::new();
-    for n in sizes {
+    for &n in &sizes {
         let rounds = (30_000_000 / n).clamp(5, 300);
         let times = measure(n, rounds);
         print_line(&times);
@@ -184,4 +182,5 @@ fn main() {
         println!("a record at the largest size over one at 100000: read {read:.2}, write {write:.2}, copy {copy:.2}");
     }
     classes::print_table();
+    text_ratios::print_tables(&sizes);
 }
