@@ -13,7 +13,7 @@ use Rattle.digits.specs.Digits.{uppercase}
 use Rattle.digits.specs.DigitLengths.{length-digits, uppercase-ten}
 
 -- The character of a digit below ten has the code 48 plus the digit.
-pub glyph-ten : (d : ℕ) → d < 10 → glyph d ≡ 48 + d
+glyph-ten : (d : ℕ) → d < 10 → glyph d ≡ 48 + d
 glyph-ten d l = rw (lt-ltb d 10 l)
 
 -- So has its upper case.

@@ -3,7 +3,7 @@
 -- Assumes nothing.
 use mathlib.Core.Path.{_≡_, refl, sym, ap, _∙_}
 use mathlib.Core.List.{map-append}
-use Prim.Native.Nat.{ℕ, zero, suc, _+_, _-_, _*_, _/_, _%_, _^_, _≤_, _<_}
+use Prim.Native.Nat.{ℕ, zero, suc, _+_, _-_, _*_, _/_, _%_, _^_, _<_}
 use native.Mathlib.Nat.{mod-lt, lt-of-lt-of-le, le-add-left}
 use native.Mathlib.Decide.{decLe}
 use native.Mathlib.Omega.{arith}
@@ -36,41 +36,30 @@ and-field j i y m =
     ∙ and-block (j + i) (y / 2 ^ (j + i)) m (y % 2 ^ (j + i)) (2 ^ i - 1) (mod-lt y (pow-pos (j + i))) (lt-of-lt-of-le (ones-lt i) (pow-mono (le-add-left i j)))
     ∙ ap (λ (x : ℕ). bitAnd (y / 2 ^ (j + i)) m * 2 ^ (j + i) + x) (and-mask (y % 2 ^ (j + i)) i ∙ mod-mod-pow y j i)
 
--- Digits in base 65536 are spread to digits in base 256, with fields half as wide.
+-- k digits in base w, in fields of size f, are spread to twice as many digits in base b, in fields of size w. Here w is b ^ 2, f
+-- is w ^ 2 and c is w - b; the parameters are what linear arithmetic proves of such numbers.
+module _ (b w f c : ℕ)
+    (mask : (y m : ℕ) → bitAnd y (m * f + (b - 1)) ≡ bitAnd (y / f) m * f + y % b)
+    (above : (x n : ℕ) → (x * f + n % w) / b / f ≡ x / b)
+    (digit : (x n : ℕ) → (x * f + n % w) / b % b ≡ n / b % b)
+    (quotient : (n : ℕ) → n / w ≡ n / b / b)
+    (sum : (x a s n : ℕ) → x + c * a ≡ s → x * f + n % w + c * (a * f + n / b % b) ≡ (s * w + n / b % b) * w + n % b) where
+  spread-half : (k n : ℕ) → let x = spread w f k n in x + c * bitAnd (x / b) (fields f (b - 1) k) ≡ spread b w (twice k) n
+  unfolding spread fields twice
+  spread-half zero n = rw and-zero-r (omega arith)
+  spread-half (suc k) n =
+      let x = spread w f k (n / w) in
+      let m = fields f (b - 1) k in
+      rw (mask, above, digit) (sum x (bitAnd (x / b) m) _ n (spread-half k (n / w) ∙ ap (spread b w (twice k)) (quotient n)))
+
+-- The same for two numbers: digits in base 2 ^ 16 to digits in base 256, and those to hexadecimal digits.
 pub spread-256 : (k n : ℕ) → let x = spread 0x10000 0x100000000 k n in
     x + 0xFF00 * bitAnd (x / 0x100) (fields 0x100000000 0xFF k) ≡ spread 0x100 0x10000 (twice k) n
-unfolding spread fields twice
-spread-256 zero n = refl
-spread-256 (suc k) n =
-    let x = spread 0x10000 0x100000000 k (n / 0x10000) in
-    let y = x * 0x100000000 + n % 0x10000 in
-    let m = fields 0x100000000 0xFF k in
-    let above : y / 0x100 / 0x100000000 ≡ x / 0x100 = omega arith in
-    let mask : bitAnd (y / 0x100) (m * 0x100000000 + 0xFF) ≡ bitAnd (x / 0x100) m * 0x100000000 + y / 0x100 % 0x100 =
-    and-field 24 8 (y / 0x100) m ∙ ap (λ (z : ℕ). bitAnd z m * 0x100000000 + y / 0x100 % 0x100) above in
-    let field : y / 0x100 % 0x100 ≡ n / 0x100 % 0x100 = omega arith in
-    let parts : n % 0x10000 ≡ n / 0x100 % 0x100 * 0x100 + n % 0x100 = omega arith in
-    let quotient : n / 0x10000 ≡ n / 0x100 / 0x100 = omega arith in
-    let rest = spread-256 k (n / 0x10000) ∙ ap (spread 0x100 0x10000 (twice k)) quotient in
-    omega (arith, mask, rest)
+spread-256 = spread-half 0x100 0x10000 0x100000000 0xFF00 (and-field 24 8) (λ x n. omega arith) (λ x n. omega arith) (λ n. omega arith) (λ x a s n h. omega arith)
 
--- Digits in base 256 are spread to digits in base 16, with fields half as wide.
 pub spread-16 : (k n : ℕ) → let x = spread 0x100 0x10000 k n in
     x + 0xF0 * bitAnd (x / 0x10) (fields 0x10000 0xF k) ≡ spread 0x10 0x100 (twice k) n
-unfolding spread fields twice
-spread-16 zero n = refl
-spread-16 (suc k) n =
-    let x = spread 0x100 0x10000 k (n / 0x100) in
-    let y = x * 0x10000 + n % 0x100 in
-    let m = fields 0x10000 0xF k in
-    let above : y / 0x10 / 0x10000 ≡ x / 0x10 = omega arith in
-    let mask : bitAnd (y / 0x10) (m * 0x10000 + 0xF) ≡ bitAnd (x / 0x10) m * 0x10000 + y / 0x10 % 0x10 =
-    and-field 12 4 (y / 0x10) m ∙ ap (λ (z : ℕ). bitAnd z m * 0x10000 + y / 0x10 % 0x10) above in
-    let field : y / 0x10 % 0x10 ≡ n / 0x10 % 0x10 = omega arith in
-    let parts : n % 0x100 ≡ n / 0x10 % 0x10 * 0x10 + n % 0x10 = omega arith in
-    let quotient : n / 0x100 ≡ n / 0x10 / 0x10 = omega arith in
-    let rest = spread-16 k (n / 0x100) ∙ ap (spread 0x10 0x100 (twice k)) quotient in
-    omega (arith, mask, rest)
+spread-16 = spread-half 0x10 0x100 0x10000 0xF0 (and-field 12 4) (λ x n. omega arith) (λ x n. omega arith) (λ n. omega arith) (λ x a s n h. omega arith)
 
 -- The character of a hexadecimal digit, in upper case: 7 more than 48 plus the digit if it is a letter.
 upper-code : (d : ℕ) → d < 16 → uppercase (glyph d) ≡ 48 + d + 7 * ((d + 6) / 16)

@@ -11,4 +11,4 @@ unfolding upper-digits
 upper-digits-parts b j zero n = rw (add-zero j, pow-zero b, div-one n, append-nil)
 upper-digits-parts b j (suc k) n =
     let d : n / b / b ^ k ≡ n / b ^ suc k = rw (div-div-eq-div-mul n b (b ^ k), mul-comm b (b ^ k), ← pow-suc b k) in
-    rw (add-suc j k, map-append, map-append, upper-digits-parts b j k (n / b), d, append-assoc)
+    rw (add-suc j k) (simp (map-append, upper-digits-parts b j k (n / b), d, append-assoc))

@@ -1,17 +1,17 @@
 -- `hex8_characters` satisfies its contract: the digits are spread to halves, quarters and bytes, then all become characters. Each
 -- mask bounds what it keeps, so no sum and no product overflows.
 use borrow.Author.Needs.{needs}
-use mathlib.Core.Path.{_≡_, sym, ap, _∙_}
+use mathlib.Core.Path.{_≡_, ap, _∙_}
 use Prim.Native.Nat.{ℕ, _+_, _*_, _/_, _%_, _≤_}
 use native.Mathlib.Omega.{arith}
 use lib.Bits.{bitAnd, and-le-r}
 use Rattle.encode.specs.Encode.{be}
-use Rattle.digits.specs.Digits.{upper-digits}
 use Rattle.digits.proofs.HexDigits.{spread, fields, twice, spread-256, spread-16, characters, characters-digits}
 use Rattle.digits.proofs.hex8_characters.Statement.{statement}
 use Rattle.digits.proofs.hex8_characters.Tie as tie
 
--- The values of the function's locals, for a number n: the digits in two halves, in four quarters, and in eight bytes.
+-- The values of the function's locals for a number n, and what its masks keep: the higher byte of each half, and the higher digit
+-- of each quarter.
 abbrev halves : ℕ → ℕ
 halves n = n / 0x10000 % 0x10000 * 0x100000000 + n % 0x10000
 
@@ -30,7 +30,7 @@ bytes n = quarters n + 0xF0 * high-digits n
 abbrev letters : ℕ → ℕ
 letters n = bitAnd ((bytes n + 0x0606060606060606) / 0x10) 0x0101010101010101
 
--- The bytes of the third are the digits.
+-- The digits are in the bytes, one in each.
 bytes-spread : (n : ℕ) → bytes n ≡ spread 0x10 0x100 8 n
 unfolding spread fields twice
 bytes-spread n =
