@@ -1,4 +1,4 @@
--- The search by certified slots is the class search: for every address it finds the first class row with it, or none if there is none.
+-- The search by certified buckets is the class search: for every address it finds the first class row with it, or none if there is none.
 -- Assumes nothing.
 use mathlib.Core.Path.{_≡_, refl, sym, ap, _∙_}
 use mathlib.Core.Logic.{_⊎_, inl, inr, ⊎-elim}
@@ -18,9 +18,9 @@ use Rattle.table.specs.declared.Search.{Search}
 use Rattle.table.specs.declared.Search.the-variants.{At, NotFound}
 use Rattle.classic.specs.ClassicText.{is-class-at, class-at}
 use Rattle.classic.specs.ClassRows.{ClassRow, is-class-at-iff}
-use Rattle.class_index.specs.ClassIndex.{first-slot, is-class-row, search-in, search-slots, at-or-before, row-certified, certified-from, certified-index, IndexHolds}
+use Rattle.class_index.specs.ClassIndex.{first-bucket, is-class-row, search-in, search-buckets, at-or-before, row-certified, CertifiedFrom, IndexHolds}
 
--- ---- whatever the slots hold, a row that is found is a class row with the address
+-- ---- whatever the buckets hold, a row that is found is a class row with the address
 
 module _ (rows : List Row) (a : ℕ) where
   -- A row that was found is in bounds and is a class row with the address a.
@@ -28,13 +28,13 @@ module _ (rows : List Row) (a : ℕ) where
   FoundIsClass (At j) = (j < length rows) × ClassRow a (nth rows j)
   FoundIsClass NotFound = Unit {0}
 
-  found-in : (slots : List ℕ) → FoundIsClass (search-in rows a slots)
+  found-in : (buckets : List ℕ) → FoundIsClass (search-in rows a buckets)
   unfolding search-in is-class-row
   found-in [] = tt
-  found-in (entry ∷ slots) = by (eqb entry 0) (is-class-row rows a (entry - 1)) refl (found-in slots)
+  found-in (entry ∷ buckets) = by (eqb entry 0) (is-class-row rows a (entry - 1)) refl (found-in buckets)
     where
-      by : (empty hit : Bool) → is-class-row rows a (entry - 1) ≡ hit → FoundIsClass (search-in rows a slots)
-          → FoundIsClass (cond empty NotFound (cond hit (At (entry - 1)) (search-in rows a slots)))
+      by : (empty hit : Bool) → is-class-row rows a (entry - 1) ≡ hit → FoundIsClass (search-in rows a buckets)
+          → FoundIsClass (cond empty NotFound (cond hit (At (entry - 1)) (search-in rows a buckets)))
       by true hit e rest = tt
       by false false e rest = rest
       by false true e rest =
@@ -42,25 +42,16 @@ module _ (rows : List Row) (a : ℕ) where
           let class = is-class-at a (nth rows (entry - 1)) in
           (ltb-true _ _ (and-left inside class e), is-class-at-iff a (nth rows (entry - 1)) .0 (and-right inside class e))
 
-  found-is-class : (slots : List ℕ) → FoundIsClass (search-slots rows slots a)
-  unfolding search-slots
-  found-is-class slots = found-in (take 64 (drop (first-slot a) slots))
+  found-is-class : (buckets : List ℕ) → FoundIsClass (search-buckets rows buckets a)
+  unfolding search-buckets
+  found-is-class buckets = found-in (take 64 (drop (first-bucket (length buckets) a) buckets))
 
 -- ---- so the first class row is found
 
-module _ (rows : List Row) (slots : List ℕ) where
-  -- Each row of certified slots is certified.
-  each-row : (some : List Row) (i : ℕ) → certified-from rows slots i some ≡ true → (j : ℕ) → i ≤ j → j < i + length some → row-certified rows slots j ≡ true
-  unfolding certified-from
-  each-row [] i e j l m = absurd (omega arith)
-  each-row (_ ∷ some) i e j l m =
-      let here = row-certified rows slots i in
-      let later = certified-from rows slots (i + 1) some in
-      ⊎-elim (λ q. rw (← q) (and-left here later e)) (λ q. each-row some (i + 1) (and-right here later e) j (omega arith) (omega arith)) (eq-or-lt-of-le l)
-
+module _ (rows : List Row) (buckets : List ℕ) where
   module _ (a : ℕ) where
     -- If a certified row is a class row with the address a, the search for a finds it or a row before it.
-    class-row-found : (i : ℕ) → row-certified rows slots i ≡ true → ClassRow a (nth rows i) → at-or-before i (search-slots rows slots a) ≡ true
+    class-row-found : (i : ℕ) → row-certified rows buckets i ≡ true → ClassRow a (nth rows i) → at-or-before i (search-buckets rows buckets a) ≡ true
     unfolding row-certified
     class-row-found i e c = rw (eq-eqb _ _ (c .kind), c .address) at e
 
@@ -78,17 +69,13 @@ module _ (rows : List Row) (slots : List ℕ) where
     none-found n NotFound s = refl
     none-found n (At j) s = absurd (n j (s .0) (s .1))
 
-  -- The theorem: searching certified slots for any address is the class search.
-  pub certified-finds : certified-index rows slots ≡ true → (a : ℕ) → search-slots rows slots a ≡ class-at rows a
-  certified-finds e a = by (class-at rows a) refl
+  -- The theorem: searching certified buckets for any address is the class search.
+  pub certified-finds : CertifiedFrom rows buckets 0 → (a : ℕ) → search-buckets rows buckets a ≡ class-at rows a
+  certified-finds each a = by (class-at rows a) refl
     where
-      by : (f : Search) → class-at rows a ≡ f → search-slots rows slots a ≡ class-at rows a
+      by : (f : Search) → class-at rows a ≡ f → search-buckets rows buckets a ≡ class-at rows a
       by (At i) q =
           let first = first-row-at (ClassRow a) (is-class-at a) (is-class-at-iff a) rows i .0 q in
-          first-found a i first _ (found-is-class rows a slots) (class-row-found a i (each-row rows 0 e i (omega arith) (omega (arith, first .inside))) (first .holds)) ∙ sym q
+          first-found a i first _ (found-is-class rows a buckets) (class-row-found a i (each i (omega arith) (first .inside)) (first .holds)) ∙ sym q
       by NotFound q =
-          none-found a (first-row-none (ClassRow a) (is-class-at a) (is-class-at-iff a) rows .0 q) _ (found-is-class rows a slots) ∙ sym q
-
-  -- What `certify` returns, as what `find_class` requires.
-  pub certified-holds : (certified : Bool) → certified ≡ certified-index rows slots → IndexHolds rows slots certified
-  certified-holds certified e = record { finds = λ t. certified-finds (sym e ∙ t) }
+          none-found a (first-row-none (ClassRow a) (is-class-at a) (is-class-at-iff a) rows .0 q) _ (found-is-class rows a buckets) ∙ sym q

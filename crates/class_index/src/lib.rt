@@ -1,21 +1,38 @@
-// The class index: a hash table of the class rows by address, in memory that the caller lends. A slot of it holds 0 or one more than
-// the index of a row. Nothing is believed of what the slots hold: `enter_classes` enters the class rows, and `certify` then checks that
-// every class row's address leads to the first class row with that address. Only a certified class index is searched; otherwise the
-// class is searched for row by row.
+// The class index: a hash table of the class rows by address, in memory that the caller lends. A bucket of it holds 0 or one more than
+// the index of a row. Nothing is believed of the hash: `enter_classes` enters each class row and then checks that the search for its
+// address finds it. Only if every class row passes this test, which makes the class index certified, is it searched; otherwise a class
+// is searched for row by row.
 // Defined in specs/ClassIndex.antt; specs/Certified.antt has the theorem that a search by a certified class index is the class search.
 ghost use mathlib.Core.Path.{_≡_};
 ghost use mathlib.Core.Logic.{_⊎_};
 ghost use mathlib.Core.Bool.{true};
-ghost use Prim.Native.Nat.{_-_, _^_, _≤_, _<_};
+ghost use Prim.Native.Nat.{_+_, _-_, _^_, _≤_, _<_};
 ghost use lib.ListN.{length};
 ghost use Rattle.table.specs.Table.{row-count};
 ghost use Rattle.table.specs.Rows.{rows-of};
 ghost use Rattle.classic.specs.ClassicText.{class-at};
 ghost use Rattle.classic.specs.PrimitiveClasses.{PrimitiveClasses};
 ghost use Rattle.classic.specs.RowBounds.{AllNumbersInBounds};
-ghost use Rattle.class_index.specs.ClassIndex.{first-slot, is-class-row, search-slots, row-certified, certified-index, IndexHolds};
+ghost use Rattle.class_index.specs.ClassIndex.{first-bucket, is-class-row, search-buckets, at-or-before, IndexHolds};
+ghost use Rattle.class_index.specs.Entering.{KeepsFound};
 ghost use Rattle.class_index.specs.LastSearch.{LastSearchHolds, no-search, search-for};
 use table::Search;
+
+// How many buckets a search looks at, at most.
+const PROBES: usize = 64;
+
+// How many buckets a class index has: a small one, for up to about 8,000 classes, begins a search at one of 16,384 buckets, a large one,
+// for 50,000 classes and more, at one of 131,072. After the last of them are those that a search from it looks at.
+pub const SMALL: usize = 0x4000 + PROBES;
+
+pub const LARGE: usize = 0x2_0000 + PROBES;
+
+// What the passes of a text know of the class rows, beside the buckets: whether these are certified, and the class words of primitive
+// arrays, by type.
+pub struct Classes {
+    pub certified: bool,
+    pub primitives: [u64; 8],
+}
 
 // The last class search of a pass over the rows: the class word that was searched for, and the result.
 pub struct LastSearch {
@@ -23,23 +40,19 @@ pub struct LastSearch {
     pub found: Search,
 }
 
-// How many slots there are at which a search can begin, and how many slots a search looks at, at most.
-const FIRST_SLOTS: usize = 0x2_0000;
-
-const PROBES: usize = 64;
-
-// How many slots a class index has.
-pub const SLOTS: usize = FIRST_SLOTS + PROBES;
-
-// Returns the slot at which the search for an address begins.
-fn first_slot(address: u64) -> usize
-    ensures { λ r. ⌜ (r ≡ first-slot address) × (r < 0x2_0000) ⌝ }
+// Returns the bucket, of n, at which the search for an address begins.
+fn first_bucket(n: usize, address: u64) -> usize
+    ensures { λ r. ⌜ (r ≡ first-bucket n address) × (r < 0x2_0000) ⌝ }
 {
     let folded = (address / 4 + address / 0x4_0000_0000) % 0x1_0000_0000;
-    (folded * 0x9E37_79B1 % 0x1_0000_0000 / 0x8000) as usize
+    let hash = folded * 0x9E37_79B1 % 0x1_0000_0000;
+    if n < LARGE {
+        return (hash / 0x4_0000) as usize;
+    }
+    (hash / 0x8000) as usize
 }
 
-// Returns the index of the row that a slot leads to.
+// Returns the index of the row that a bucket leads to.
 fn row_of(entry: u32) -> usize
     requires { ⌜ 0 < entry ⌝ }
     ensures { λ r. ⌜ r ≡ entry - 1 ⌝ }
@@ -47,9 +60,10 @@ fn row_of(entry: u32) -> usize
     (entry - 1) as usize
 }
 
-// Returns what a slot holds that leads to row i.
+// Returns what a bucket holds that leads to row i.
 fn entry_of(i: usize) -> u32
     requires { ⌜ i < 2 ^ 31 ⌝ }
+    ensures { λ r. ⌜ r ≡ i + 1 ⌝ }
 {
     (i + 1) as u32
 }
@@ -75,14 +89,14 @@ fn is_class_row(rows: &[u64], i: usize, address: u64) -> bool
     false
 }
 
-// Searches the slots for a class row with this address, whatever they hold.
-pub fn search_slots(rows: &[u64], slots: &[u32], address: u64) -> Search
-    ensures { λ r. ⌜ r ≡ search-slots (rows-of (now (rows .entry))) (now (slots .entry)) address ⌝ }
+// Searches the buckets for a class row with this address, whatever they hold.
+pub fn search_buckets(rows: &[u64], buckets: &[u32], address: u64) -> Search
+    ensures { λ r. ⌜ r ≡ search-buckets (rows-of (now (rows .entry))) (now (buckets .entry)) address ⌝ }
 {
-    let mut at = first_slot(address);
-    let end = min(at + PROBES, slots.len());
+    let mut at = first_bucket(buckets.len(), address);
+    let end = min(at + PROBES, buckets.len());
     while at < end {
-        let entry = slots[at];
+        let entry = buckets[at];
         if entry == 0 {
             return Search::NotFound;
         }
@@ -95,86 +109,83 @@ pub fn search_slots(rows: &[u64], slots: &[u32], address: u64) -> Search
     Search::NotFound
 }
 
-// Checks that the search for the address of row i, if it is a class row, finds it or a row before it.
-fn certify_row(rows: &[u64], slots: &[u32], i: usize) -> bool
-    requires { ⌜ i < row-count (now rows) ⌝ }
-    ensures { λ r. ⌜ r ≡ row-certified (rows-of (now (rows .entry))) (now (slots .entry)) i ⌝ }
+// Enters row i, a class row with this address, in place of a row with it that was entered before, or in an empty bucket. If there is
+// neither, the row is left out.
+fn enter_class(rows: &[u64], buckets: &mut [u32], i: usize, address: u64)
+    requires { ⌜ (i < 2 ^ 31) × (is-class-row (rows-of (now rows)) address i ≡ true) ⌝ }
+    ensures { λ _. ⌜ KeepsFound (rows-of (now (rows .entry))) address i (now (buckets .entry)) (now (buckets .exit)) ⌝ }
 {
-    let row = table::row_at(rows, i);
-    if row.kind == 1 {
-        let found = search_slots(rows, slots, row.address);
-        let Search::At(j) = found else {
-            return false;
-        };
-        return j <= i;
-    }
-    true
-}
-
-// Checks all class rows. If it returns true, searching the slots finds the first class row with each address.
-pub fn certify(rows: &[u64], slots: &[u32]) -> bool
-    ensures { λ r. ⌜ r ≡ certified-index (rows-of (now (rows .entry))) (now (slots .entry)) ⌝ }
-{
-    let n = rows.len() / table::ROW_WIDTH;
-    let mut i: usize = 0;
-    while i < n {
-        if !certify_row(rows, slots, i) {
-            return false;
-        }
-        i += 1;
-    }
-    true
-}
-
-// Enters row i under its address, in place of a row that was entered under it before. If no slot is free, it is left out.
-fn enter_class(rows: &[u64], slots: &mut [u32], i: usize, address: u64)
-    requires { ⌜ i < 2 ^ 31 ⌝ }
-{
-    let mut at = first_slot(address);
-    let end = min(at + PROBES, slots.len());
+    let mut at = first_bucket(buckets.len(), address);
+    let end = min(at + PROBES, buckets.len());
     while at < end {
-        let entry = slots[at];
+        let entry = buckets[at];
         if entry == 0 {
-            slots[at] = entry_of(i);
+            buckets[at] = entry_of(i);
             return;
         }
         if is_class_row(rows, row_of(entry), address) {
-            slots[at] = entry_of(i);
+            buckets[at] = entry_of(i);
             return;
         }
         at += 1;
     }
 }
 
-// Enters all class rows into the slots, and returns the class words of primitive arrays, by type: the address of the first class row
-// with the name of the type, 0 if there is none. One pass, from the last row to the first: of several class rows with one address or
-// one name, the first is entered last. Nothing is said of what the slots then hold.
-pub fn enter_classes(names: &[u8], rows: &[u64], slots: &mut [u32]) -> [u64; 8]
+// Checks whether the search for an address finds row i or one before it.
+fn finds_row(rows: &[u64], buckets: &[u32], i: usize, address: u64) -> bool
+    ensures { λ r. ⌜ r ≡ at-or-before i (search-buckets (rows-of (now (rows .entry))) (now (buckets .entry)) address) ⌝ }
+{
+    let found = search_buckets(rows, buckets, address);
+    let Search::At(j) = found else {
+        return false;
+    };
+    j <= i
+}
+
+// Enters row i, a class row with this address, and checks that the search for the address then finds it.
+fn enter_and_check(rows: &[u64], buckets: &mut [u32], i: usize, address: u64) -> bool
+    requires { ⌜ (i < 2 ^ 31) × (is-class-row (rows-of (now rows)) address i ≡ true) ⌝ }
+    ensures is { λ r. ⌜ r ≡ at-or-before i (search-buckets (rows-of (now (rows .entry))) (now (buckets .exit)) address) ⌝ }
+    ensures buckets { λ _. ⌜ KeepsFound (rows-of (now (rows .entry))) address i (now (buckets .entry)) (now (buckets .exit)) ⌝ }
+{
+    enter_class(rows, buckets, i, address);
+    finds_row(rows, buckets, i, address)
+}
+
+// Enters all class rows into the buckets, and returns whether that made a certified class index, and the class words of primitive
+// arrays, by type: the address of the first class row with the name of the type, 0 if there is none. One pass, from the last row to the
+// first: of several class rows with one address or one name, the first is entered last.
+pub fn enter_classes(names: &[u8], rows: &[u64], buckets: &mut [u32]) -> Classes
     requires { ⌜ row-count (now rows) < 2 ^ 31 ⌝ }
     requires { ⌜ AllNumbersInBounds (now names) (rows-of (now rows)) ⌝ }
-    ensures { λ r. ⌜ PrimitiveClasses (now (names .entry)) (rows-of (now (rows .entry))) r ⌝ }
+    ensures primitives { λ r. ⌜ PrimitiveClasses (now (names .entry)) (rows-of (now (rows .entry))) (r .primitives) ⌝ }
+    ensures buckets { λ r. ⌜ IndexHolds (rows-of (now (rows .entry))) (now (buckets .exit)) (r .certified) ⌝ }
 {
-    let mut classes = [0u64; 8];
+    let mut primitives = [0u64; 8];
+    let mut certified = true;
     let mut i = rows.len() / table::ROW_WIDTH;
     while 0 < i {
         i -= 1;
         let row = table::row_at(rows, i);
-        if row.kind == 1 {
-            enter_class(rows, slots, i, row.address);
+        if certified & (row.kind == 1) {
+            certified = enter_and_check(rows, buckets, i, row.address);
         }
-        let entered = classic::primitives::enter_row(names, row, classes);
-        classes = entered;
+        let entered = classic::primitives::enter_row(names, row, primitives);
+        primitives = entered;
     }
-    classes
+    Classes {
+        certified,
+        primitives,
+    }
 }
 
-// Returns the first class row with this address: by the slots if they are certified, else row by row.
-pub fn find_class(rows: &[u64], slots: &[u32], certified: bool, address: u64) -> Search
-    requires { ⌜ IndexHolds (rows-of (now rows)) (now slots) certified ⌝ }
+// Returns the first class row with this address: by the buckets if they are certified, else row by row.
+pub fn find_class(rows: &[u64], buckets: &[u32], certified: bool, address: u64) -> Search
+    requires { ⌜ IndexHolds (rows-of (now rows)) (now buckets) certified ⌝ }
     ensures { λ r. ⌜ r ≡ class-at (rows-of (now (rows .entry))) address ⌝ }
 {
     if certified {
-        return search_slots(rows, slots, address);
+        return search_buckets(rows, buckets, address);
     }
     classic::class_at(rows, address)
 }
@@ -192,12 +203,12 @@ pub fn no_search() -> LastSearch
 // Returns the search for a class word. Looks at the last search first: if it found a row for the same class word, it is that search.
 pub fn search_class(
     rows: &[u64],
-    slots: &[u32],
+    buckets: &[u32],
     certified: bool,
     class: u64,
     last: LastSearch,
 ) -> LastSearch
-    requires { ⌜ IndexHolds (rows-of (now rows)) (now slots) certified ⌝ }
+    requires { ⌜ IndexHolds (rows-of (now rows)) (now buckets) certified ⌝ }
     requires { ⌜ LastSearchHolds (rows-of (now rows)) last ⌝ }
     ensures { λ r. ⌜ r ≡ search-for (rows-of (now (rows .entry))) class ⌝ }
 {
@@ -209,6 +220,6 @@ pub fn search_class(
     }
     LastSearch {
         class: class,
-        found: find_class(rows, slots, certified, class),
+        found: find_class(rows, buckets, certified, class),
     }
 }

@@ -9,6 +9,7 @@ ghost use Rattle.classic.specs.ClassicText.{text-result, text-size-result};
 ghost use Rattle.classic.specs.PrimitiveClasses.{PrimitiveClasses};
 ghost use Rattle.class_index.specs.ClassIndex.{IndexHolds};
 ghost use Rattle.classic_write.specs.SizedText.{SizedTextMeans, CheckedText};
+use class_index::Classes;
 use phd::Header;
 use phd_counts::Tally;
 use rows::LinesSize;
@@ -18,7 +19,7 @@ mod rows;
 mod trailers;
 mod version;
 
-// Tables with at most so many rows are searched without a class index.
+// Tables with at most so many rows are searched without a class index: it would take longer to make than it saves.
 const FEW_ROWS: usize = 64;
 
 // The result of checking and sizing a text before any byte of it is written: a refusal, or the size and the counts of the rows.
@@ -28,21 +29,21 @@ enum SizedText {
 }
 
 // Computes the size of the text of good tables. The pass that sizes the lines of the rows also counts the rows, and checks that no
-// row's class row is missing. `slots` are those of the class index, if `certified` says so.
+// row's class row is missing. `buckets` are those of the class index, if `certified` says so.
 fn size_good(
     header: Header,
     rows: &[u64],
     refs: &[u64],
     names: &[u8],
-    slots: &[u32],
+    buckets: &[u32],
     certified: bool,
 ) -> SizedText
     requires { ⌜ TablesGood header (now names) (now refs) (rows-of (now rows)) ⌝ }
-    requires { ⌜ IndexHolds (rows-of (now rows)) (now slots) certified ⌝ }
+    requires { ⌜ IndexHolds (rows-of (now rows)) (now buckets) certified ⌝ }
     ensures { λ r. ⌜ SizedTextMeans header (now (names .entry)) (now (refs .entry)) (rows-of (now (rows .entry))) r ⌝ }
 {
     let first = version::version_size(names, header.vm);
-    match rows::rows_text_size(header.bits, names, rows, slots, certified, first) {
+    match rows::rows_text_size(header.bits, names, rows, buckets, certified, first) {
         LinesSize::Refused(refusal) => SizedText::Refused(refusal),
         LinesSize::Bytes(lines, tally) => {
             SizedText::Sized(lines + trailers::trailers_size(tally), tally)
@@ -50,20 +51,20 @@ fn size_good(
     }
 }
 
-// Returns the answer of the size query for good tables. The class index is made in `slots`.
+// Returns the answer of the size query for good tables. `buckets` are those of the class index, if `certified` says so.
 fn text_size_with(
     header: Header,
     rows: &[u64],
     refs: &[u64],
     names: &[u8],
-    slots: &mut [u32],
+    buckets: &[u32],
+    certified: bool,
 ) -> Answer
     requires { ⌜ TablesGood header (now names) (now refs) (rows-of (now rows)) ⌝ }
+    requires { ⌜ IndexHolds (rows-of (now rows)) (now buckets) certified ⌝ }
     ensures { λ r. ⌜ r ≡ text-size-result header (now (names .entry)) (now (refs .entry)) (now (rows .entry)) ⌝ }
 {
-    class_index::enter_classes(names, rows, slots);
-    let certified = class_index::certify(rows, slots);
-    match size_good(header, rows, refs, names, slots, certified) {
+    match size_good(header, rows, refs, names, buckets, certified) {
         SizedText::Refused(refusal) => refusal,
         SizedText::Sized(size, _) => Answer {
             reply: 0,
@@ -83,14 +84,21 @@ pub fn text_size(header: Header, rows: &[u64], refs: &[u64], names: &[u8]) -> An
     }
     if rows.len() <= FEW_ROWS * table::ROW_WIDTH {
         let mut none = [0u32; 0];
-        return text_size_with(header, rows, refs, names, &mut none);
+        let classes = class_index::enter_classes(names, rows, &mut none);
+        return text_size_with(header, rows, refs, names, &none, classes.certified);
     }
-    let mut slots = [0u32; class_index::SLOTS];
-    text_size_with(header, rows, refs, names, &mut slots)
+    let mut small = [0u32; class_index::SMALL];
+    let classes = class_index::enter_classes(names, rows, &mut small);
+    if classes.certified {
+        return text_size_with(header, rows, refs, names, &small, classes.certified);
+    }
+    let mut large = [0u32; class_index::LARGE];
+    let classes = class_index::enter_classes(names, rows, &mut large);
+    text_size_with(header, rows, refs, names, &large, classes.certified)
 }
 
 // Writes the text of checked tables if the output has capacity for it, else returns reply 17. `size` is the size of the text, and
-// `tally` has the counts of the rows. `slots` are those of the class index, if `certified` says so; `classes` are the class words of
+// `tally` has the counts of the rows. `buckets` are those of the class index, if `certified` says so; `classes` are the class words of
 // primitive arrays, by type.
 fn write_if_fits(
     size: usize,
@@ -99,13 +107,13 @@ fn write_if_fits(
     rows: &[u64],
     refs: &[u64],
     names: &[u8],
-    slots: &[u32],
+    buckets: &[u32],
     certified: bool,
     classes: &[u64; 8],
     out: &mut [u8],
 ) -> Answer
     requires { ⌜ CheckedText header (now names) (now refs) (rows-of (now rows)) size tally ⌝ }
-    requires { ⌜ IndexHolds (rows-of (now rows)) (now slots) certified ⌝ }
+    requires { ⌜ IndexHolds (rows-of (now rows)) (now buckets) certified ⌝ }
     requires { ⌜ PrimitiveClasses (now names) (rows-of (now rows)) (now classes) ⌝ }
     ensures is { λ r. ⌜ r ≡ text-result header (now (names .entry)) (now (refs .entry)) (now (rows .entry)) (length (now (out .entry))) .answer ⌝ }
     ensures out { λ _. ⌜ now (out .exit) ≡ overwrite (now (out .entry)) (text-result header (now (names .entry)) (now (refs .entry)) (now (rows .entry)) (length (now (out .entry))) .bytes) ⌝ }
@@ -124,7 +132,7 @@ fn write_if_fits(
         names,
         refs,
         rows,
-        slots,
+        buckets,
         certified,
         classes,
     );
@@ -135,22 +143,26 @@ fn write_if_fits(
     }
 }
 
-// Writes the text of good tables, or returns reply 17 or 18. The class index is made in `slots`, once for all passes over the rows.
+// Writes the text of good tables, or returns reply 17 or 18. All passes over the rows go by one class index: `buckets` are those of the
+// class index, if `classes` says so.
 fn text_with(
     header: Header,
     rows: &[u64],
     refs: &[u64],
     names: &[u8],
-    slots: &mut [u32],
+    buckets: &[u32],
+    classes: Classes,
     out: &mut [u8],
 ) -> Answer
     requires { ⌜ TablesGood header (now names) (now refs) (rows-of (now rows)) ⌝ }
+    requires { ⌜ IndexHolds (rows-of (now rows)) (now buckets) (classes .certified) ⌝ }
+    requires { ⌜ PrimitiveClasses (now names) (rows-of (now rows)) (classes .primitives) ⌝ }
     ensures is { λ r. ⌜ r ≡ text-result header (now (names .entry)) (now (refs .entry)) (now (rows .entry)) (length (now (out .entry))) .answer ⌝ }
     ensures out { λ _. ⌜ now (out .exit) ≡ overwrite (now (out .entry)) (text-result header (now (names .entry)) (now (refs .entry)) (now (rows .entry)) (length (now (out .entry))) .bytes) ⌝ }
 {
-    let classes = class_index::enter_classes(names, rows, slots);
-    let certified = class_index::certify(rows, slots);
-    match size_good(header, rows, refs, names, slots, certified) {
+    let certified = classes.certified;
+    let primitives = classes.primitives;
+    match size_good(header, rows, refs, names, buckets, certified) {
         SizedText::Refused(refusal) => refusal,
         SizedText::Sized(size, tally) => write_if_fits(
             size,
@@ -159,9 +171,9 @@ fn text_with(
             rows,
             refs,
             names,
-            slots,
+            buckets,
             certified,
-            &classes,
+            &primitives,
             out,
         ),
     }
@@ -179,8 +191,15 @@ pub fn text(header: Header, rows: &[u64], refs: &[u64], names: &[u8], out: &mut 
     }
     if rows.len() <= FEW_ROWS * table::ROW_WIDTH {
         let mut none = [0u32; 0];
-        return text_with(header, rows, refs, names, &mut none, out);
+        let classes = class_index::enter_classes(names, rows, &mut none);
+        return text_with(header, rows, refs, names, &none, classes, out);
     }
-    let mut slots = [0u32; class_index::SLOTS];
-    text_with(header, rows, refs, names, &mut slots, out)
+    let mut small = [0u32; class_index::SMALL];
+    let classes = class_index::enter_classes(names, rows, &mut small);
+    if classes.certified {
+        return text_with(header, rows, refs, names, &small, classes, out);
+    }
+    let mut large = [0u32; class_index::LARGE];
+    let classes = class_index::enter_classes(names, rows, &mut large);
+    text_with(header, rows, refs, names, &large, classes, out)
 }

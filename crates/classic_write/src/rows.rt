@@ -25,17 +25,17 @@ pub enum LinesSize {
 }
 
 // Returns the size of the lines of all rows plus `first`, the size of the version line, and the counts of the rows; or reply 18 with the index of the first
-// object or object array whose class row is missing. `slots` are those of the class index, if `certified` says so.
+// object or object array whose class row is missing. `buckets` are those of the class index, if `certified` says so.
 pub fn rows_text_size(
     bits: u64,
     names: &[u8],
     rows: &[u64],
-    slots: &[u32],
+    buckets: &[u32],
     certified: bool,
     first: usize,
 ) -> LinesSize
     requires { ⌜ ValidBits bits ⌝ }
-    requires { ⌜ IndexHolds (rows-of (now rows)) (now slots) certified ⌝ }
+    requires { ⌜ IndexHolds (rows-of (now rows)) (now buckets) certified ⌝ }
     requires { ⌜ AllNumbersInBounds (now names) (rows-of (now rows)) ⌝ }
     requires { ⌜ first + rows-size bits (now names) (rows-of (now rows)) < 2 ^ 63 ⌝ }
     requires { ⌜ CountBounds (rows-of (now rows)) ⌝ }
@@ -49,7 +49,7 @@ pub fn rows_text_size(
     while i < n {
         let row = table::row_at(rows, i);
         if (row.kind == 2) | (row.kind == 3) {
-            last = class_index::search_class(rows, slots, certified, row.class, last);
+            last = class_index::search_class(rows, buckets, certified, row.class, last);
         }
         let found = last.found;
         match classic_row::row_text_size(bits, names, rows, row, found) {
@@ -69,7 +69,7 @@ pub fn rows_text_size(
     LinesSize::Bytes(total, tally)
 }
 
-// Writes the lines of all rows at offset `at`, and returns the offset after them. No row's class row may be missing. `slots` are
+// Writes the lines of all rows at offset `at`, and returns the offset after them. No row's class row may be missing. `buckets` are
 // those of the class index, if `certified` says so; `classes` are the class words of primitive arrays, by type.
 pub fn write_rows_text(
     out: &mut [u8],
@@ -78,12 +78,12 @@ pub fn write_rows_text(
     names: &[u8],
     refs: &[u64],
     rows: &[u64],
-    slots: &[u32],
+    buckets: &[u32],
     certified: bool,
     classes: &[u64; 8],
 ) -> usize
     requires { ⌜ ValidBits bits ⌝ }
-    requires { ⌜ IndexHolds (rows-of (now rows)) (now slots) certified ⌝ }
+    requires { ⌜ IndexHolds (rows-of (now rows)) (now buckets) certified ⌝ }
     requires { ⌜ PrimitiveClasses (now names) (rows-of (now rows)) (now classes) ⌝ }
     requires { ⌜ AllNumbersInBounds (now names) (rows-of (now rows)) ⌝ }
     requires { ⌜ first-row (class-missing (rows-of (now rows))) (rows-of (now rows)) ≡ NotFound ⌝ }
@@ -98,7 +98,7 @@ pub fn write_rows_text(
     while i < n {
         let row = table::row_at(rows, i);
         if (row.kind == 2) | (row.kind == 3) {
-            last = class_index::search_class(rows, slots, certified, row.class, last);
+            last = class_index::search_class(rows, buckets, certified, row.class, last);
         }
         let found = last.found;
         let class = classic_row::class_of(classes, row);

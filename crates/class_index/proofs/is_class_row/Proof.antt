@@ -1,7 +1,7 @@
 -- `is_class_row` satisfies its contract.
 use native.Mathlib.Omega.{arith}
 use Rattle.table.specs.Table.{row-count}
-use Rattle.class_index.proofs.SlotSteps.{class-row-test, no-class-row}
+use Rattle.class_index.proofs.BucketSteps.{class-row-test, no-class-row}
 use Rattle.class_index.proofs.is_class_row.Statement.{statement}
 use Rattle.class_index.proofs.is_class_row.Tie as tie
 

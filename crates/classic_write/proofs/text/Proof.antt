@@ -4,6 +4,7 @@ use Rattle.table.specs.Rows.{rows-of}
 use Rattle.table.specs.CheckOrder.{checked-input-ok, refused-unchanged}
 use Rattle.phd_check.specs.GoodRows.{TablesGood}
 use Rattle.classic_write.specs.TextOutcomes.{check-refusal, size-query-agrees}
+use Rattle.classic_write.proofs.WriteText.{good-enterable}
 use Rattle.classic_write.proofs.text.Statement.{statement}
 use Rattle.classic_write.proofs.text.Tie as tie
 
@@ -22,11 +23,17 @@ returns c =
 mul-if2 : tie.Need-mul-if2
 mul-if2 c = search needs
 
+slice-aggregate-enter-classes : tie.Need-slice-aggregate-enter-classes
+slice-aggregate-enter-classes c = search needs
+
+enter-classes-requires : tie.Need-enter-classes-requires
+enter-classes-requires c κs = good-enterable _ _ _ _ (good (c .before .before))
+
 slice-aggregate-text-with : tie.Need-slice-aggregate-text-with
 slice-aggregate-text-with c = search needs
 
 text-with-requires : tie.Need-text-with-requires
-text-with-requires c κs = good (c .before .before .before)
+text-with-requires c κs = let e = c .before .before .before in (good (e .before .before .before), (e .enter-classes .ensures .1, e .enter-classes .ensures .0))
 
 same-length : tie.Need-same-length
 same-length c = search needs
@@ -34,17 +41,41 @@ same-length c = search needs
 returns-2 : tie.Need-returns-2
 returns-2 c = search needs
 
+slice-aggregate-enter-classes-2 : tie.Need-slice-aggregate-enter-classes-2
+slice-aggregate-enter-classes-2 c = search needs
+
+enter-classes-requires-2 : tie.Need-enter-classes-requires-2
+enter-classes-requires-2 c κs = good-enterable _ _ _ _ (good (c .before .before))
+
 slice-aggregate-text-with-2 : tie.Need-slice-aggregate-text-with-2
 slice-aggregate-text-with-2 c = search needs
 
 text-with-requires-2 : tie.Need-text-with-requires-2
-text-with-requires-2 c κs = good (c .before .before .before)
+text-with-requires-2 c κs = let e = c .before .before .before .before in (good (e .before .before .before), (e .enter-classes2 .ensures .1, e .enter-classes2 .ensures .0))
 
 same-length-2 : tie.Need-same-length-2
 same-length-2 c = search needs
 
 returns-3 : tie.Need-returns-3
 returns-3 c = search needs
+
+slice-aggregate-enter-classes-3 : tie.Need-slice-aggregate-enter-classes-3
+slice-aggregate-enter-classes-3 c = search needs
+
+enter-classes-requires-3 : tie.Need-enter-classes-requires-3
+enter-classes-requires-3 c κs = good-enterable _ _ _ _ (good (c .before .before .before .before .before .before))
+
+slice-aggregate-text-with-3 : tie.Need-slice-aggregate-text-with-3
+slice-aggregate-text-with-3 c = search needs
+
+text-with-requires-3 : tie.Need-text-with-requires-3
+text-with-requires-3 c κs = let e = c .before .before .before in (good (e .before .before .before .before .before .before .before), (e .enter-classes3 .ensures .1, e .enter-classes3 .ensures .0))
+
+same-length-3 : tie.Need-same-length-3
+same-length-3 c = search needs
+
+returns-4 : tie.Need-returns-4
+returns-4 c = search needs
 
 pub text-spec : {M : Type 1} → statement M
 text-spec =
@@ -53,11 +84,21 @@ text-spec =
     check-requires
     returns
     mul-if2
+    slice-aggregate-enter-classes
+    enter-classes-requires
     slice-aggregate-text-with
     text-with-requires
     same-length
     returns-2
+    slice-aggregate-enter-classes-2
+    enter-classes-requires-2
     slice-aggregate-text-with-2
     text-with-requires-2
     same-length-2
-    returns-3)
+    returns-3
+    slice-aggregate-enter-classes-3
+    enter-classes-requires-3
+    slice-aggregate-text-with-3
+    text-with-requires-3
+    same-length-3
+    returns-4)

@@ -2,23 +2,13 @@
 use borrow.Author.Needs.{needs}
 use mathlib.Core.Path.{subst}
 use Rattle.table.specs.CheckOrder.{refused-unchanged}
-use Rattle.class_index.specs.Certified.{certified-holds}
 use Rattle.classic_write.specs.TextOutcomes.{size-query-agrees}
 use Rattle.classic_write.specs.SizedText.{SizedTextMeans}
-use Rattle.classic_write.proofs.WriteText.{good-enterable}
 use Rattle.classic_write.proofs.text_with.Statement.{statement}
 use Rattle.classic_write.proofs.text_with.Tie as tie
 
-enter-classes-requires : tie.Need-enter-classes-requires
-enter-classes-requires c κs = good-enterable _ _ _ _ (c .before .before .before .before .before .before .pre)
-
-certify-requires : tie.Need-certify-requires
-certify-requires c κs = search needs
-
 size-good-requires : tie.Need-size-good-requires
-size-good-requires c κs =
-    let e = c .before in
-    (e .before .before .before .before .before .before .before .before .before .before .before .pre, certified-holds _ _ _ (e .certify .ensures))
+size-good-requires c κs = let p = c .before .before .before .before .before .before .pre in (p .0, p .1 .0)
 
 enum-known-refusal : tie.Need-enum-known-refusal
 enum-known-refusal c = search needs
@@ -34,19 +24,13 @@ returns c =
 
 write-if-fits-requires : tie.Need-write-if-fits-requires
 write-if-fits-requires c κs =
-    let m = c .before .before .before .before in
+    let m = c .before .before .before in
     let g = m .before .before in
-    let f = g .before .before in
-    (subst (SizedTextMeans _ _ _ _) (m .size .given .1) (g .size-good .ensures), (certified-holds _ _ _ (f .certify .ensures), f .before .before .before .before .enter-classes .ensures))
+    let p = g .before .before .before .before .before .before .before .pre in
+    (subst (SizedTextMeans _ _ _ _) (m .size .given .1) (g .size-good .ensures), p .1)
 
 same-length : tie.Need-same-length
 same-length c = search needs
-
-same-length-2 : tie.Need-same-length-2
-same-length-2 c = search needs
-
-same-length-3 : tie.Need-same-length-3
-same-length-3 c = search needs
 
 returns-2 : tie.Need-returns-2
 returns-2 c = search needs
@@ -55,14 +39,10 @@ pub text-with-spec : {M : Type 1} → statement M
 text-with-spec =
     tie.close
     (tie.spec
-    enter-classes-requires
-    certify-requires
     size-good-requires
     enum-known-refusal
     enum-known-size
     write-if-fits-requires
-    same-length
     returns
-    same-length-2
-    same-length-3
+    same-length
     returns-2)

@@ -17,10 +17,10 @@ use Rattle.classic_write.proofs.rows.rows_text_size.Statement.{statemen
 use Rattle.classic_write.proofs.rows.rows_text_size.Tie as tie
 
 abbrev Inv-loop : tie.InvT-loop
-Inv-loop bits names rows slots certified first n last₀ tally₀ total₀ i₀ last tally total i = SizeLoop bits names rows first i total × (LastSearchHolds (rows-of rows) last × CountedBefore rows i tally)
+Inv-loop bits names rows buckets certified first n last₀ tally₀ total₀ i₀ last tally total i = SizeLoop bits names rows first i total × (LastSearchHolds (rows-of rows) last × CountedBefore rows i tally)
 
 abbrev μ-loop : tie.MeasureT-loop
-μ-loop bits names rows slots certified first n last₀ tally₀ total₀ i₀ last tally total i = n - i
+μ-loop bits names rows buckets certified first n last₀ tally₀ total₀ i₀ last tally total i = n - i
 
 -- The start of the function, seen from an iteration of the loop.
 abbrev start : tie.In-loop Inv-loop μ-loop → tie.Start Inv-loop μ-loop

@@ -15,10 +15,10 @@ use Rattle.classic_write.proofs.rows.write_rows_text.Statement.{stateme
 use Rattle.classic_write.proofs.rows.write_rows_text.Tie as tie
 
 abbrev Inv-loop : tie.InvT-loop
-Inv-loop out₀ at bits names refs rows slots certified classes n last₀ to₀ i₀ out last to i = WriteLoop bits names refs rows at out₀ i to out × LastSearchHolds (rows-of rows) last
+Inv-loop out₀ at bits names refs rows buckets certified classes n last₀ to₀ i₀ out last to i = WriteLoop bits names refs rows at out₀ i to out × LastSearchHolds (rows-of rows) last
 
 abbrev μ-loop : tie.MeasureT-loop
-μ-loop out₀ at bits names refs rows slots certified classes n last₀ to₀ i₀ out last to i = n - i
+μ-loop out₀ at bits names refs rows buckets certified classes n last₀ to₀ i₀ out last to i = n - i
 
 -- The start of the function, seen from an iteration of the loop.
 abbrev start : tie.In-loop Inv-loop μ-loop → tie.Start Inv-loop μ-loop
