@@ -1,23 +1,23 @@
 """Samples of texts of about 64 rows and more. The text of more than 64 rows finds class rows in an index by their addresses.
 
-The index has 131,072 slots. The class row of an address is in one of the 64 slots from its own on; if there is not one for every
-class row, the rows are searched one by one. None of this changes a text.
+The index is a hash table. The class row of an address is in one of the 64 buckets from its own on; if there is not one for every class
+row, also of a larger index, the rows are searched one by one. None of this changes a text.
 """
 from text import ROWS, empty_dump, refused, written
 
-# Addresses at this distance begin at the same slot of the index.
-SAME_SLOT = 2**34 - 4
+# Addresses at this distance have the same hash, and so the same bucket.
+SAME_HASH = 2**34 - 4
 
 
-def index_slot(address):
-    """Returns the slot of the index at which an address begins."""
-    return ((address // 4 + address // 2**34) % 2**32 * 0x9E3779B1 % 2**32) // 2**15
+def hash_of(address):
+    """Returns the hash of an address, whose upper bits are its bucket."""
+    return (address // 4 + address // 2**34) % 2**32 * 0x9E3779B1 % 2**32
 
 
 def sharing(count):
-    """Returns so many addresses that begin at one slot of the index."""
-    addresses = [0x123456780 + i * SAME_SLOT for i in range(count)]
-    assert len({index_slot(address) for address in addresses}) == 1
+    """Returns so many addresses with one hash."""
+    addresses = [0x123456780 + i * SAME_HASH for i in range(count)]
+    assert len({hash_of(address) for address in addresses}) == 1
     return addresses
 
 
@@ -63,7 +63,7 @@ def many_rows():
     yield "index-twice-around", written(d.klass(0x1000, b"Again", 40, code=3).end())
     yield "index-all-one-address", written(arranged([0x1000] * 70, [0x1000] * 10, 5))
 
-    # class rows that share a slot: of at most 64 each is found in the index
+    # class rows that share a bucket: of at most 64 each is found in the index
     for count in (2, 40, 63, 64, 65, 66, 100):
         classes = sharing(count)
         words = changing(classes, ROWS - count)

@@ -9,32 +9,42 @@ use std::collections::HashMap;
 /// Tables of at most so many rows are searched row by row, without the index.
 pub const ROWS_WITHOUT: usize = 64;
 
-/// How many index slots an address can begin at; `PROBES` more follow the last of them.
-pub const SLOTS: usize = 131_072;
+/// At how many buckets the search for an address can begin, in a small index and in a large one, which is made if the small one has
+/// no free bucket for a class row. `PROBES` more buckets follow the last of them.
+pub const SMALL: usize = 16_384;
+pub const LARGE: usize = 131_072;
 
-/// How many index slots are looked at for an address.
+/// How many buckets are looked at for an address.
 pub const PROBES: usize = 64;
 
-/// Addresses at this distance have the same index slot, apart from carries.
-pub const SAME_SLOT: u64 = (1 << 34) - 4;
+/// Addresses at this distance have the same hash, and so the same bucket, apart from carries.
+pub const SAME_HASH: u64 = (1 << 34) - 4;
 
-/// Returns the index slot that an address begins at.
-pub fn slot(address: u64) -> usize {
+/// Returns the bucket at which the search for an address begins, in an index of this size.
+pub fn bucket(address: u64, size: usize) -> usize {
     let folded = (address / 4 + (address >> 34)) % (1 << 32);
-    ((folded * 0x9E37_79B1 % (1 << 32)) >> 15) as usize
+    let hash = folded * 0x9E37_79B1 % (1 << 32);
+    ((hash * size as u64) >> 32) as usize
 }
 
-/// Returns how many index slots are passed before each of these addresses is found. Returns nothing if one of them has no free
-/// index slot: then the text searches row by row.
-pub fn passed_slots(addresses: impl IntoIterator<Item = u64>) -> Option<HashMap<u64, usize>> {
+/// Returns how many buckets are passed before each of these addresses is found in an index of this size. Returns nothing if one of
+/// them has no free bucket. The addresses are entered from the last to the first.
+fn passed_in(size: usize, addresses: &[u64]) -> Option<HashMap<u64, usize>> {
     let mut entries = HashMap::new();
     let mut passed = HashMap::new();
-    for address in addresses {
-        let start = slot(address);
-        let is_free = |at: &usize| *entries.entry(start + at).or_insert(address) == address;
-        passed.insert(address, (0..PROBES).find(is_free)?);
+    for address in addresses.iter().rev() {
+        let start = bucket(*address, size);
+        let is_free = |at: &usize| *entries.entry(start + at).or_insert(*address) == *address;
+        passed.insert(*address, (0..PROBES).find(is_free)?);
     }
     Some(passed)
+}
+
+/// Returns the size of the index that is made for class rows at these addresses, and how many buckets are passed before each is
+/// found. Returns nothing if even a large index has no free bucket for one of them: then the text searches row by row.
+pub fn passed_buckets(addresses: &[u64]) -> Option<(usize, HashMap<u64, usize>)> {
+    let in_size = |size| passed_in(size, addresses).map(|passed| (size, passed));
+    in_size(SMALL).or_else(|| in_size(LARGE))
 }
 
 /// How many rows tables have that were written as text: about as many as are searched without the index, and more.
@@ -42,7 +52,7 @@ pub const ROWS: [i64; 5] = [63, 64, 65, 66, MORE_ROWS];
 const MORE_ROWS: i64 = 67;
 
 /// Of an object in tables with an index: its class row is before it; after it; there are two with that address; it is not in the
-/// index slot that its address begins at. The same of an object array. Of tables with an index: a class row has no free index slot;
+/// bucket at which the search for its address begins. The same of an object array. Of tables with an index: a class row has no free bucket;
 /// a class is missing.
 pub const INDEXED: [i64; 10] = [
     BEFORE,
@@ -53,7 +63,7 @@ pub const INDEXED: [i64; 10] = [
     ARRAY + AFTER,
     ARRAY + TWO,
     ARRAY + PASSED,
-    NO_SLOT,
+    NO_BUCKET,
     NO_CLASS,
 ];
 const BEFORE: i64 = 0;
@@ -61,7 +71,7 @@ const AFTER: i64 = 1;
 const TWO: i64 = 2;
 const PASSED: i64 = 3;
 const ARRAY: i64 = 10;
-const NO_SLOT: i64 = 20;
+const NO_BUCKET: i64 = 20;
 const NO_CLASS: i64 = 21;
 
 /// Counts the cases in good tables whose text was written, or refused since a class is missing.
@@ -80,9 +90,9 @@ pub fn count_indexed(tables: &OwnedTables, reply: u64, coverage: &mut Coverage) 
     let is_class = |index: &usize| tables.row(*index)[KIND] == kind::CLASS;
     let classes: Vec<usize> = (0..rows).filter(is_class).collect();
     let address = |index: &usize| tables.row(*index)[ADDRESS];
-    let passed = passed_slots(classes.iter().map(address));
-    let Some(passed) = passed else {
-        coverage.count("index", NO_SLOT);
+    let addresses: Vec<u64> = classes.iter().map(address).collect();
+    let Some((_, passed)) = passed_buckets(&addresses) else {
+        coverage.count("index", NO_BUCKET);
         return;
     };
     for index in 0..rows {

@@ -1,7 +1,7 @@
 //! Generates random good tables: rows of every kind, with gaps and references at the boundaries of every width, classes that
 //! repeat so that the class cache is used, and class rows and names that a text must find.
 
-use crate::class_index::{ROWS_WITHOUT, SAME_SLOT};
+use crate::class_index::{ROWS_WITHOUT, SAME_HASH};
 use crate::names;
 use crate::rng::Rng;
 use crate::tables::*;
@@ -136,8 +136,8 @@ impl<'a> Generator<'a> {
         plan
     }
 
-    /// Chooses the class words: up to seven near each other, or for many rows often many, and then often such as share an index
-    /// slot of a text.
+    /// Chooses the class words: up to seven near each other, or for many rows often many, and then often such as share a
+    /// bucket of a text's class index.
     fn choose_classes(&mut self, count: u64) {
         let base = self.rng.any() & self.max_address;
         if count <= ROWS_WITHOUT as u64 || self.rng.one_in(2) {
@@ -149,7 +149,7 @@ impl<'a> Generator<'a> {
         }
         let many = 2 + self.rng.below(100);
         let apart = if self.tables.is_wide() && self.rng.one_in(2) {
-            SAME_SLOT
+            SAME_HASH
         } else {
             4 * (1 + self.rng.below(100))
         };

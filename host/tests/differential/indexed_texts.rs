@@ -1,7 +1,7 @@
 //! Compares the texts of fixed tables whose class rows are hard to find in an index: about as many rows as are searched without it,
-//! two class rows with one address, class rows that share an index slot, and more class rows than index slots.
+//! two class rows with one address, class rows that share a bucket, and more class rows than buckets.
 
-use crate::class_index::{passed_slots, slot, PROBES, SAME_SLOT, SLOTS};
+use crate::class_index::{bucket, passed_buckets, LARGE, PROBES, SAME_HASH, SMALL};
 use crate::compare::{self, check_query, TEXT};
 use crate::tables::*;
 use phd_host::reply;
@@ -203,22 +203,26 @@ fn many_class_rows_with_one_address() {
     }
 }
 
-/// Returns `count` addresses whose index slot is `wanted`.
+/// Returns `count` addresses whose bucket in a large index is `wanted`. They also have one bucket in a small index.
 fn sharing(wanted: usize, count: usize) -> Vec<u64> {
     let base = (1 << 20..)
         .map(|at| 4 * at)
-        .find(|base| slot(*base) == wanted);
-    let base = base.expect("an address with this index slot");
-    let addresses: Vec<u64> = (0..count as u64).map(|at| base + at * SAME_SLOT).collect();
-    assert!(addresses.iter().all(|address| slot(*address) == wanted));
+        .find(|base| bucket(*base, LARGE) == wanted);
+    let base = base.expect("an address with this bucket");
+    let addresses: Vec<u64> = (0..count as u64).map(|at| base + at * SAME_HASH).collect();
+    let all_in = |size, bucket_of: usize| {
+        let mut buckets = addresses.iter().map(|address| bucket(*address, size));
+        buckets.all(|bucket| bucket == bucket_of)
+    };
+    assert!(all_in(LARGE, wanted) && all_in(SMALL, wanted / (LARGE / SMALL)));
     addresses
 }
 
 /// Checks tables with class rows at all these addresses but the last, which is missing, and with objects of all of them, in every
-/// order. `found` states whether all class rows are found in the index.
-fn check_classes(what: &str, addresses: &[u64], found: bool) {
+/// order. `size` is that of the index in which all class rows are found, if there is one.
+fn check_classes(what: &str, addresses: &[u64], size: Option<usize>) {
     let (missing, classes) = addresses.split_last().expect("the address that is missing");
-    assert_eq!(passed_slots(classes.iter().copied()).is_some(), found);
+    assert_eq!(passed_buckets(classes).map(|(size, _)| size), size);
     let objects = objects_of(classes, 70 + 2 * classes.len());
     for order in ORDERS {
         let entries = arranged(classes, &objects, order);
@@ -227,34 +231,40 @@ fn check_classes(what: &str, addresses: &[u64], found: bool) {
 }
 
 #[test]
-fn class_rows_that_share_an_index_slot() {
-    for wanted in [0, 1, 70_000, SLOTS - PROBES, SLOTS - 1] {
+fn class_rows_that_share_a_bucket() {
+    for wanted in [0, 1, 70_000, LARGE - PROBES, LARGE - 1] {
         for count in [2, 3, 10, 33, 63, 64, 65, 66, 100, 200] {
-            let what = format!("{count} classes in index slot {wanted}");
-            check_classes(&what, &sharing(wanted, count + 1), count <= PROBES);
+            let what = format!("{count} classes in bucket {wanted}");
+            let size = (count <= PROBES).then_some(SMALL);
+            check_classes(&what, &sharing(wanted, count + 1), size);
         }
     }
 }
 
 #[test]
-fn class_rows_that_crowd_neighbouring_index_slots() {
-    for (counts, found) in [([32, 32], true), ([40, 40], false), ([1, 64], true)] {
+fn class_rows_that_crowd_neighbouring_buckets() {
+    // Buckets 500 and 501 of a large index are one of a small index.
+    for (counts, size) in [
+        ([32, 32], Some(SMALL)),
+        ([1, 64], Some(LARGE)),
+        ([40, 40], None),
+    ] {
         let [one, two] = counts;
         let addresses = [sharing(500, one), sharing(501, two + 1)].concat();
-        check_classes(&format!("{counts:?} classes"), &addresses, found);
+        check_classes(&format!("{counts:?} classes"), &addresses, size);
     }
-    // At the end of the index, where no other address begins.
-    for (two, found) in [(1, true), (2, false)] {
-        let addresses = [sharing(SLOTS - 2, 64), sharing(SLOTS - 1, two + 1)].concat();
-        check_classes(&format!("64 and {two} classes"), &addresses, found);
+    // At the end of the index, where no other search begins.
+    for (two, size) in [(1, Some(LARGE)), (2, None)] {
+        let addresses = [sharing(LARGE - 1, two), sharing(LARGE - 2, 64 + 1)].concat();
+        check_classes(&format!("64 and {two} classes"), &addresses, size);
     }
 }
 
 #[test]
-fn more_class_rows_than_index_slots() {
-    for (count, found) in [(50_000, true), (140_000, false)] {
+fn more_class_rows_than_buckets() {
+    for (count, size) in [(5_000, Some(SMALL)), (50_000, Some(LARGE)), (140_000, None)] {
         let classes = classes_of(count);
-        assert_eq!(passed_slots(classes.iter().copied()).is_some(), found);
+        assert_eq!(passed_buckets(&classes).map(|(size, _)| size), size);
         let objects = objects_of(&classes, 30);
         for order in [Order::First, Order::Last] {
             let entries = arranged(&classes, &objects, order);
