@@ -160,7 +160,9 @@ uint64_t phd_text_size(const uint64_t header[PHD_HEADER_LEN], const uint64_t *ro
 uint64_t phd_write(const uint64_t header[PHD_HEADER_LEN], const uint64_t *rows, size_t rows_len, const uint64_t *refs,
                    size_t refs_len, const uint8_t *names, size_t names_len, uint8_t *out, size_t out_len, uint64_t answer[16]);
 
-/* Writes a table of rows with their references as classic text, to the start of `out`. All rules of phd_write apply. */
+/* Writes a table of rows with their references as classic text, to the start of `out`. All rules of phd_write apply. phd_text
+ * and phd_text_size each take up to 600,000 bytes of stack, for a table in which they find classes: a thread that calls them
+ * needs at least 640 KiB of it. Where there is less, the system ends the program at the end of the stack, by a signal. */
 uint64_t phd_text(const uint64_t header[PHD_HEADER_LEN], const uint64_t *rows, size_t rows_len, const uint64_t *refs,
                   size_t refs_len, const uint8_t *names, size_t names_len, uint8_t *out, size_t out_len, uint64_t answer[16]);
 
