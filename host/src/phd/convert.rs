@@ -13,7 +13,7 @@ use phd_host::row::{ADDRESS, CLASS, OFFSET};
 use phd_host::{library, reply};
 use std::thread;
 
-/// The stack for the library, in bytes. A text takes about 520 KB of it, for an index of the classes.
+/// The stack for the library, in bytes. A text takes up to 600 KB of it, for the class index.
 const STACK: usize = 4 << 20;
 
 /// The output format.
