@@ -1,11 +1,12 @@
 -- Laws of the tests of GoodRows, in the form in which the functions compute them.
 -- Assumes nothing.
 use mathlib.Core.Path.{_≡_, refl, sym}
-use mathlib.Core.Bool.{Bool, true, false, not, _&&_, _||_, cond, and-true}
+use mathlib.Core.Bool.{Bool, true, false, not, _&&_, _||_, cond, and-true, and-assoc}
 use mathlib.Core.List.{List, [], _∷_}
 use Prim.Native.Nat.{ℕ, zero, suc, _+_, _-_, _^_, _≤_, _<_}
 use native.Mathlib.Omega.{arith}
 use lib.ListN.{length, getD, take, drop}
+use lib.Seq.{drop-cons}
 use native.Mathlib.Numerals.{add-one}
 use lib.Dec.{leb, ltb, eqb}
 use borrow.Author.Tests.{ltb-true, ltb-false, leb-true, leb-false, eqb-true, eqb-false, lt-ltb, le-ltb, le-leb, lt-leb, ne-eqb}
@@ -15,6 +16,7 @@ use Rattle.table.specs.Table.{row-count}
 use Rattle.phd.specs.Phd.{max-address, hash-bytes}
 use Rattle.phd.specs.declared.Header.{Header}
 use Rattle.decode.specs.Slices.{slice-until}
+use Rattle.decode.specs.Values.{and-left, and-right}
 use Rattle.table.specs.Rows.{row-at, refs-of, name-of, rows-left, rows-left-next, rows-left-none}
 use Rattle.phd_check.specs.GoodRows.{all-true, good-vm, good-numbers, good-ref, good-refs, good-row, first-bad-from}
 use Rattle.table.specs.declared.Row.{Row}
@@ -110,6 +112,33 @@ module _ (names : List ℕ) (t : StringSpan) (there : t .present ≡ true) where
   pub vm-by-bytes : t .len < 65536 → t .place + t .len ≤ length names → all-within 0x20 0x7E (take (t .len) (drop (t .place) names)) ≡ good-vm names t
   unfolding good-vm all-true
   vm-by-bytes h k = rw (there, lt-ltb _ _ h, le-leb _ _ k) (sym (and-true _))
+
+-- ---- references of the table
+
+-- A step of the loop over all references: the test of the one at i moves from those left to `good`, the result so far.
+pub good-refs-from : (refs : List ℕ) (top i : ℕ) (good : Bool) → i < length refs
+    → good && good-refs top (drop i refs) ≡ (good && good-ref top (getD refs i 0)) && good-refs top (drop (i + 1) refs)
+unfolding good-refs
+good-refs-from refs top i good h = rw (add-one, drop-cons refs i 0 h, and-assoc)
+
+-- If all references are good, those from n on are.
+good-refs-drop : (top n : ℕ) (refs : List ℕ) → good-refs top refs ≡ true → good-refs top (drop n refs) ≡ true
+unfolding good-refs
+good-refs-drop top zero refs e = e
+good-refs-drop top (suc n) [] e = refl
+good-refs-drop top (suc n) (a ∷ refs) e = good-refs-drop top n refs (and-right (good-ref top a) _ e)
+
+-- If all references are good, the first n are.
+good-refs-take : (top n : ℕ) (refs : List ℕ) → good-refs top refs ≡ true → good-refs top (take n refs) ≡ true
+unfolding good-refs
+good-refs-take top zero refs e = refl
+good-refs-take top (suc n) [] e = refl
+good-refs-take top (suc n) (a ∷ refs) e = rw (and-left (good-ref top a) _ e) (good-refs-take top n refs (and-right (good-ref top a) _ e))
+
+-- If all references of the table are good, those of a row are.
+pub good-refs-of : (top : ℕ) (refs : List ℕ) (r : Row) → good-refs top refs ≡ true → good-refs top (refs-of refs r) ≡ true
+unfolding refs-of
+good-refs-of top refs r e = good-refs-take top (r .count) _ (good-refs-drop top (r .first) refs e)
 
 -- ---- first bad row
 

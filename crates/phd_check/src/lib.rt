@@ -3,7 +3,7 @@
 ghost use mathlib.Core.Path.{_≡_};
 ghost use Rattle.phd.specs.Shapes.{ValidBits};
 ghost use Rattle.table.specs.Rows.{rows-of};
-ghost use Rattle.phd_check.specs.GoodRows.{good-vm, good-header, first-bad};
+ghost use Rattle.phd_check.specs.GoodRows.{good-vm, good-header, good-refs, first-bad};
 ghost use Rattle.table.specs.CheckOrder.{checked-input};
 use decode::StringSpan;
 use phd::Header;
@@ -41,13 +41,28 @@ fn header_good(header: Header, names: &[u8], rows: &[u64], refs: &[u64]) -> bool
         & vm_good(names, header.vm)
 }
 
-// Returns the index of the first bad row, if there is one.
+// Checks whether all references of the table are good. The loop has no early exit, and so no branch that is hard to predict.
+fn refs_good(top: u64, refs: &[u64]) -> bool
+    ensures { λ r. ⌜ r ≡ good-refs top (now (refs .entry)) ⌝ }
+{
+    let mut good = true;
+    let mut i: usize = 0;
+    while i < refs.len() {
+        good = good & numbers::ref_good(top, refs[i]);
+        i += 1;
+    }
+    good
+}
+
+// Returns the index of the first bad row, if there is one. If all references of the table are good, as they nearly always are,
+// the loop over those of each row is left out.
 fn find_bad(header: Header, names: &[u8], refs: &[u64], rows: &[u64]) -> Search
     requires { ⌜ ValidBits (header .bits) ⌝ }
     ensures { λ r. ⌜ r ≡ first-bad header (now (names .entry)) (now (refs .entry)) (rows-of (now (rows .entry))) ⌝ }
 {
     let n = rows.len() / table::ROW_WIDTH;
     let top = phd::forms::max_address_of(header.bits);
+    let clean = refs_good(top, refs);
     let mut index: u64 = 0;
     let mut i: usize = 0;
     'rows: while i < n {
@@ -55,13 +70,15 @@ fn find_bad(header: Header, names: &[u8], refs: &[u64], rows: &[u64]) -> Search
         if !numbers::numbers_good(header, index, refs.len(), names.len(), row) {
             break 'rows;
         }
-        let last = (row.first + row.count) as usize;
-        let mut j = row.first as usize;
-        while j < last {
-            if !numbers::ref_good(top, refs[j]) {
-                break 'rows;
+        if !clean {
+            let last = (row.first + row.count) as usize;
+            let mut j = row.first as usize;
+            while j < last {
+                if !numbers::ref_good(top, refs[j]) {
+                    break 'rows;
+                }
+                j += 1;
             }
-            j += 1;
         }
         let end = (row.place + row.namelen) as usize;
         let mut k = row.place as usize;
