@@ -1,2 +1,3 @@
 -- Laws that the proofs of this crate's functions cite.
 pub mod EncodeLaws
+pub mod OverlapLaws

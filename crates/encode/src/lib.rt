@@ -12,6 +12,8 @@ ghost use Rattle.encode.specs.Writes.{Writes, HasCapacity};
 ghost use Rattle.encode.specs.Encode.{be, gap, twos-complement, width-code, max, refs-code, encode-ref-list};
 use decode::choice;
 
+mod slices;
+
 // Writes one byte.
 pub fn encode_byte(out: &mut [u8], at: usize, b: u8) -> usize
     requires { ⌜ HasCapacity (now out) at (b ∷ []) ⌝ }
@@ -21,26 +23,33 @@ pub fn encode_byte(out: &mut [u8], at: usize, b: u8) -> usize
     at + 1
 }
 
-// Writes n of the given bytes, from offset `place` on.
+// Writes n of the given bytes, from offset `place` on. 8 to 64 bytes are written as two blocks, without a loop.
 pub fn encode_slice(out: &mut [u8], at: usize, bytes: &[u8], place: usize, n: usize) -> usize
     requires { ⌜ place + n ≤ length (now bytes) ⌝ }
     requires { ⌜ HasCapacity (now out) at (take n (drop place (now bytes))) ⌝ }
     ensures { λ r. ⌜ Writes (now (out .entry)) at (take n (drop place (now (bytes .entry)))) (now (out .exit)) r ⌝ }
 {
-    let mut i: usize = 0;
-    while i < n {
-        out[at + i] = bytes[place + i];
-        i += 1;
+    if n < 8 {
+        return slices::encode_bytewise(out, at, bytes, place, n);
     }
-    at + n
+    if n <= 16 {
+        return slices::encode_ends8(out, at, bytes, place, n);
+    }
+    if n <= 32 {
+        return slices::encode_ends16(out, at, bytes, place, n);
+    }
+    if n <= 64 {
+        return slices::encode_ends32(out, at, bytes, place, n);
+    }
+    slices::encode_blocks(out, at, bytes, place, n)
 }
 
-// Writes all given bytes.
+// Writes all given bytes, byte by byte: most callers pass a constant, for which the loop is compiled to a few stores.
 pub fn encode_bytes(out: &mut [u8], at: usize, bytes: &[u8]) -> usize
     requires { ⌜ HasCapacity (now out) at (now bytes) ⌝ }
     ensures { λ r. ⌜ Writes (now (out .entry)) at (now (bytes .entry)) (now (out .exit)) r ⌝ }
 {
-    encode_slice(out, at, bytes, 0, bytes.len())
+    slices::encode_bytewise(out, at, bytes, 0, bytes.len())
 }
 
 // Writes the lowest n bytes of a number for any n, byte by byte from the last to the first.

@@ -1,85 +1,77 @@
--- `encode_slice` satisfies its contract: the invariant is that writing the bytes that are left from here writes all of them.
+-- `encode_slice` satisfies its contract: each branch writes the whole slice.
 use borrow.Author.Needs.{needs}
-use mathlib.Core.Path.{_≡_, refl}
-use mathlib.Core.List.{[], _∷_}
-use Prim.Native.Nat.{_+_, _-_, _≤_}
-use native.Mathlib.Nat.{add-zero, sub-zero}
+use Prim.Native.Nat.{_+_, _≤_}
 use native.Mathlib.Omega.{arith}
-use lib.ListN.{length, take, drop, getD}
-use Rattle.decode.specs.Slices.{length-slice, slice-next}
-use Rattle.encode.specs.Writes.{Remaining, remaining-start, remaining-next, remaining-done}
+use lib.ListN.{length}
+use Rattle.decode.specs.Slices.{length-slice}
 use Rattle.encode.proofs.encode_slice.Statement.{statement}
 use Rattle.encode.proofs.encode_slice.Tie as tie
 
-abbrev Inv-loop : tie.InvT-loop
-Inv-loop out₀ at bytes place n i₀ out i =
-    (i ≤ n) × (at + n ≤ length out) × Remaining out₀ at (take n (drop place bytes)) out (at + i) (take (n - i) (drop (place + i) bytes))
+-- There is capacity for n bytes.
+capacity : (s : tie.Start) → let a = s .args in a .at + a .n ≤ length (a .out .now)
+capacity s = let a = s .args in rw (length-slice (a .bytes .now) (a .place) (a .n) (s .pre .0)) at (s .pre .1)
 
-abbrev μ-loop : tie.MeasureT-loop
-μ-loop out₀ at bytes place n i₀ out i = n - i
+encode-bytewise-requires : tie.Need-encode-bytewise-requires
+encode-bytewise-requires c κs = search needs
 
-loop-holds : tie.Need-loop-holds Inv-loop μ-loop
-loop-holds c =
-    let a = c .args in
-    (omega arith, rw (length-slice (a .bytes .now) (a .place) (a .n) (c .pre .0)) at (c .pre .1), simp (add-zero, sub-zero) (remaining-start _ _ _))
-
-add-out : tie.Need-add-out Inv-loop μ-loop
-add-out c = search needs
-
-shared-slice-read-out : tie.Need-shared-slice-read-out Inv-loop μ-loop
-shared-slice-read-out c = search needs
-
-add-out-2 : tie.Need-add-out-2 Inv-loop μ-loop
-add-out-2 c = search needs
-
-slice-write-out : tie.Need-slice-write-out Inv-loop μ-loop
-slice-write-out c = search needs
-
-add-i : tie.Need-add-i Inv-loop μ-loop
-add-i c = search needs
-
-loop-less : tie.Need-loop-less Inv-loop μ-loop
-loop-less c = search needs
-
-loop-again : tie.Need-loop-again Inv-loop μ-loop
-loop-again c =
-    let l = c .before .before in
-    let a = l .before .args in (
-      omega arith,
-      search needs,
-      remaining-next {xs = getD (a .bytes .now) (a .place + l .loop .i) 0 ∷ []}
-          (rw (slice-next (a .bytes .now) (a .place) (a .n) (l .loop .i) (omega arith) (omega arith)) at (l .loop .inv .2))
-          (record { out = refl; place = omega arith }),
-    )
-
-add-result : tie.Need-add-result Inv-loop μ-loop
-add-result c = search needs
-
-same-length : tie.Need-same-length Inv-loop μ-loop
+same-length : tie.Need-same-length
 same-length c = search needs
 
-returns : tie.Need-returns Inv-loop μ-loop
-returns c =
-    let l = c .before in
-    let a = l .before .args in
-    let e : a .n - l .loop .i ≡ 0 = omega arith in
-    let f : l .loop .i ≡ a .n = omega arith in
-    remaining-done (rw (e, f) at (l .loop .inv .2))
+returns : tie.Need-returns
+returns c = search needs
+
+encode-ends8-requires : tie.Need-encode-ends8-requires
+encode-ends8-requires c κs = omega (arith, capacity (c .before .before .before .before .before))
+
+same-length-2 : tie.Need-same-length-2
+same-length-2 c = search needs
+
+returns-2 : tie.Need-returns-2
+returns-2 c = search needs
+
+encode-ends16-requires : tie.Need-encode-ends16-requires
+encode-ends16-requires c κs = omega (arith, capacity (c .before .before .before .before .before .before))
+
+same-length-3 : tie.Need-same-length-3
+same-length-3 c = search needs
+
+returns-3 : tie.Need-returns-3
+returns-3 c = search needs
+
+encode-ends32-requires : tie.Need-encode-ends32-requires
+encode-ends32-requires c κs = omega (arith, capacity (c .before .before .before .before .before .before .before))
+
+same-length-4 : tie.Need-same-length-4
+same-length-4 c = search needs
+
+returns-4 : tie.Need-returns-4
+returns-4 c = search needs
+
+encode-blocks-requires : tie.Need-encode-blocks-requires
+encode-blocks-requires c κs = omega (arith, capacity (c .before .before .before .before .before .before .before))
+
+same-length-5 : tie.Need-same-length-5
+same-length-5 c = search needs
+
+returns-5 : tie.Need-returns-5
+returns-5 c = search needs
 
 pub encode-slice-spec : {M : Type 1} → statement M
 encode-slice-spec =
     tie.close
     (tie.spec
-    Inv-loop
-    μ-loop
-    loop-holds
-    add-out
-    shared-slice-read-out
-    add-out-2
-    slice-write-out
-    add-i
-    loop-less
-    loop-again
-    add-result
+    encode-bytewise-requires
     same-length
-    returns)
+    returns
+    encode-ends8-requires
+    same-length-2
+    returns-2
+    encode-ends16-requires
+    same-length-3
+    returns-3
+    encode-ends32-requires
+    same-length-4
+    returns-4
+    encode-blocks-requires
+    same-length-5
+    returns-5)

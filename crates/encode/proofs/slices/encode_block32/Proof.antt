@@ -1,0 +1,41 @@
+-- `encode_block32` satisfies its contract: the thirty-two bytes are the first sixteen and then the last sixteen.
+use borrow.Author.Needs.{needs}
+use native.Mathlib.Omega.{arith}
+use mathlib.Core.Path.{refl}
+use Rattle.encode.proofs.OverlapLaws.{writes-overlap}
+use Rattle.encode.proofs.slices.encode_block32.Statement.{statement}
+use Rattle.encode.proofs.slices.encode_block32.Tie as tie
+
+encode-block16-requires : tie.Need-encode-block16-requires
+encode-block16-requires c κs = search needs
+
+add-encode-block16 : tie.Need-add-encode-block16
+add-encode-block16 c = search needs
+
+add-encode-block16-2 : tie.Need-add-encode-block16-2
+add-encode-block16-2 c = search needs
+
+encode-block16-requires-2 : tie.Need-encode-block16-requires-2
+encode-block16-requires-2 c κs = search needs
+
+same-length : tie.Need-same-length
+same-length c = search needs
+
+returns : tie.Need-returns
+returns c =
+    let p = c .before .before in
+    let q = p .before .before .before .before in
+    let s = q .before .before .before .before in
+    let a = s .args in
+    writes-overlap (a .bytes .now) (a .place) (a .at) 16 16 16 32 (omega arith) (omega arith) refl (s .pre .0) (q .encode-block16 .ensures) (p .encode-block162 .ensures)
+
+pub encode-block32-spec : {M : Type 1} → statement M
+encode-block32-spec =
+    tie.close
+    (tie.spec
+    encode-block16-requires
+    add-encode-block16
+    add-encode-block16-2
+    encode-block16-requires-2
+    same-length
+    returns)
