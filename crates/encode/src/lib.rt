@@ -23,7 +23,7 @@ pub fn encode_byte(out: &mut [u8], at: usize, b: u8) -> usize
     at + 1
 }
 
-// Writes n of the given bytes, from offset `place` on. 8 to 64 bytes are written as two blocks, without a loop.
+// Writes n of the given bytes, from offset `place` on: 8 and more in blocks, of which the last ends where the slice ends.
 pub fn encode_slice(out: &mut [u8], at: usize, bytes: &[u8], place: usize, n: usize) -> usize
     requires { ⌜ place + n ≤ length (now bytes) ⌝ }
     requires { ⌜ HasCapacity (now out) at (take n (drop place (now bytes))) ⌝ }
@@ -34,12 +34,6 @@ pub fn encode_slice(out: &mut [u8], at: usize, bytes: &[u8], place: usize, n: us
     }
     if n <= 16 {
         return slices::encode_ends8(out, at, bytes, place, n);
-    }
-    if n <= 32 {
-        return slices::encode_ends16(out, at, bytes, place, n);
-    }
-    if n <= 64 {
-        return slices::encode_ends32(out, at, bytes, place, n);
     }
     slices::encode_blocks(out, at, bytes, place, n)
 }

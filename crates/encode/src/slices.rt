@@ -1,4 +1,4 @@
-// Writes slices of given bytes: byte by byte, or in blocks of 8, 16 or 32 bytes. The last block ends where the slice ends, so it
+// Writes slices of given bytes: byte by byte, or in blocks of 8 or 16 bytes. The last block ends where the slice ends, so it
 // may begin among bytes that are written already, and writes the same bytes there once more.
 ghost use Prim.Native.Nat.{_+_, _≤_};
 ghost use lib.ListN.{length, take, drop};
@@ -54,16 +54,6 @@ fn encode_block16(out: &mut [u8], at: usize, bytes: &[u8], place: usize) -> usiz
     encode_block8(out, at + 8, bytes, place + 8)
 }
 
-// Writes the thirty-two bytes at offset `place`.
-fn encode_block32(out: &mut [u8], at: usize, bytes: &[u8], place: usize) -> usize
-    requires { ⌜ place + 32 ≤ length (now bytes) ⌝ }
-    requires { ⌜ at + 32 ≤ length (now out) ⌝ }
-    ensures { λ r. ⌜ Writes (now (out .entry)) at (take 32 (drop place (now (bytes .entry)))) (now (out .exit)) r ⌝ }
-{
-    encode_block16(out, at, bytes, place);
-    encode_block16(out, at + 16, bytes, place + 16)
-}
-
 // Writes 8 to 16 of the given bytes, from offset `place` on: the first 8 and the last 8.
 pub fn encode_ends8(out: &mut [u8], at: usize, bytes: &[u8], place: usize, n: usize) -> usize
     requires { ⌜ (8 ≤ n) × (n ≤ 16) ⌝ }
@@ -76,42 +66,18 @@ pub fn encode_ends8(out: &mut [u8], at: usize, bytes: &[u8], place: usize, n: us
     encode_block8(out, at + last, bytes, place + last)
 }
 
-// Writes 16 to 32 of the given bytes, from offset `place` on: the first 16 and the last 16.
-pub fn encode_ends16(out: &mut [u8], at: usize, bytes: &[u8], place: usize, n: usize) -> usize
-    requires { ⌜ (16 ≤ n) × (n ≤ 32) ⌝ }
+// Writes 16 or more of the given bytes, from offset `place` on: blocks of 16 as long as more bytes are left, and the last 16.
+pub fn encode_blocks(out: &mut [u8], at: usize, bytes: &[u8], place: usize, n: usize) -> usize
+    requires { ⌜ 16 ≤ n ⌝ }
     requires { ⌜ place + n ≤ length (now bytes) ⌝ }
     requires { ⌜ at + n ≤ length (now out) ⌝ }
     ensures { λ r. ⌜ Writes (now (out .entry)) at (take n (drop place (now (bytes .entry)))) (now (out .exit)) r ⌝ }
 {
     let last = n - 16;
-    encode_block16(out, at, bytes, place);
-    encode_block16(out, at + last, bytes, place + last)
-}
-
-// Writes 32 to 64 of the given bytes, from offset `place` on: the first 32 and the last 32.
-pub fn encode_ends32(out: &mut [u8], at: usize, bytes: &[u8], place: usize, n: usize) -> usize
-    requires { ⌜ (32 ≤ n) × (n ≤ 64) ⌝ }
-    requires { ⌜ place + n ≤ length (now bytes) ⌝ }
-    requires { ⌜ at + n ≤ length (now out) ⌝ }
-    ensures { λ r. ⌜ Writes (now (out .entry)) at (take n (drop place (now (bytes .entry)))) (now (out .exit)) r ⌝ }
-{
-    let last = n - 32;
-    encode_block32(out, at, bytes, place);
-    encode_block32(out, at + last, bytes, place + last)
-}
-
-// Writes 32 or more of the given bytes, from offset `place` on: blocks of 32 as long as more bytes are left, and the last 32.
-pub fn encode_blocks(out: &mut [u8], at: usize, bytes: &[u8], place: usize, n: usize) -> usize
-    requires { ⌜ 32 ≤ n ⌝ }
-    requires { ⌜ place + n ≤ length (now bytes) ⌝ }
-    requires { ⌜ at + n ≤ length (now out) ⌝ }
-    ensures { λ r. ⌜ Writes (now (out .entry)) at (take n (drop place (now (bytes .entry)))) (now (out .exit)) r ⌝ }
-{
-    let last = n - 32;
     let mut i: usize = 0;
     while i < last {
-        encode_block32(out, at + i, bytes, place + i);
-        i += 32;
+        encode_block16(out, at + i, bytes, place + i);
+        i += 16;
     }
-    encode_block32(out, at + last, bytes, place + last)
+    encode_block16(out, at + last, bytes, place + last)
 }

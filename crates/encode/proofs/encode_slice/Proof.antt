@@ -29,32 +29,14 @@ same-length-2 c = search needs
 returns-2 : tie.Need-returns-2
 returns-2 c = search needs
 
-encode-ends16-requires : tie.Need-encode-ends16-requires
-encode-ends16-requires c κs = omega (arith, capacity (c .before .before .before .before .before .before))
+encode-blocks-requires : tie.Need-encode-blocks-requires
+encode-blocks-requires c κs = omega (arith, capacity (c .before .before .before .before .before))
 
 same-length-3 : tie.Need-same-length-3
 same-length-3 c = search needs
 
 returns-3 : tie.Need-returns-3
 returns-3 c = search needs
-
-encode-ends32-requires : tie.Need-encode-ends32-requires
-encode-ends32-requires c κs = omega (arith, capacity (c .before .before .before .before .before .before .before))
-
-same-length-4 : tie.Need-same-length-4
-same-length-4 c = search needs
-
-returns-4 : tie.Need-returns-4
-returns-4 c = search needs
-
-encode-blocks-requires : tie.Need-encode-blocks-requires
-encode-blocks-requires c κs = omega (arith, capacity (c .before .before .before .before .before .before .before))
-
-same-length-5 : tie.Need-same-length-5
-same-length-5 c = search needs
-
-returns-5 : tie.Need-returns-5
-returns-5 c = search needs
 
 pub encode-slice-spec : {M : Type 1} → statement M
 encode-slice-spec =
@@ -66,12 +48,6 @@ encode-slice-spec =
     encode-ends8-requires
     same-length-2
     returns-2
-    encode-ends16-requires
-    same-length-3
-    returns-3
-    encode-ends32-requires
-    same-length-4
-    returns-4
     encode-blocks-requires
-    same-length-5
-    returns-5)
+    same-length-3
+    returns-3)

@@ -1,4 +1,4 @@
--- `encode_blocks` satisfies its contract: the invariant is that the first i bytes are written, and the last 32 cover the rest.
+-- `encode_blocks` satisfies its contract: the invariant is that the first i bytes are written, and the last 16 cover the rest.
 use borrow.Author.Needs.{needs}
 use mathlib.Core.Path.{_≡_, refl}
 use native.Mathlib.Omega.{arith}
@@ -22,14 +22,14 @@ sub-last c = search needs
 loop-holds : tie.Need-loop-holds Inv-loop μ-loop
 loop-holds c = (omega arith, refl, record { out = refl; place = omega arith })
 
-add-encode-block32 : tie.Need-add-encode-block32 Inv-loop μ-loop
-add-encode-block32 c = search needs
+add-encode-block16 : tie.Need-add-encode-block16 Inv-loop μ-loop
+add-encode-block16 c = search needs
 
-add-encode-block32-2 : tie.Need-add-encode-block32-2 Inv-loop μ-loop
-add-encode-block32-2 c = search needs
+add-encode-block16-2 : tie.Need-add-encode-block16-2 Inv-loop μ-loop
+add-encode-block16-2 c = search needs
 
-encode-block32-requires : tie.Need-encode-block32-requires Inv-loop μ-loop
-encode-block32-requires c κs = search needs
+encode-block16-requires : tie.Need-encode-block16-requires Inv-loop μ-loop
+encode-block16-requires c κs = search needs
 
 add-i : tie.Need-add-i Inv-loop μ-loop
 add-i c = search needs
@@ -44,17 +44,17 @@ loop-again c =
     let s = l .before .before .before in
     let a = s .args in
     let i = l .loop .i in
-    let w = writes-overlap (a .bytes .now) (a .place) (a .at) i i 32 (i + 32) (omega arith) (omega arith) refl (omega arith) (l .loop .inv .2) (p .encode-block32 .ensures) in
-    (omega arith, search needs, record { out = w .out; place = omega (arith, length-slice (a .bytes .now) (a .place) (i + 32) (omega arith)) })
+    let w = writes-overlap (a .bytes .now) (a .place) (a .at) i i 16 (i + 16) (omega arith) (omega arith) refl (omega arith) (l .loop .inv .2) (p .encode-block16 .ensures) in
+    (omega arith, search needs, record { out = w .out; place = omega (arith, length-slice (a .bytes .now) (a .place) (i + 16) (omega arith)) })
 
-add-encode-block32-3 : tie.Need-add-encode-block32-3 Inv-loop μ-loop
-add-encode-block32-3 c = search needs
+add-encode-block16-3 : tie.Need-add-encode-block16-3 Inv-loop μ-loop
+add-encode-block16-3 c = search needs
 
-add-encode-block32-4 : tie.Need-add-encode-block32-4 Inv-loop μ-loop
-add-encode-block32-4 c = search needs
+add-encode-block16-4 : tie.Need-add-encode-block16-4 Inv-loop μ-loop
+add-encode-block16-4 c = search needs
 
-encode-block32-requires-2 : tie.Need-encode-block32-requires-2 Inv-loop μ-loop
-encode-block32-requires-2 c κs = search needs
+encode-block16-requires-2 : tie.Need-encode-block16-requires-2 Inv-loop μ-loop
+encode-block16-requires-2 c κs = search needs
 
 same-length : tie.Need-same-length Inv-loop μ-loop
 same-length c = search needs
@@ -65,7 +65,7 @@ returns c =
     let l = p .before .before .before in
     let s = l .before .before .before in
     let a = s .args in
-    writes-overlap (a .bytes .now) (a .place) (a .at) (a .n - 32) (l .loop .i) 32 (a .n) (omega arith) (omega arith) (omega arith) (omega arith) (l .loop .inv .2) (p .encode-block322 .ensures)
+    writes-overlap (a .bytes .now) (a .place) (a .at) (a .n - 16) (l .loop .i) 16 (a .n) (omega arith) (omega arith) (omega arith) (omega arith) (l .loop .inv .2) (p .encode-block162 .ensures)
 
 pub encode-blocks-spec : {M : Type 1} → statement M
 encode-blocks-spec =
@@ -75,14 +75,14 @@ encode-blocks-spec =
     μ-loop
     sub-last
     loop-holds
-    add-encode-block32
-    add-encode-block32-2
-    encode-block32-requires
+    add-encode-block16
+    add-encode-block16-2
+    encode-block16-requires
     add-i
     loop-less
     loop-again
-    add-encode-block32-3
-    add-encode-block32-4
-    encode-block32-requires-2
+    add-encode-block16-3
+    add-encode-block16-4
+    encode-block16-requires-2
     same-length
     returns)
