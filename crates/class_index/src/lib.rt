@@ -21,8 +21,8 @@ use table::Search;
 // How many buckets a search looks at, at most.
 const PROBES: usize = 64;
 
-// How many buckets a class index has: a small one, for up to about 8,000 classes, begins a search at one of 16,384 buckets, a large one,
-// for 50,000 classes and more, at one of 131,072. After the last of them are those that a search from it looks at.
+// How many buckets a class index has: a small one, for some 9,000 classes, begins a search at one of 16,384 buckets, a large one,
+// for 50,000 and more, at one of 131,072. After the last of them are those that a search from it looks at.
 pub const SMALL: usize = 0x4000 + PROBES;
 
 pub const LARGE: usize = 0x2_0000 + PROBES;
