@@ -1,4 +1,4 @@
-// The class index: a hash table of the class rows by address, in memory that the caller lends. A bucket of it holds 0 or one more than
+// The class index: a hash table of the class rows by address, in memory that the caller passes. A bucket of it holds 0 or one more than
 // the index of a row. Nothing is believed of the hash: `enter_classes` enters each class row and then checks that the search for its
 // address finds it. Only if every class row passes this test, which makes the class index certified, is it searched; otherwise a class
 // is searched for row by row.
@@ -90,7 +90,7 @@ fn is_class_row(rows: &[u64], i: usize, address: u64) -> bool
 }
 
 // Searches the buckets for a class row with this address, whatever they hold.
-pub fn search_buckets(rows: &[u64], buckets: &[u32], address: u64) -> Search
+fn search_buckets(rows: &[u64], buckets: &[u32], address: u64) -> Search
     ensures { λ r. ⌜ r ≡ search-buckets (rows-of (now (rows .entry))) (now (buckets .entry)) address ⌝ }
 {
     let mut at = first_bucket(buckets.len(), address);
@@ -180,7 +180,7 @@ pub fn enter_classes(names: &[u8], rows: &[u64], buckets: &mut [u32]) -> Classes
 }
 
 // Returns the first class row with this address: by the buckets if they are certified, else row by row.
-pub fn find_class(rows: &[u64], buckets: &[u32], certified: bool, address: u64) -> Search
+fn find_class(rows: &[u64], buckets: &[u32], certified: bool, address: u64) -> Search
     requires { ⌜ IndexHolds (rows-of (now rows)) (now buckets) certified ⌝ }
     ensures { λ r. ⌜ r ≡ class-at (rows-of (now (rows .entry))) address ⌝ }
 {

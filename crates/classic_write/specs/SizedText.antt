@@ -1,4 +1,4 @@
--- The meaning of the result of `check_and_size`, for the contracts of private functions; no public theorem uses it.
+-- The meaning of the result of `size_good`, for the contracts of private functions; no public theorem uses it.
 -- Assumes nothing.
 use mathlib.Core.Path.{_≡_}
 use Prim.Native.Nat.{ℕ}

@@ -22,14 +22,15 @@ mod version;
 // Tables with at most so many rows are searched without a class index: it would take longer to make than it saves.
 const FEW_ROWS: usize = 64;
 
-// The result of checking and sizing a text before any byte of it is written: a refusal, or the size and the counts of the rows.
+// The result of sizing a text before any byte of it is written: a refusal, or the size and the counts of the rows.
 enum SizedText {
     Refused(Answer),
     Sized(usize, Tally),
 }
 
 // Computes the size of the text of good tables. The pass that sizes the lines of the rows also counts the rows, and checks that no
-// row's class row is missing. `buckets` are those of the class index, if `certified` says so.
+// row's class row is missing. `buckets` are those of the class index, if `certified` says so. `refs` is only for the contract: the
+// size depends on how many references a row has.
 fn size_good(
     header: Header,
     rows: &[u64],

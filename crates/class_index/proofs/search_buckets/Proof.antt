@@ -17,8 +17,8 @@ abbrev μ-loop : tie.MeasureT-loop
 μ-loop rows buckets address at₀ end at = end - at
 
 -- In an iteration, the bucket is one of those that the search looks at.
-near : (c : tie.In-loop Inv-loop μ-loop) → let a = c .before .before .before .before .before .before .args in c .before .loop .at < first-bucket (length (a .buckets .now)) (a .address) + 64
-near c = let m = c .before .before .min .ensures in let f = c .before .before .before .first-bucket .ensures in omega (arith, c .loop-test .taken, m .0, f .0)
+searched : (c : tie.In-loop Inv-loop μ-loop) → let a = c .before .before .before .before .before .before .args in c .before .loop .at < first-bucket (length (a .buckets .now)) (a .address) + 64
+searched c = let m = c .before .before .min .ensures in let f = c .before .before .before .first-bucket .ensures in omega (arith, c .loop-test .taken, m .0, f .0)
 
 inside : (c : tie.In-loop Inv-loop μ-loop) → c .before .loop .at < length (c .before .before .before .before .before .before .args .buckets .now)
 inside c = let m = c .before .before .min .ensures in omega (arith, c .loop-test .taken, m .1)
@@ -44,7 +44,7 @@ shared-slice-read-entry c = search needs
 returns : tie.Need-returns Inv-loop μ-loop
 returns c =
     let d = c .before .before in
-    bucket-empty _ _ _ _ (d .before .loop .inv) (near d) (inside d) (c .if1 .taken)
+    bucket-empty _ _ _ _ (d .before .loop .inv) (searched d) (inside d) (c .if1 .taken)
 
 row-of-requires : tie.Need-row-of-requires Inv-loop μ-loop
 row-of-requires c κs = search needs
@@ -57,7 +57,7 @@ returns-2 c =
     let k = c .before in
     let o = k .before in
     let d = o .before .before .before in
-    rw (o .row-of .ensures) (bucket-found _ _ _ _ (d .before .loop .inv) (near d) (inside d) (o .before .if1 .left) _ (rw (← o .row-of .ensures) (k .is-class-row .ensures)) (c .if2 .taken))
+    rw (o .row-of .ensures) (bucket-found _ _ _ _ (d .before .loop .inv) (searched d) (inside d) (o .before .if1 .left) _ (rw (← o .row-of .ensures) (k .is-class-row .ensures)) (c .if2 .taken))
 
 add-at : tie.Need-add-at Inv-loop μ-loop
 add-at c = search needs
@@ -70,7 +70,7 @@ loop-again c =
     let k = c .before in
     let o = k .before in
     let d = o .before .before .before in
-    bucket-next _ _ _ _ (d .before .loop .inv) (near d) (inside d) (o .before .if1 .left) _ (rw (← o .row-of .ensures) (k .is-class-row .ensures)) (c .if2 .left)
+    bucket-next _ _ _ _ (d .before .loop .inv) (searched d) (inside d) (o .before .if1 .left) _ (rw (← o .row-of .ensures) (k .is-class-row .ensures)) (c .if2 .left)
 
 returns-3 : tie.Need-returns-3 Inv-loop μ-loop
 returns-3 c =
