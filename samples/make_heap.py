@@ -1,5 +1,6 @@
-"""Makes two dumps of a small heap, in which one growing array holds sessions that were never closed: heap.phd is complete,
-heap-cut.phd ends where a machine stopped while it wrote the dump.
+"""Makes dumps of a small heap, in which one growing array holds sessions that were never closed: heap.phd is complete,
+heap-cut.phd ends where a machine stopped while it wrote the dump. heap-late-cut.phd ends at the same share of a dump that has its
+class records after the objects, so that it has none.
 
 usage: python3 samples/make_heap.py FOLDER
 """
@@ -13,13 +14,24 @@ CLASSES, SESSIONS, OBJECTS = 0x8000_0000, 40, 0x8010_0000
 NAMES = [b"java/lang/Object", b"java/lang/String", b"[C", b"shop/Session", b"shop/Cart", b"[Lshop/Session;"]
 
 
-def heap():
+ADDRESS = {name: CLASSES + 0x100 * i for i, name in enumerate(NAMES)}
+
+
+def heap(classes_last=False):
     d = Dump(row_capacity=1000, ref_capacity=1000).with_header(bits=64, vm=b"JRE 17.0.9 OpenJ9 linux-amd64")
-    address = {name: CLASSES + 0x100 * i for i, name in enumerate(NAMES)}
+    for add in [add_objects, add_classes] if classes_last else [add_classes, add_objects]:
+        add(d)
+    return d.end()
+
+
+def add_classes(d):
     for name in NAMES:
-        class_ = 0 if name == NAMES[0] else address[NAMES[0]]
-        d.klass(address[name], name, size=24, class_=class_, code=2 if name == NAMES[0] else 1)
-    text, session, cart = address[b"java/lang/String"], address[b"shop/Session"], address[b"shop/Cart"]
+        class_ = 0 if name == NAMES[0] else ADDRESS[NAMES[0]]
+        d.klass(ADDRESS[name], name, size=24, class_=class_, code=2 if name == NAMES[0] else 1)
+
+
+def add_objects(d):
+    text, session, cart = ADDRESS[b"java/lang/String"], ADDRESS[b"shop/Session"], ADDRESS[b"shop/Cart"]
     for i in range(SESSIONS):
         a = OBJECTS + 0x80 * i
         if i == 0:
@@ -35,11 +47,14 @@ def heap():
             d.short(a + 0x60, 2)
     refs = [OBJECTS + 0x80 * i for i in range(SESSIONS)]
     d.array(OBJECTS + 0x80 * SESSIONS, session, refs, size=2 * SESSIONS + 24, length=64, width=1)
-    return d.end()
+
+
+def cut(dump):
+    return dump[: len(dump) * 3 // 4]
 
 
 if __name__ == "__main__":
     folder = Path(sys.argv[1])
-    dump = heap().bytes
-    (folder / "heap.phd").write_bytes(dump)
-    (folder / "heap-cut.phd").write_bytes(dump[: len(dump) * 3 // 4])
+    (folder / "heap.phd").write_bytes(heap().bytes)
+    (folder / "heap-cut.phd").write_bytes(cut(heap().bytes))
+    (folder / "heap-late-cut.phd").write_bytes(cut(heap(classes_last=True).bytes))

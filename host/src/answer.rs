@@ -24,8 +24,10 @@ pub const VM_PLACE: usize = 8;
 pub const VM_LENGTH: usize = 9;
 /// The missing bytes (01's term) of a cut dump: how many more the field needs in which the dump ends.
 pub const MISSING: usize = 10;
+/// How many entries of the list of class summaries are in use, 0 of a read without that list.
+pub const CLASSES: usize = 11;
 /// The numbers from this place on are always 0.
-pub const UNUSED: usize = 11;
+pub const UNUSED: usize = 12;
 
 /// Returns the header of an answer, in the form in which it is written again with the dump as the name bytes.
 pub fn header(answer: &Answer) -> Header {

@@ -6,4 +6,6 @@ pub mod library;
 pub mod plain;
 pub mod reply;
 pub mod row;
+pub mod summary;
 pub mod tables;
+pub mod word_map;

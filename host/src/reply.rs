@@ -33,3 +33,5 @@ pub const BAD_ROW: u64 = 16;
 pub const NO_OUTPUT: u64 = 17;
 /// Of a text: the class of a row is not among the rows.
 pub const NO_CLASS: u64 = 18;
+/// The list of class summaries has no entry left for this record.
+pub const NO_ENTRY: u64 = 20;

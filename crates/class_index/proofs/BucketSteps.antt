@@ -16,7 +16,7 @@ use Rattle.table.specs.Rows.{row-at, rows-of, length-rows, nth-row}
 use Rattle.table.specs.declared.Row.{Row}
 use Rattle.table.specs.declared.Search.{Search}
 use Rattle.table.specs.declared.Search.the-variants.{At, NotFound}
-use Rattle.classic.specs.ClassicText.{is-class-at}
+use Rattle.table.specs.RowBytes.{is-class-at}
 use Rattle.class_index.specs.ClassIndex.{first-bucket, is-class-row, search-in, search-buckets}
 
 -- ---- a row

@@ -3,7 +3,8 @@
 use mathlib.Core.Path.{_≡_, refl}
 use mathlib.Core.List.{List, [], _∷_, map}
 use Prim.Native.Nat.{ℕ}
-use Rattle.class_index.specs.ClassIndex.{hash, first-bucket}
+use Rattle.address_hash.specs.AddressHash.{hash}
+use Rattle.class_index.specs.ClassIndex.{first-bucket}
 
 abbrev addresses : List ℕ
 addresses = 0x7_0000_0000 ∷ 0x7_0000_0100 ∷ 0x7_0000_0200 ∷ 0x7_0000_0300 ∷ 0x7_0000_0400 ∷ 0x7_0000_0500 ∷ 0x7_0000_0600 ∷ 0x7_0000_0700 ∷ []

@@ -16,8 +16,7 @@ use Rattle.table.specs.Search.{IsFirst, NoneSatisfies, first-row-at, first-row-
 use Rattle.table.specs.declared.Row.{Row}
 use Rattle.table.specs.declared.Search.{Search}
 use Rattle.table.specs.declared.Search.the-variants.{At, NotFound}
-use Rattle.classic.specs.ClassicText.{is-class-at, class-at}
-use Rattle.classic.specs.ClassRows.{ClassRow, is-class-at-iff}
+use Rattle.table.specs.RowBytes.{is-class-at, class-at, ClassRow, is-class-at-iff}
 use Rattle.class_index.specs.ClassIndex.{first-bucket, is-class-row, search-in, search-buckets, at-or-before, row-certified, CertifiedFrom, IndexHolds}
 
 -- ---- whatever the buckets hold, a row that is found is a class row with the address

@@ -1,23 +1,20 @@
 -- The class index: buckets, each 0 or one more than the index of a row. Nothing is assumed of what they hold: the search by any buckets
 -- is defined, and so is a test by which it finds the first class row with each address (Certified has the theorem).
 -- No definition of the text uses it. A reader need not believe it: a search is only made by buckets that pass the test.
-use Prim.Native.Nat.{ℕ, _+_, _-_, _*_, _/_, _%_, _≤_, _<_}
+use Prim.Native.Nat.{ℕ, _-_, _/_, _≤_, _<_}
 use mathlib.Core.Path.{_≡_}
 use mathlib.Core.Bool.{Bool, true, false, cond, _&&_}
 use mathlib.Core.List.{List, [], _∷_}
 use lib.Dec.{eqb, ltb, leb}
 use lib.ListN.{length, take, drop}
+use Rattle.address_hash.specs.AddressHash.{hash}
 use Rattle.table.specs.Rows.{is-kind, nth}
 use Rattle.table.specs.declared.Row.{Row}
 use Rattle.table.specs.declared.Search.{Search}
 use Rattle.table.specs.declared.Search.the-variants.{At, NotFound}
-use Rattle.classic.specs.ClassicText.{is-class-at, class-at}
+use Rattle.table.specs.RowBytes.{is-class-at, class-at}
 
 -- ---- the search
-
--- A multiplicative hash of 32 bits, of the upper and the lower bits of an address.
-unfoldable pub hash : ℕ → ℕ
-hash a = (a / 4 + a / 0x4_0000_0000) % 0x1_0000_0000 * 0x9E37_79B1 % 0x1_0000_0000
 
 -- The bucket, of n, at which the search for an address begins: of a small class index one of 16,384, of a large one of 131,072.
 unfoldable pub first-bucket : (n address : ℕ) → ℕ

@@ -16,8 +16,7 @@ use Rattle.table.specs.Rows.{nth}
 use Rattle.table.specs.declared.Row.{Row}
 use Rattle.table.specs.declared.Search.{Search}
 use Rattle.table.specs.declared.Search.the-variants.{At, NotFound}
-use Rattle.classic.specs.ClassicText.{is-class-at}
-use Rattle.classic.specs.ClassRows.{is-class-at-iff}
+use Rattle.table.specs.RowBytes.{is-class-at, is-class-at-iff}
 use Rattle.class_index.specs.ClassIndex.{first-bucket, is-class-row, search-in, search-buckets}
 
 -- Buckets before and after row i, a class row with the address a, was entered: what a search found before, it finds after, or row i if

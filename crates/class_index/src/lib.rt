@@ -10,7 +10,7 @@ ghost use Prim.Native.Nat.{_+_, _-_, _^_, _≤_, _<_};
 ghost use lib.ListN.{length};
 ghost use Rattle.table.specs.Table.{row-count};
 ghost use Rattle.table.specs.Rows.{rows-of};
-ghost use Rattle.classic.specs.ClassicText.{class-at};
+ghost use Rattle.table.specs.RowBytes.{class-at};
 ghost use Rattle.classic.specs.PrimitiveClasses.{PrimitiveClasses};
 ghost use Rattle.classic.specs.RowBounds.{AllNumbersInBounds};
 ghost use Rattle.class_index.specs.ClassIndex.{first-bucket, is-class-row, search-buckets, at-or-before, IndexHolds};
@@ -44,8 +44,7 @@ pub struct LastSearch {
 fn first_bucket(n: usize, address: u64) -> usize
     ensures { λ r. ⌜ (r ≡ first-bucket n address) × (r < 0x2_0000) ⌝ }
 {
-    let folded = (address / 4 + address / 0x4_0000_0000) % 0x1_0000_0000;
-    let hash = folded * 0x9E37_79B1 % 0x1_0000_0000;
+    let hash = address_hash::hash(address);
     if n < LARGE {
         return (hash / 0x4_0000) as usize;
     }

@@ -19,7 +19,8 @@ use Rattle.phd_check.specs.WellFormed.{length-name-of}
 use Rattle.table.specs.declared.Row.{Row}
 use Rattle.phd_check.proofs.CheckLaws.{all-of-all-true}
 use Rattle.classic.specs.PrimitiveClasses.{Entered}
-use Rattle.classic.specs.ClassicText.{letters, primitive-array-type, is-class-at, is-class-named}
+use Rattle.classic.specs.ClassicText.{letters, primitive-array-type, is-class-named}
+use Rattle.table.specs.RowBytes.{is-class-at}
 
 -- The test of kind and address is `is-class-at`.
 pub is-class-at-test : (a : ℕ) (r : Row) → eqb (r .kind) 1 && eqb (r .address) a ≡ is-class-at a r

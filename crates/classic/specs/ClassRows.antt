@@ -1,6 +1,5 @@
--- Class rows by address and by name, and rows whose class row is missing, as properties of rows. The tests of ClassicText decide
--- them.
--- A reader must believe the records `ClassRow`, `ClassNamed` and `ClassMissing`.
+-- Class rows by name, and rows whose class row is missing, as properties of rows. The tests of ClassicText decide them.
+-- A reader must believe the records `ClassNamed` and `ClassMissing`.
 use mathlib.Core.Path.{_≡_, refl}
 use mathlib.Core.Logic.{_↔_, _⊎_, inl, inr}
 use Prim.Native.Nat.{ℕ}
@@ -17,12 +16,8 @@ use Rattle.table.specs.Search.{NoneSatisfies, first-row-none}
 use Rattle.table.specs.declared.Row.{Row}
 use Rattle.table.specs.declared.Search.{Search}
 use Rattle.table.specs.declared.Search.the-variants.{At, NotFound}
-use Rattle.classic.specs.ClassicText.{is-class-at, is-class-named, class-at, is-not-found, class-missing}
-
--- A class row with the address a.
-pub record ClassRow (a : ℕ) (r : Row) : Type 0 where
-  pub kind : r .kind ≡ 1
-  pub address : r .address ≡ a
+use Rattle.classic.specs.ClassicText.{is-class-named, class-missing}
+use Rattle.table.specs.RowBytes.{is-class-at, class-at, is-not-found, ClassRow, is-class-at-iff}
 
 -- A class row with this name.
 pub record ClassNamed (names name : List ℕ) (r : Row) : Type 0 where
@@ -33,14 +28,6 @@ pub record ClassNamed (names name : List ℕ) (r : Row) : Type 0 where
 pub record ClassMissing (rows : List Row) (r : Row) : Type 0 where
   pub kind : (r .kind ≡ 2) ⊎ (r .kind ≡ 3)
   pub none : NoneSatisfies (ClassRow (r .class)) rows
-
--- `is-class-at` tests exactly for a class row with the address a.
-pub is-class-at-iff : (a : ℕ) (r : Row) → (is-class-at a r ≡ true) ↔ ClassRow a r
-unfolding is-class-at
-is-class-at-iff a r = (
-  λ e. record { kind = eqb-true _ _ (and-left (is-kind 1 r) (eqb (r .address) a) e); address = eqb-true _ _ (and-right (is-kind 1 r) (eqb (r .address) a) e) },
-  λ c. rw (eq-eqb _ _ (c .kind), eq-eqb _ _ (c .address)),
-)
 
 -- `is-class-named` tests exactly for a class row with this name.
 pub is-class-named-iff : (names name : List ℕ) (r : Row) → (is-class-named names name r ≡ true) ↔ ClassNamed names name r

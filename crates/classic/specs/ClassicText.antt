@@ -1,21 +1,22 @@
 -- Classic text (docs/FORMAT.md 7): addresses, class rows, the two lines of a row, the trailers, and the text as a list of lines.
--- All theorems about the text use these definitions. A reader must believe them, and those of digits (numbers as bytes).
-use Prim.Native.Nat.{ℕ, _+_, _*_, _/_}
-use mathlib.Core.Bool.{Bool, true, false, cond, _&&_, _||_}
+-- All theorems about the text use these definitions. A reader must believe them, those of digits (numbers as bytes) and of RowBytes
+-- (the class of a row, and its bytes).
+use Prim.Native.Nat.{ℕ, _+_, _/_}
+use mathlib.Core.Bool.{Bool, true, cond, _&&_, _||_}
 use mathlib.Core.List.{List, [], _∷_, _++_}
 use lib.ListN.{length, getD}
 use lib.Dec.{leb, eqb}
 use Rattle.decode.specs.declared.StringSpan.{StringSpan}
 use Rattle.encode.specs.Encode.{join}
 use Rattle.digits.specs.Digits.{ascii, text-decimal, upper-digits}
-use Rattle.table.specs.Rows.{zero-row, is-kind, refs-of, name-of, rows-of}
+use Rattle.table.specs.Rows.{is-kind, refs-of, name-of, rows-of}
 use Rattle.table.specs.Sums.{sum}
 use Rattle.table.specs.Search.{first-row, found-row}
+use Rattle.table.specs.RowBytes.{class-at, is-not-found, naming-class, bytes-of}
 use Rattle.table.specs.CheckOrder.{WriteResult, checked-write}
 use Rattle.table.specs.declared.Answer.{Answer}
 use Rattle.table.specs.declared.Row.{Row}
 use Rattle.table.specs.declared.Search.{Search}
-use Rattle.table.specs.declared.Search.the-variants.{At, NotFound}
 use Rattle.phd.specs.Phd.{bytes-equal}
 use Rattle.phd.specs.declared.Header.{Header}
 use Rattle.phd_check.specs.GoodRows.{good-header, first-bad, vm-text}
@@ -29,26 +30,13 @@ address bits a = ascii "0x" ++ upper-digits 16 (bits / 4) a
 
 -- ---- class rows
 
--- Whether a row is a class row with the address a.
-unfoldable pub is-class-at : ℕ → Row → Bool
-is-class-at a r = is-kind 1 r && eqb (r .address) a
-
 -- Whether a row is a class row with this name.
 unfoldable pub is-class-named : List ℕ → List ℕ → Row → Bool
 is-class-named names name r = is-kind 1 r && bytes-equal (name-of names r) name
 
--- The first class row with the address a.
-abbrev pub class-at : List Row → ℕ → Search
-class-at rows a = first-row (is-class-at a) rows
-
 -- The first class row with this name.
 abbrev pub class-named : (names : List ℕ) → List Row → (name : List ℕ) → Search
 class-named names rows name = first-row (is-class-named names name) rows
-
--- Whether a search found no row.
-abbrev pub is-not-found : Search → Bool
-is-not-found (At i) = false
-is-not-found NotFound = true
 
 -- Whether a row is an object or object array: its lines need the class row of its class word.
 abbrev pub needs-class : Row → Bool
@@ -58,7 +46,7 @@ needs-class r = is-kind 2 r || is-kind 3 r
 unfoldable pub class-missing : List Row → Row → Bool
 class-missing rows r = needs-class r && is-not-found (class-at rows (r .class))
 
--- ---- type, bytes and class word of a row
+-- ---- type and class word of a row (its bytes are in RowBytes)
 
 -- The signature letters of the primitive types 0 to 7 (docs/FORMAT.md 3.1).
 unfoldable pub letters : List ℕ
@@ -72,20 +60,11 @@ primitive-array-type type = ascii "[" ++ (getD letters type 0 ∷ [])
 unfoldable pub object-array-type : List ℕ → List ℕ
 object-array-type name = cond (eqb (getD name 0 0) 0x5B) (ascii "[" ++ name) (ascii "[L" ++ (name ++ ascii ";"))
 
--- The class row whose name is part of a row's type: of a class, the row itself; of an object or object array, its class. A row of
--- zeros if there is none, as for a primitive array.
-unfoldable pub naming-class : List Row → Row → Row
-naming-class rows r = cond (is-kind 1 r) r (cond (is-kind 4 r) zero-row (found-row rows (class-at rows (r .class))))
-
 -- The type of a row (docs/FORMAT.md 7.2).
 unfoldable pub type-of : (names : List ℕ) → List Row → Row → List ℕ
 type-of names rows r =
     let name : List ℕ = name-of names (naming-class rows r) in
     cond (is-kind 4 r) (primitive-array-type (r .prim)) (cond (is-kind 3 r) (object-array-type name) name)
-
--- The bytes of a row: 0 for a class, the instance size of its class for an object, 4 × size for an array.
-unfoldable pub bytes-of : List Row → Row → ℕ
-bytes-of rows r = cond (is-kind 1 r) 0 (cond (is-kind 2 r) (naming-class rows r .size) (4 * r .size))
 
 -- The class word of a primitive array of this type: the address of the first class row that is named as the type, or 0 if there is
 -- none (docs/FORMAT.md 7.3).

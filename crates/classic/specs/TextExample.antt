@@ -20,7 +20,8 @@ use Rattle.table.specs.Sums.{sum}
 use Rattle.phd_counts.specs.Counts.{nulls-of, nulls}
 use Rattle.table.specs.Search.{first-from, found-row}
 use Rattle.digits.specs.Digits.{ascii, digit-count-in, digit-count, decimal, uppercase, upper-digits}
-use Rattle.classic.specs.ClassicText.{address, is-class-at, is-class-named, class-missing, letters, primitive-array-type, object-array-type, naming-class, type-of, bytes-of, primitive-class, class-of, first-line, refs-text, second-line, row-lines, version-line, breakdown-line, totals-line, unlines, text-lines, text-of, text-rows, text-rows-size, text-result, text-size-result}
+use Rattle.classic.specs.ClassicText.{address, is-class-named, class-missing, letters, primitive-array-type, object-array-type, type-of, primitive-class, class-of, first-line, refs-text, second-line, row-lines, version-line, breakdown-line, totals-line, unlines, text-lines, text-of, text-rows, text-rows-size, text-result, text-size-result}
+use Rattle.table.specs.RowBytes.{is-class-at, naming-class, bytes-of}
 use Prim.Native.String.{String}
 
 -- For proofs by computation: unfolding this unfolds all definitions that a text is computed from.

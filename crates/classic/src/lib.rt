@@ -2,7 +2,7 @@
 // the name of a primitive array's type in primitives.rt. The contract of each function here is an equation with a definition.
 ghost use mathlib.Core.Path.{_≡_};
 ghost use Rattle.table.specs.Rows.{rows-of};
-ghost use Rattle.classic.specs.ClassicText.{class-at};
+ghost use Rattle.table.specs.RowBytes.{class-at};
 use table::Search;
 
 pub mod primitives;

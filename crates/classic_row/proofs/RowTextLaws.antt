@@ -12,7 +12,8 @@ use Rattle.table.specs.Rows.{refs-of}
 use Rattle.table.specs.declared.Row.{Row}
 use Rattle.table.specs.declared.Search.{Search}
 use Rattle.digits.specs.Digits.{digit-count}
-use Rattle.classic.specs.ClassicText.{address, class-at, is-not-found, needs-class, class-missing, bytes-of, class-of, refs-text, second-line}
+use Rattle.classic.specs.ClassicText.{address, needs-class, class-missing, class-of, refs-text, second-line}
+use Rattle.table.specs.RowBytes.{class-at, is-not-found, bytes-of}
 use Rattle.class_index.specs.LastSearch.{ClassFound}
 use Rattle.classic.specs.RowBounds.{RowNumbersInBounds, KnownKind, AllNumbersInBounds}
 use Rattle.digits.specs.DigitLengths.{digit-count-le-20}

@@ -18,7 +18,8 @@ use Rattle.table.specs.declared.Row.{Row}
 use Rattle.table.specs.declared.Search.the-variants.{At, NotFound}
 use Rattle.table.specs.declared.Search.{Search}
 use Rattle.digits.specs.Digits.{ascii, digit-count, text-decimal}
-use Rattle.classic.specs.ClassicText.{address, class-at, class-missing, primitive-array-type, object-array-type, naming-class, type-of, bytes-of, first-line, second-line, unlines}
+use Rattle.classic.specs.ClassicText.{address, class-missing, primitive-array-type, object-array-type, type-of, first-line, second-line, unlines}
+use Rattle.table.specs.RowBytes.{class-at, naming-class, bytes-of}
 use Rattle.classic.specs.RowBounds.{RowNumbersInBounds, AllNumbersInBounds}
 use Rattle.classic_fields.specs.FieldLengths.{length-address, length-refs-text}
 use Rattle.digits.specs.DigitLengths.{length-decimal, digit-count-le-20}

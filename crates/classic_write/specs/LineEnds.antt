@@ -25,7 +25,8 @@ use Rattle.phd.specs.Shapes.{ValidBits}
 use Rattle.phd.specs.declared.Header.{Header}
 use Rattle.phd_check.specs.GoodRows.{good-row, vm-text, TablesGood}
 use Rattle.phd_check.specs.WellFormed.{GoodKind, a-class, an-object, an-array, a-primitive, good-rec, each-row, header-bits-good}
-use Rattle.classic.specs.ClassicText.{address, class-at, class-missing, letters, primitive-array-type, object-array-type, naming-class, type-of, first-line, refs-text, second-line, row-lines, version-line, breakdown-line, totals-line, text-lines}
+use Rattle.classic.specs.ClassicText.{address, class-missing, letters, primitive-array-type, object-array-type, type-of, first-line, refs-text, second-line, row-lines, version-line, breakdown-line, totals-line, text-lines}
+use Rattle.table.specs.RowBytes.{class-at, naming-class}
 use Rattle.classic.specs.ClassRows.{ClassMissing}
 use Rattle.classic_write.specs.TextTheorems.{no-class-missing, class-at-first, class-at-none}
 

@@ -27,11 +27,12 @@ use Rattle.phd_counts.specs.ExactCounts.{with-nulls, exact-counts as all-exact}
 use Rattle.table.specs.Rows.{nth}
 use Rattle.table.specs.Search.{first-row, found-row, IsFirst, NoneSatisfies, first-row-at, first-row-none}
 use Rattle.digits.specs.Digits.{ascii, text-decimal}
-use Rattle.classic.specs.ClassicText.{is-class-at, is-class-named, class-at, class-named, class-missing, primitive-array-type, primitive-class, row-lines, totals-line, text-lines, text-of, text-rows, text-rows-size, text-result, text-size-result}
+use Rattle.classic.specs.ClassicText.{is-class-named, class-named, class-missing, primitive-array-type, primitive-class, row-lines, totals-line, text-lines, text-of, text-rows, text-rows-size, text-result, text-size-result}
+use Rattle.table.specs.RowBytes.{is-class-at, class-at, ClassRow, is-class-at-iff}
 use Rattle.classic.specs.RowBounds.{all-refs-in-bounds}
 use Rattle.classic_write.specs.TextParts.{version-text, rows-size, tally-trailers, text-parts}
 use Rattle.classic_write.specs.TextSizes.{length-rows-text}
-use Rattle.classic.specs.ClassRows.{ClassRow, ClassNamed, ClassMissing, is-class-at-iff, is-class-named-iff, class-missing-iff}
+use Rattle.classic.specs.ClassRows.{ClassNamed, ClassMissing, is-class-named-iff, class-missing-iff}
 use Rattle.classic_write.specs.TextOutcomes.{text-by-checks, size-query-as-text, size-query-agrees}
 
 -- ---- each reply exactly in its case

@@ -5,10 +5,11 @@ use mathlib.Core.Bool.{Bool, true, false, cond}
 use mathlib.Core.List.{List, [], _∷_}
 use Prim.Native.Nat.{ℕ}
 use lib.Dec.{ltb}
-use lib.ListN.{getD, take, drop}
+use lib.ListN.{getD, set, take, drop}
 use Rattle.phd.specs.declared.Header.{Header}
 use Rattle.phd_read.specs.declared.ReadAnswer.{ReadAnswer}
 use Rattle.table.specs.declared.Answer.{Answer}
+use Rattle.classes_read.specs.declared.ClassesAnswer.{ClassesAnswer}
 
 -- A flag as a number: 1 if it is set, else 0.
 abbrev pub flag : Bool → ℕ
@@ -32,6 +33,10 @@ read-answer-numbers r =
     let f : Header = r .header in
     r .reply ∷ r .place ∷ r .rows ∷ r .refs ∷ f .bits ∷ flag (f .hashed) ∷ flag (f .openj9) ∷ flag (f .vm .present) ∷ f .vm .place ∷ f .vm .len
     ∷ r .missing ∷ 0 ∷ 0 ∷ 0 ∷ 0 ∷ 0 ∷ []
+
+-- The numbers of the answer of a reading with class summaries: those of a reading, and as number 11 how many entries are in use.
+unfoldable pub classes-answer-numbers : ClassesAnswer → List ℕ
+classes-answer-numbers r = set (read-answer-numbers (r .read)) 11 (r .entries)
 
 -- The numbers of the answer of a write or of a size query: reply and place.
 unfoldable pub answer-numbers : Answer → List ℕ

@@ -4,14 +4,19 @@
 ghost use mathlib.Core.Path.{_≡_};
 ghost use lib.ListN.{length};
 ghost use Rattle.table.specs.Buffer.{overwrite};
+ghost use Rattle.table.specs.Rows.{rows-of};
+ghost use Rattle.summaries.specs.Summaries.{summaries};
 ghost use Rattle.phd.specs.Phd.{read-result};
 ghost use Rattle.phd_read.specs.ReadContract.{read-answer};
+ghost use Rattle.classes_read.specs.ClassesRead.{classes-result, classes-answer};
 ghost use Rattle.phd_write.specs.Write.{write-result, write-size-result};
 ghost use Rattle.classic.specs.ClassicText.{text-result, text-size-result};
-ghost use Rattle.phd_c.specs.Boundary.{flag as flagOf, header-from, read-answer-numbers, answer-numbers};
+ghost use Rattle.phd_c.specs.Boundary.{flag as flagOf, header-from, read-answer-numbers, classes-answer-numbers, answer-numbers};
+use classes_read::ClassesAnswer;
 use decode::StringSpan;
 use phd::Header;
 use phd_read::ReadAnswer;
+use summaries::Summary;
 use table::Answer;
 
 // Returns a flag as a number: 1 if it is set, else 0.
@@ -92,7 +97,7 @@ fn answer_numbers(w: Answer) -> [u64; 16]
 
 // Reads a dump into the caller's tables. Returns the reply, as do all functions below.
 #[no_mangle]
-pub extern "C" fn phd_read(
+pub extern "C" fn phd_read_tables(
     dump: &[u8],
     rows: &mut [u64],
     refs: &mut [u64],
@@ -103,9 +108,39 @@ pub extern "C" fn phd_read(
     ensures refs { λ _. ⌜ now (refs .exit) ≡ overwrite (now (refs .entry)) (read-result (now (dump .entry)) (length (now (rows .entry))) (length (now (refs .entry))) .refs) ⌝ }
     ensures answer { λ _. ⌜ now (answer .exit) ≡ read-answer-numbers (read-answer (read-result (now (dump .entry)) (length (now (rows .entry))) (length (now (refs .entry))))) ⌝ }
 {
-    let r = phd_read::read(dump, rows, refs);
+    let r = phd_read::read_tables(dump, rows, refs);
     *answer = read_answer_numbers(r);
     r.reply
+}
+
+// Fills in the answer of a reading with class summaries, and returns the reply.
+fn store_classes_answer(answer: &mut [u64; 16], r: ClassesAnswer) -> u64
+    ensures { λ x. ⌜ (x ≡ r .read .reply) × (now (answer .exit) ≡ classes-answer-numbers r) ⌝ }
+{
+    let read = r.read;
+    let mut numbers = read_answer_numbers(read);
+    numbers[11] = r.entries as u64;
+    *answer = numbers;
+    read.reply
+}
+
+// Reads a dump into the caller's tables and list of class summaries.
+#[no_mangle]
+pub extern "C" fn phd_read(
+    dump: &[u8],
+    rows: &mut [u64],
+    refs: &mut [u64],
+    classes: &mut [Summary],
+    answer: &mut [u64; 16],
+) -> u64
+    ensures { λ r. ⌜ (r ≡ classes-result (now (dump .entry)) (length (now (rows .entry))) (length (now (refs .entry))) (length (now (classes .entry))) .reply)
+        × (now (rows .exit) ≡ overwrite (now (rows .entry)) (classes-result (now (dump .entry)) (length (now (rows .entry))) (length (now (refs .entry))) (length (now (classes .entry))) .rows))
+        × (now (refs .exit) ≡ overwrite (now (refs .entry)) (classes-result (now (dump .entry)) (length (now (rows .entry))) (length (now (refs .entry))) (length (now (classes .entry))) .refs))
+        × (now (classes .exit) ≡ overwrite (now (classes .entry)) (summaries (rows-of (classes-result (now (dump .entry)) (length (now (rows .entry))) (length (now (refs .entry))) (length (now (classes .entry))) .rows))))
+        × (now (answer .exit) ≡ classes-answer-numbers (classes-answer (classes-result (now (dump .entry)) (length (now (rows .entry))) (length (now (refs .entry))) (length (now (classes .entry)))))) ⌝ }
+{
+    let r = phd_classes::read(dump, rows, refs, classes);
+    store_classes_answer(answer, r)
 }
 
 // Computes how many bytes `phd_write` would write (size query).

@@ -139,7 +139,7 @@ module _ (s : List ℕ) (b : AllBytes s) (R F : ℕ) where
     | no l ↦ absurd (n (rw (read-over-limit phd s (capacity R F) (omega arith))))
   ]
 
--- ---- calls of `read`, `write` and `text`
+-- ---- calls of `read_tables`, `write` and `text`
 
 -- The result of writing these tables: 17 if the dump is longer than the output or than the size limit, and no other refusal.
 pub record WriteAfterRead (h : Header) (names refs : List ℕ) (rows : List Row) (out-capacity : ℕ) (w : WriteResult) : Type 0 where
@@ -192,7 +192,7 @@ module _ (h : Header) (names refs : List ℕ) (rows : List Row) (a : TablesGood 
       three (inr (inr (inl e))) = at-is-not-notfound (sym (x .row _ .0 (e, refl) .1) ∙ a .1)
       three (inr (inr (inr e))) = inr e
 
--- A call of `read` on any bytes that has read the header; `rows` and `refs` are as much of its tables as its answer counts.
+-- A call of `read_tables` on any bytes that has read the header; `rows` and `refs` are as much of its tables as its answer counts.
 module _ (dump : List ℕ) (b : AllBytes dump) (rows₀ refs₀ : List ℕ) (a : ReadAnswer) (rows′ refs′ : List ℕ) (r : AfterRead dump rows₀ refs₀ a rows′ refs′)
     (n : a .header .bits ≡ 0 → ⊥) where
   abbrev rows : List ℕ

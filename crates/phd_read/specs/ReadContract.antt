@@ -13,7 +13,7 @@ use Rattle.phd_read.specs.declared.ReadAnswer.{ReadAnswer}
 unfoldable pub read-answer : Result → ReadAnswer
 read-answer r = record { reply = r .reply; place = r .place; missing = r .missing; rows = row-count (r .rows); refs = length (r .refs); header = r .header }
 
--- The contract of `read` for one call: its answer is a, and the tables rows and refs are rows′ and refs′ afterwards, each with
+-- The contract of `read_tables` for one call: its answer is a, and the tables rows and refs are rows′ and refs′ afterwards, each with
 -- its part of the result at the start and otherwise unchanged.
 pub record AfterRead (dump rows refs : List ℕ) (a : ReadAnswer) (rows′ refs′ : List ℕ) : Type 0 where
   pub is : a ≡ read-answer (read-result dump (length rows) (length refs))

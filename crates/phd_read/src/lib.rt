@@ -1,4 +1,4 @@
-// Reads a portable heap dump into the caller's tables: the public operation `read`.
+// Reads a portable heap dump into the caller's tables: the public operation `read_tables`. (The reading that makes class summaries too is in the crate phd_classes.)
 // Its contract is three equations with the definition: one for the answer and one for each table.
 ghost use mathlib.Core.Path.{_≡_};
 ghost use lib.ListN.{length};
@@ -9,7 +9,7 @@ use decode::StringSpan;
 use phd::Header;
 use phd_header::HeaderRead;
 
-mod records;
+pub mod records;
 mod tables;
 
 // The answer of a reading: the reply and its place, the missing bytes of a cut dump, how many rows and references were stored,
@@ -48,7 +48,7 @@ fn no_records(reply: u64, missing: usize) -> ReadAnswer
 
 // Reads a dump. Stores its rows at the start of `rows`, `table::ROW_WIDTH` numbers each, and its references at the start of
 // `refs`; the rest of both tables is unchanged.
-pub fn read(dump: &[u8], rows: &mut [u64], refs: &mut [u64]) -> ReadAnswer
+pub fn read_tables(dump: &[u8], rows: &mut [u64], refs: &mut [u64]) -> ReadAnswer
     ensures is { λ r. ⌜ r ≡ read-answer (read-result (now (dump .entry)) (length (now (rows .entry))) (length (now (refs .entry)))) ⌝ }
     ensures rows { λ _. ⌜ now (rows .exit) ≡ overwrite (now (rows .entry)) (read-result (now (dump .entry)) (length (now (rows .entry))) (length (now (refs .entry))) .rows) ⌝ }
     ensures refs { λ _. ⌜ now (refs .exit) ≡ overwrite (now (refs .entry)) (read-result (now (dump .entry)) (length (now (rows .entry))) (length (now (refs .entry))) .refs) ⌝ }

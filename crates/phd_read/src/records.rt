@@ -10,7 +10,7 @@ ghost use Rattle.phd_record.specs.RecordOutcomes.{record-read-of};
 ghost use Rattle.phd_record.specs.declared.Next.the-variants.{Record};
 ghost use Rattle.table.specs.Buffer.{overwrite};
 ghost use Rattle.phd_read.specs.ReadContract.{read-answer};
-ghost use Rattle.phd_read.specs.PhdSteps.{CursorInBounds, StepContinues, StepContract, advanced};
+ghost use Rattle.phd_read.specs.PhdSteps.{CursorInBounds, StepContinues, StepContract, UpToContract, advanced, initial-cursor};
 use super::ReadAnswer;
 use super::tables;
 use phd::Cache;
@@ -138,6 +138,54 @@ pub fn step(s: &[u8], header: Header, rows: &mut [u64], refs: &mut [u64], k: Cur
     }
 }
 
+// Reads and stores records until `upto` rows are stored, or the reading ends.
+pub fn read_up_to(
+    s: &[u8],
+    header: Header,
+    rows: &mut [u64],
+    refs: &mut [u64],
+    k: Cursor,
+    upto: usize,
+) -> Stepped
+    requires { ⌜ CursorInBounds (now s) (now rows) (now refs) k × ValidBits (header .bits) × (length (now s) ≤ limit) ⌝ }
+    ensures { λ r. ⌜ UpToContract header (now (s .entry)) k (now (rows .entry)) (now (refs .entry)) upto (now (rows .exit)) (now (refs .exit)) (r .cursor) (r .result) ⌝ }
+{
+    let mut cursor = k;
+    while cursor.rows < upto {
+        let stepped = step(s, header, rows, refs, cursor);
+        let result = stepped.result;
+        let next = stepped.cursor;
+        match result {
+            StepResult::Continue => {
+                cursor = next;
+            }
+            StepResult::End(reply, place, missing) => {
+                return Stepped {
+                    result: StepResult::End(reply, place, missing),
+                    cursor: next,
+                };
+            }
+        }
+    }
+    Stepped {
+        result: StepResult::Continue,
+        cursor: cursor,
+    }
+}
+
+// Returns the cursor before the first record, whose tag is at `at`.
+pub fn first_cursor(at: usize) -> Cursor
+    ensures { λ r. ⌜ r ≡ initial-cursor at ⌝ }
+{
+    Cursor {
+        at: at,
+        address: 0,
+        cache: Cache::new(),
+        rows: 0,
+        refs: 0,
+    }
+}
+
 // Reads the records of a dump; the first tag is at `at`.
 pub fn read_records(
     s: &[u8],
@@ -151,31 +199,27 @@ pub fn read_records(
     ensures rows { λ _. ⌜ now (rows .exit) ≡ overwrite (now (rows .entry)) (records (suc limit) header (now (s .entry)) (length (now (rows .entry))) (length (now (refs .entry))) (initial-state at) .rows) ⌝ }
     ensures refs { λ _. ⌜ now (refs .exit) ≡ overwrite (now (refs .entry)) (records (suc limit) header (now (s .entry)) (length (now (rows .entry))) (length (now (refs .entry))) (initial-state at) .refs) ⌝ }
 {
-    let mut cursor = Cursor {
-        at: at,
-        address: 0,
-        cache: Cache::new(),
-        rows: 0,
-        refs: 0,
+    // No table has more rows than numbers, so that the reading ends before.
+    let upto = rows.len() / table::ROW_WIDTH + 1;
+    let stepped = read_up_to(s, header, rows, refs, first_cursor(at), upto);
+    let result = stepped.result;
+    let last = stepped.cursor;
+    let StepResult::End(reply, place, missing) = result else {
+        return ReadAnswer {
+            reply: 0,
+            place: 0,
+            missing: 0,
+            rows: 0,
+            refs: 0,
+            header: header,
+        };
     };
-    loop {
-        let stepped = step(s, header, rows, refs, cursor);
-        let result = stepped.result;
-        let next = stepped.cursor;
-        match result {
-            StepResult::Continue => {
-                cursor = next;
-            }
-            StepResult::End(reply, place, missing) => {
-                return ReadAnswer {
-                    reply: reply,
-                    place: place,
-                    missing: missing,
-                    rows: next.rows,
-                    refs: next.refs,
-                    header: header,
-                };
-            }
-        }
+    ReadAnswer {
+        reply: reply,
+        place: place,
+        missing: missing,
+        rows: last.rows,
+        refs: last.refs,
+        header: header,
     }
 }

@@ -87,7 +87,32 @@ fn read_body(
     }
 }
 
-// Decodes the end tag or a whole record. `before` is the address of the record before, `index` the number of references so far.
+// Decodes the end tag or a whole record, on the general path. `before` is the address of the record before, `index` the number of
+// references so far.
+pub fn read_general(
+    s: &[u8],
+    at: usize,
+    header: Header,
+    before: u64,
+    cache: Cache,
+    index: u64,
+) -> RecordRead
+    requires { ⌜ (at ≤ length (now s)) × ValidBits (header .bits) ⌝ }
+    ensures { λ r. ⌜ r ≡ record-read-of cache (run (entry header before cache index) (now (s .entry)) at) ⌝ }
+{
+    match decode::field(s, at, 1) {
+        NumberRead::Is(tag, next) => {
+            if tag == 3 {
+                return no_record(Next::Over(next), cache);
+            }
+            let origin = Origin { offset: at, index };
+            read_body(s, next, header, before, cache, origin, tag)
+        }
+        NumberRead::Stops(w) => no_record(Next::Stops(w), cache),
+    }
+}
+
+// Decodes the end tag or a whole record: on the fast path, or, if that declines, on the general path.
 pub fn read_record(
     s: &[u8],
     at: usize,
@@ -105,14 +130,18 @@ pub fn read_record(
             return fast.found;
         }
     }
-    match decode::field(s, at, 1) {
-        NumberRead::Is(tag, next) => {
-            if tag == 3 {
-                return no_record(Next::Over(next), cache);
-            }
-            let origin = Origin { offset: at, index };
-            read_body(s, next, header, before, cache, origin, tag)
-        }
-        NumberRead::Stops(w) => no_record(Next::Stops(w), cache),
+    // Field by field: returned as it is, the answer would be written through a pointer to that of the fast path, which then could not be
+    // kept in registers.
+    let general = read_general(s, at, header, before, cache, index);
+    let next = general.next;
+    let row = general.row;
+    let span = general.span;
+    let after = general.cache;
+    RecordRead {
+        next: next,
+        row: row,
+        span: span,
+        address: general.address,
+        cache: after,
     }
 }

@@ -1,4 +1,4 @@
--- Demands 2 and 3 for calls: `write` filled an output, and `read` then fills tables from the first bytes of it. The premises are
+-- Demands 2 and 3 for calls: `write` filled an output, and `read_tables` then fills tables from the first bytes of it. The premises are
 -- the contracts of the two calls, `AfterWrite` (phd_write) and `AfterRead` (phd_read).
 -- A reader must believe the records `CutRead` and `WholeRead`.
 use mathlib.Core.Path.{_≡_, ap, _∙_}
@@ -50,7 +50,7 @@ pub record WholeRead (h : Header) (names : List ℕ) (rs : List Rec) (n : ℕ) (
   pub place : b .place ≡ n
   pub header : SameHeader h names (b .header) (take n out)
 
--- A call of `write` with reply 0, and a call of `read` with tables that have a row for each record and a number for each
+-- A call of `write` with reply 0, and a call of `read_tables` with tables that have a row for each record and a number for each
 -- reference.
 module _ (h : Header) (names refs rows out : List ℕ) (a : Answer) (out′ : List ℕ) (w : AfterWrite h names refs rows out a out′) (z : a .reply ≡ 0)
     (rows₀ refs₀ : List ℕ) (p : length (rows-of rows) * row-width ≤ length rows₀) (q : length (all-refs (recs names refs (rows-of rows))) ≤ length refs₀)

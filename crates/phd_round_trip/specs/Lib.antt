@@ -1,5 +1,5 @@
 -- In reading order: CutRecords (the records within a cut), RoundTripTheorems (the round trip, and the cuts of a written dump) and
--- InMemory (both for calls of `write` and `read`).
+-- InMemory (both for calls of `write` and `read_tables`), ClassesCuts (both with a list of class summaries).
 -- The rest is for proofs. One record: Decodable (the conditions under which a record is read back), FieldsRoundTrip (its parts
 -- are read back), EntryRoundTrip (the whole record is read back), ChosenForm (a good record satisfies the conditions in the form
 -- chosen for it; by FormFits, FormsWithRefs and PrimitiveForms) and RecordRoundTrip (so a good record is read back).
@@ -23,3 +23,4 @@ pub mod PrefixReading
 pub mod DecodedRows
 pub mod DumpRoundTrip
 pub mod WrittenIsGood
+pub mod ClassesCuts

@@ -50,7 +50,7 @@ fn is_unchanged(table: &[u64], from: usize) -> bool {
 
 // Reads a dump into untouched tables.
 fn read_into(dump: &[u8], rows: &mut [u64], refs: &mut [u64]) -> CheckedRead {
-    let r = phd_read::read(dump, rows, refs);
+    let r = phd_read::read_tables(dump, rows, refs);
     let unchanged = is_unchanged(rows, used_numbers(rows, r.rows, table::ROW_WIDTH))
         && is_unchanged(refs, r.refs);
     CheckedRead {

@@ -90,7 +90,7 @@ unfolding overwrite
 overwrite-take table table₀ n h e = rw (length-take-le n table h, ← e) (take-append-drop n table)
 
 -- Lists that agree from index i on agree from a later index j on.
-drop-later : (l m : List ℕ) (i j : ℕ) → i ≤ j → drop i l ≡ drop i m → drop j l ≡ drop j m
+pub drop-later : (l m : List ℕ) (i j : ℕ) → i ≤ j → drop i l ≡ drop i m → drop j l ≡ drop j m
 drop-later l m i j h e =
     let p : i + (j - i) ≡ j = omega arith in
     ap (λ (n : ℕ). drop n l) (sym p) ∙ sym (drop-drop (j - i) i l) ∙ ap (drop (j - i)) e ∙ drop-drop (j - i) i m ∙ ap (λ (n : ℕ). drop n m) p

@@ -8,7 +8,7 @@ use lib.ListN.{length, drop}
 use lib.Seq.{sets, sets-eq, drop-length}
 
 -- The buffer with xs stored at its start.
-unfoldable pub overwrite : List ℕ → List ℕ → List ℕ
+unfoldable pub overwrite {ℓ} : {A : Type ℓ} → List A → List A → List A
 overwrite buffer xs = xs ++ drop (length xs) buffer
 
 -- Storing no numbers changes nothing.

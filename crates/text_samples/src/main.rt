@@ -123,7 +123,7 @@ fn print_text_of(header: Header, rows: &[u64], refs: &[u64], names: &[u8], out: 
 fn run_sample(dump: &[u8]) {
     let mut rows = [UNREAD; ROWS];
     let mut refs = [UNREAD; REFS];
-    let r = phd_read::read(dump, &mut rows, &mut refs);
+    let r = phd_read::read_tables(dump, &mut rows, &mut refs);
     print_read_answer(r);
     let from = changes::start(dump, r);
     changes::apply_to_table(dump, from, 1, &mut rows);

@@ -114,7 +114,7 @@ fn print_bytes(s: &[u8]) {
 fn print_read_back(dump: &[u8]) {
     let mut rows = [0; tables::ROWS];
     let mut refs = [0; tables::REFS];
-    let r = phd_read::read(dump, &mut rows, &mut refs);
+    let r = phd_read::read_tables(dump, &mut rows, &mut refs);
     print_text(b"read ");
     print_read(r, &rows, &refs);
 }

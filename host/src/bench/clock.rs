@@ -1,6 +1,6 @@
 //! The processor time of a piece of work: time in which this thread waits or another one runs does not count.
 
-use std::time::Duration;
+use std::time::{Duration, Instant};
 
 /// A time, as the C library stores it on 64-bit Linux.
 #[repr(C)]
@@ -11,6 +11,10 @@ struct Timespec {
 
 /// The clock of the calling thread's processor time, by its number on Linux.
 const THREAD_CPU_TIME: i32 = 3;
+
+/// After this time no more than the least number of rounds is measured.
+const LONG: Duration = Duration::from_secs(20);
+const LEAST_ROUNDS: usize = 3;
 
 extern "C" {
     fn clock_gettime(clock: i32, time: *mut Timespec) -> i32;
@@ -33,6 +37,17 @@ pub fn keep_least(best: &mut Duration, work: impl FnOnce()) {
     let start = processor_time();
     work();
     *best = (*best).min(processor_time() - start);
+}
+
+/// Measures rounds of so many rows, the more of them the fewer rows there are.
+pub fn measure_rounds(rows: usize, mut round: impl FnMut()) {
+    let start = Instant::now();
+    for number in 0..(10_000_000 / rows).clamp(LEAST_ROUNDS, 200) {
+        if number >= LEAST_ROUNDS && start.elapsed() > LONG {
+            break;
+        }
+        round();
+    }
 }
 
 /// Returns `time` divided by `other`.

@@ -1,11 +1,13 @@
 //! Measures how fast the proved library is compared with the plain implementation, on the same input and in the same run.
-//! Prints a table of times and ratios, then tables of the text: how long it takes to find classes, and how long it takes compared
-//! with the plain implementation and with copying its bytes. Run by hand, in a release build.
+//! Prints a table of times and ratios, then one of reads with class summaries, then tables of the text: how long it takes to find
+//! classes, and how long it takes compared with the plain implementation and with copying its bytes. Run by hand, in a release
+//! build.
 
 mod classes;
 mod clock;
 mod heap;
 mod objects;
+mod summaries;
 mod text;
 mod text_ratios;
 
@@ -33,7 +35,7 @@ struct Times {
 type Read = fn(&[u8], &mut [u64], &mut [u64], &mut Answer) -> u64;
 type Write = fn(&Tables, &mut [u8], &mut Answer) -> u64;
 
-const READS: [Read; 2] = [library::read, plain::read];
+const READS: [Read; 2] = [library::read_tables, plain::read_tables];
 const WRITES: [Write; 2] = [library::write, plain::write];
 
 impl Times {
@@ -181,6 +183,7 @@ fn main() {
     ) {
         println!("a record at the largest size over one at 100000: read {read:.2}, write {write:.2}, copy {copy:.2}");
     }
+    summaries::print_table(&sizes);
     classes::print_table();
     text_ratios::print_tables(&sizes);
 }

@@ -1,13 +1,13 @@
 //! Measures how long a text takes compared with the plain implementation and with copying its bytes, by the number of rows; and
 //! how long the text of objects of random classes takes compared with objects of one class.
 
-use crate::clock::{keep_least, per_record, ratio};
+use crate::clock::{keep_least, measure_rounds, per_record, ratio};
 use crate::heap::{usual_classes, Heap};
 use crate::objects::{ClassChoice, Order};
 use crate::text::TextTimes;
 use phd_host::answer::PLACE;
 use phd_host::{library, plain, reply};
-use std::time::{Duration, Instant};
+use std::time::Duration;
 
 /// Generates a heap of so many rows.
 type MakeHeap = fn(usize) -> Heap;
@@ -35,21 +35,6 @@ struct Times {
     library: Duration,
     plain: Duration,
     copy: Duration,
-}
-
-/// After this time no more than the least number of rounds is measured.
-const LONG: Duration = Duration::from_secs(20);
-const LEAST_ROUNDS: usize = 3;
-
-/// Measures rounds of so many rows, the more of them the fewer rows there are.
-fn measure_rounds(rows: usize, mut round: impl FnMut()) {
-    let start = Instant::now();
-    for number in 0..(10_000_000 / rows).clamp(LEAST_ROUNDS, 200) {
-        if number >= LEAST_ROUNDS && start.elapsed() > LONG {
-            break;
-        }
-        round();
-    }
 }
 
 /// Measures the text of a heap on both sides and the copy in turn, and checks that both sides give the same bytes.

@@ -8,13 +8,10 @@ use crate::memory;
 use crate::messages;
 use crate::output::{self, Target};
 use crate::progress;
+use crate::stack;
 use phd_host::answer::{self, Answer};
 use phd_host::row::{ADDRESS, CLASS, OFFSET};
 use phd_host::{library, reply};
-use std::thread;
-
-/// The stack for the library, in bytes. A text takes up to 600 KB of it, for the class index.
-const STACK: usize = 4 << 20;
 
 /// The output format.
 #[derive(Clone, Copy)]
@@ -36,7 +33,7 @@ impl Format {
 /// Reads the source and writes the target. Of a dump that is cut off or damaged, the records before that place are written.
 pub fn run(source: &Source, target: &Target, format: Format) -> Result<Status, Error> {
     target.check()?;
-    let dump = dump::read(source)?;
+    let dump = dump::read_tables(source)?;
     if !dump.is_whole() {
         report_partial(&dump)?;
     }
@@ -67,20 +64,13 @@ fn report_partial(dump: &Dump) -> Result<(), Error> {
     Ok(())
 }
 
-/// Converts on a thread with a stack of its own, so that the limit of the main thread's stack does not matter.
+/// Converts on a thread with a stack of its own.
 fn convert_on_thread(dump: &Dump, format: Format) -> Result<Vec<u8>, Error> {
-    let not_started = |error| {
-        let why = format!("a thread with a stack of 4 MB cannot be started: {error}");
+    let not_started = |why| {
         let message = format!("no {} can be made of it: {why}", format.name());
         Error::failed(&dump.name, message)
     };
-    thread::scope(|scope| {
-        let started = thread::Builder::new()
-            .stack_size(STACK)
-            .spawn_scoped(scope, || convert(dump, format));
-        let ended = started.map_err(not_started)?.join();
-        ended.unwrap_or_else(|panic| std::panic::resume_unwind(panic))
-    })
+    stack::run(|| convert(dump, format)).map_err(not_started)?
 }
 
 /// Returns the bytes of the output. A size query comes first, and a buffer of exactly that size is allocated.

@@ -1,11 +1,14 @@
-//! A dump file, read by the library into tables that grow as it needs.
+//! A dump file, read by the library into buffers that grow as it needs.
 
+use crate::capacity::Capacity;
 use crate::error::Error;
-use crate::input::{self, Source, LIMIT};
+use crate::input::{self, Source};
 use crate::memory::{self, OutOfMemory};
 use crate::progress;
+use crate::stack;
 use phd_host::answer::{self, Answer};
 use phd_host::row::{kind, COUNT, KIND, LENGTH, ROW_LEN};
+use phd_host::summary::Summary;
 use phd_host::tables::Tables;
 use phd_host::{library, reply};
 
@@ -15,6 +18,7 @@ pub struct Dump {
     bytes: Vec<u8>,
     rows: Vec<u64>,
     refs: Vec<u64>,
+    summaries: Vec<Summary>,
     answer: Answer,
 }
 
@@ -119,6 +123,11 @@ impl Dump {
         self.answer[answer::REFS]
     }
 
+    /// Returns the class summaries of the rows, none if the dump was read without them.
+    pub fn summaries(&self) -> &[Summary] {
+        &self.summaries[..self.answer[answer::CLASSES] as usize]
+    }
+
     /// Returns the counts of classes, objects, object arrays and primitive arrays.
     pub fn counts_by_kind(&self) -> [Counts; 4] {
         let mut kinds = [Counts::default(); 4];
@@ -137,85 +146,52 @@ impl Dump {
     }
 }
 
-/// The capacity of the tables, in rows and in references.
-#[derive(Clone, Copy)]
-struct Capacity {
-    rows: usize,
-    refs: usize,
-}
-
-impl Capacity {
-    /// Returns the most that a dump of this size can need. Tables of this capacity are never too small.
-    fn max(size: usize) -> Capacity {
-        Capacity {
-            rows: library::max_rows(size),
-            refs: library::max_refs(size),
-        }
-    }
-
-    /// Returns the smaller capacity of both, for rows and for references.
-    fn at_most(self, limit: Capacity) -> Capacity {
-        Capacity {
-            rows: self.rows.min(limit.rows),
-            refs: self.refs.min(limit.refs),
-        }
-    }
-
-    /// Returns the capacity for the first attempt. A dump over the limit needs none, since it is refused at once.
-    fn guess(size: usize) -> Capacity {
-        if size as u64 > LIMIT {
-            return Capacity { rows: 0, refs: 0 };
-        }
-        let guess = Capacity {
-            rows: size / 16 + 64,
-            refs: size / 8 + 64,
-        };
-        guess.at_most(Capacity::max(size))
-    }
-
-    /// Returns the capacity for the next attempt: what the whole dump needs if it is like the part that was read, plus an
-    /// eighth. The table that was too small always grows; that of references at least doubles, since one record may need many.
-    fn grown(self, size: usize, answer: &Answer) -> Capacity {
-        let estimate = |used: u64| {
-            let all = u128::from(used) * size as u128 / u128::from(answer[answer::PLACE].max(1));
-            usize::try_from(all + all / 8).unwrap_or(usize::MAX)
-        };
-        let mut grown = Capacity {
-            rows: self.rows.max(estimate(answer[answer::ROWS])),
-            refs: self.refs.max(estimate(answer[answer::REFS])),
-        };
-        if answer[answer::REPLY] == reply::NO_ROW {
-            grown.rows = grown.rows.max(self.rows + self.rows / 4 + 1);
-        } else {
-            grown.refs = grown.refs.max(self.refs * 2 + 1);
-        }
-        grown.at_most(Capacity::max(size))
-    }
-}
-
 /// Reads a dump to its end, or to the place where it is cut off or refused.
 pub fn read(source: &Source) -> Result<Dump, Error> {
+    load(source, true)
+}
+
+/// Reads a dump as `read` does, without class summaries.
+pub fn read_tables(source: &Source) -> Result<Dump, Error> {
+    load(source, false)
+}
+
+/// Reads a dump into buffers that grow until they are large enough.
+fn load(source: &Source, with_summaries: bool) -> Result<Dump, Error> {
     let name = source.name();
     let bytes = input::load(source)?;
     let mut capacity = Capacity::guess(bytes.len());
+    let no_memory = |error: OutOfMemory| Error::failed(&name, error.message("for its records"));
     loop {
         let doing = format!("reading the records of {name}");
         let _line = progress::show(&doing, Some(bytes.len() as u64));
-        let no_memory = |error: OutOfMemory| Error::failed(&name, error.message("for its records"));
         let mut rows = memory::zeroed(capacity.rows * ROW_LEN).map_err(no_memory)?;
         let mut refs = memory::zeroed(capacity.refs).map_err(no_memory)?;
         let mut answer = Answer::default();
-        let reply = library::read(&bytes, &mut rows, &mut refs, &mut answer);
-        if !matches!(reply, reply::NO_ROW | reply::NO_REFS) {
+        let mut summaries = Vec::new();
+        let reply = if with_summaries {
+            summaries = memory::zeroed(capacity.classes).map_err(no_memory)?;
+            let read = || library::read(&bytes, &mut rows, &mut refs, &mut summaries, &mut answer);
+            stack::run(read).map_err(|why| not_read(&name, &why))?
+        } else {
+            library::read_tables(&bytes, &mut rows, &mut refs, &mut answer)
+        };
+        if !matches!(reply, reply::NO_ROW | reply::NO_REFS | reply::NO_ENTRY) {
             return Ok(Dump {
                 name,
                 bytes,
                 rows,
                 refs,
+                summaries,
                 answer,
             });
         }
-        // This ends: a table that was too small was below the maximum, so it grows.
+        // This ends: a buffer that was too small was below the maximum, so it grows.
         capacity = capacity.grown(bytes.len(), &answer);
     }
+}
+
+/// Returns the error for records that cannot be read for want of a stack.
+fn not_read(name: &str, why: &str) -> Error {
+    Error::failed(name, format!("its records cannot be read: {why}"))
 }

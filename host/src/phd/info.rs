@@ -1,5 +1,7 @@
-//! `phd info`: reports whether a dump is whole, where it stops if not, and what is in it.
+//! `phd info`: reports whether a dump is whole, where it stops if not, what is in it, and its largest classes.
 
+use crate::classes::lines::{self, Line};
+use crate::classes::totals::{percent, Totals};
 use crate::dump::{self, Counts, Dump};
 use crate::error::{Error, Status};
 use crate::input::Source;
@@ -7,6 +9,10 @@ use crate::messages;
 use crate::output::{self, Sent};
 use crate::rows;
 use phd_host::reply;
+use std::cmp::Reverse;
+
+/// How many of the largest classes are listed.
+const LARGEST: usize = 3;
 
 /// Prints a report about each file, with its rows if `with_rows` is set, and returns the worst status.
 pub fn run(sources: &[Source], with_rows: bool) -> Result<Status, Error> {
@@ -57,6 +63,7 @@ fn report(dump: &Dump) -> String {
     text += &property("file size", &messages::size(dump));
     if dump.has_header() {
         text += &header(dump);
+        text += &largest_classes(dump);
     }
     text
 }
@@ -100,4 +107,44 @@ fn header(dump: &Dump) -> String {
 
 fn property(name: &str, value: &str) -> String {
     format!("  {name:<20}{value}\n")
+}
+
+/// Returns the lines about the largest classes and about all of them, or nothing if there is no object and no array.
+fn largest_classes(dump: &Dump) -> String {
+    let (mut lines, _) = lines::of(dump);
+    let all = Totals::of(&lines);
+    if all.lines == 0 {
+        return String::new();
+    }
+    let mut text = "\n".to_string();
+    let share = if all.waiting > 0 { "known %" } else { "share" };
+    text += &class_line(["bytes", share, "instances", "largest classes"].map(String::from));
+    lines.retain(|line| line.bytes.is_some());
+    let digits = dump.bits() as usize / 4;
+    let key = |line: &Line| (Reverse(line.bytes), line.name(false, digits), line.class);
+    lines.sort_by_cached_key(key);
+    for line in lines.iter().take(LARGEST) {
+        let (bytes, name) = (line.bytes.unwrap_or(0), line.name(false, digits));
+        text += &class_line([
+            messages::grouped(bytes),
+            format!("{} %", percent(bytes, all.bytes, 1)),
+            messages::grouped(line.instances),
+            messages::shortened(&name),
+        ]);
+    }
+    text += &class_line([
+        all.bytes_text(),
+        format!("{} %", percent(all.bytes, all.bytes, 1)),
+        messages::grouped(all.instances),
+        messages::count_of(all.lines, "class", "classes") + " in all",
+    ]);
+    if all.waiting > 0 {
+        let objects = messages::count(all.waiting, "object");
+        text += &format!("  Not in this sum are the bytes of {objects}: the records of their classes were not read.\n");
+    }
+    text
+}
+
+fn class_line([bytes, share, instances, name]: [String; 4]) -> String {
+    format!("  {bytes:>18}{share:>10}{instances:>14}  {name}\n")
 }

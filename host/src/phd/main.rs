@@ -2,6 +2,8 @@
 //! decided by the library.
 
 mod args;
+mod capacity;
+mod classes;
 mod convert;
 mod dump;
 mod error;
@@ -12,6 +14,7 @@ mod messages;
 mod output;
 mod progress;
 mod rows;
+mod stack;
 
 use args::Request;
 use convert::Format;
@@ -37,6 +40,7 @@ fn run(request: Request) -> Result<Status, Error> {
             let version = concat!("phd ", env!("CARGO_PKG_VERSION"), "\n");
             output::print(version).map(|_| Status::Done)
         }
+        Request::Classes(source, target, options) => classes::run(&source, &target, &options),
         Request::Info { sources, rows } => info::run(&sources, rows),
         Request::Text(source, target) => convert::run(&source, &target, Format::Text),
         Request::Copy(source, target) => convert::run(&source, &target, Format::Dump),

@@ -7,12 +7,17 @@ use phd_host::reply;
 /// The kinds of records, in the order of their numbers.
 pub const KINDS: [&str; 4] = ["classes", "objects", "object arrays", "primitive arrays"];
 
+/// A name of more characters than this is shortened.
+const LONGEST_NAME: usize = 200;
+
 /// Formats a number with a comma before every third digit from the right.
 pub fn grouped(number: impl Into<u128>) -> String {
     let digits = number.into().to_string();
-    let mut text = String::new();
-    for (index, digit) in digits.chars().enumerate() {
-        if index > 0 && (digits.len() - index) % 3 == 0 {
+    let (first, rest) = digits.split_at((digits.len() - 1) % 3 + 1);
+    let mut text = String::with_capacity(digits.len() * 4 / 3);
+    text.push_str(first);
+    for (index, digit) in rest.chars().enumerate() {
+        if index % 3 == 0 {
             text.push(',');
         }
         text.push(digit);
@@ -22,8 +27,23 @@ pub fn grouped(number: impl Into<u128>) -> String {
 
 /// Formats a number and what it counts: `1 byte`, `2 bytes`.
 pub fn count(number: u64, thing: &str) -> String {
-    let ending = if number == 1 { "" } else { "s" };
-    format!("{} {thing}{ending}", grouped(number))
+    count_of(number, thing, &format!("{thing}s"))
+}
+
+/// Formats a number and what it counts, in the singular or the plural: `1 class`, `2 classes`.
+pub fn count_of(number: u64, one: &str, more: &str) -> String {
+    let thing = if number == 1 { one } else { more };
+    format!("{} {thing}", grouped(number))
+}
+
+/// Returns a name, or the start of a long one with its length.
+pub fn shortened(name: &str) -> String {
+    match name.get(..LONGEST_NAME) {
+        Some(start) if start != name => {
+            format!("{start}.. ({})", count(name.len() as u64, "character"))
+        }
+        _ => name.into(),
+    }
 }
 
 /// Formats a number of bytes in MB, or in GB if there are so many.
@@ -163,6 +183,7 @@ fn refused_record(reply: u64, place: u64) -> String {
         reply::EMPTY_SLOT => "names its class by a slot that nothing has filled yet",
         reply::HASH_BITS => "has hash bits of its own though all objects are hashed",
         reply::BAD_COUNT => "has a count, a length or a class size that is out of range",
+        reply::NO_ENTRY => "is the first of its class, and the list of classes is full",
         _ => "was refused",
     };
     format!("The record at {} {why}.", at(place))

@@ -7,7 +7,7 @@ pub(super) type Answer = [u64; 16];
 
 pub(super) const REPLY: usize = 0;
 pub(super) const PLACE: usize = 1;
-const ROWS: usize = 2;
+pub(super) const ROWS: usize = 2;
 const REFS: usize = 3;
 const BITS: usize = 4;
 const ALL_HASHED: usize = 5;
@@ -16,15 +16,17 @@ const VM_PRESENT: usize = 7;
 const VM_PLACE: usize = 8;
 const VM_LENGTH: usize = 9;
 pub(super) const MISSING: usize = 10;
+pub(super) const CLASSES: usize = 11;
 
 /// Returns the answer of a read.
 pub(super) fn of_read(outcome: Outcome) -> Answer {
     let mut answer = [0; 16];
     answer[REPLY] = outcome.reply as u64;
     answer[PLACE] = outcome.place as u64;
-    answer[ROWS] = outcome.rows as u64;
-    answer[REFS] = outcome.refs as u64;
+    answer[ROWS] = outcome.counts.rows as u64;
+    answer[REFS] = outcome.counts.refs as u64;
     answer[MISSING] = outcome.missing as u64;
+    answer[CLASSES] = outcome.counts.classes as u64;
     if let Some(header) = outcome.header {
         answer[BITS] = header.bits;
         answer[ALL_HASHED] = header.all_hashed.into();

@@ -1,20 +1,24 @@
 //! Plain Rust: an independent implementation of the format, written from the scope paper (01) and its change requests alone. The
 //! tests compare it with the proved library.
 //!
-//! From the rest of this crate it takes only `Tables`, the shape of the arguments. The names of the replies, of a row's numbers
-//! and of the places of an answer are its own.
+//! From the rest of this crate it takes only `Tables` and `Summary`, the shapes of the arguments, and `WordMap`, a hash map. The
+//! names of the replies, of a row's numbers, of the marks of entries and of the places of an answer are its own.
 
 mod answer;
+mod buffers;
 mod check;
 mod cursor;
 mod read;
+mod summaries;
 #[cfg(test)]
 mod tests;
 mod text;
 mod write;
 
+use crate::summary::Summary;
 use crate::tables::Tables;
 use answer::Answer;
+use buffers::Buffers;
 use check::CheckedTables;
 use std::ops::Range;
 
@@ -65,14 +69,31 @@ enum Reply {
     BadRow = 16,
     NoOutput = 17,
     NoClass = 18,
+    NoEntry = 20,
 }
 
 /// A refusal and its place (01's term).
 type Stop = (Reply, u64);
 
+/// Reads a dump into the tables of rows and references and the list of class summaries, and returns the reply.
+pub fn read(
+    dump: &[u8],
+    rows: &mut [u64],
+    refs: &mut [u64],
+    classes: &mut [Summary],
+    answer: &mut Answer,
+) -> u64 {
+    read_into(dump, Buffers::new(rows, refs, Some(classes)), answer)
+}
+
 /// Reads a dump into the tables of rows and references, and returns the reply.
-pub fn read(dump: &[u8], rows: &mut [u64], refs: &mut [u64], answer: &mut Answer) -> u64 {
-    *answer = answer::of_read(read::read(dump, rows, refs));
+pub fn read_tables(dump: &[u8], rows: &mut [u64], refs: &mut [u64], answer: &mut Answer) -> u64 {
+    read_into(dump, Buffers::new(rows, refs, None), answer)
+}
+
+/// Reads a dump into the buffers and fills the answer.
+fn read_into(dump: &[u8], buffers: Buffers, answer: &mut Answer) -> u64 {
+    *answer = answer::of_read(read::read(dump, buffers));
     answer[answer::REPLY]
 }
 

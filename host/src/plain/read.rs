@@ -1,19 +1,19 @@
 //! Reads a dump: the header, then each record. A record is stored only after all of it was checked.
 
+use super::buffers::{Buffers, Counts};
 use super::cursor::{each_value, Cursor};
 use super::{
     is_class_name, is_vm_string, Cache, Header, Reply, CLASS, DUMP_LIMIT, HASHED, INT_HASH,
-    NO_HASH, OBJECT, OBJECT_ARRAY, OPENING, PRIMITIVE_ARRAY, ROW_LEN, SHORT_HASH,
+    NO_HASH, OBJECT, OBJECT_ARRAY, OPENING, PRIMITIVE_ARRAY, SHORT_HASH,
 };
 
-/// What a read returns beside the tables.
+/// What a read returns beside what it stores.
 pub(super) struct Outcome {
     pub reply: Reply,
     pub place: usize,
     /// The missing bytes of a cut dump, otherwise 0.
     pub missing: usize,
-    pub rows: usize,
-    pub refs: usize,
+    pub counts: Counts,
     /// The header, if all of it was read.
     pub header: Option<Header>,
 }
@@ -25,15 +25,14 @@ impl Outcome {
             reply,
             place: 0,
             missing,
-            rows: 0,
-            refs: 0,
+            counts: Counts::default(),
             header: None,
         }
     }
 }
 
-/// Reads a dump into the tables.
-pub(super) fn read(dump: &[u8], rows: &mut [u64], refs: &mut [u64]) -> Outcome {
+/// Reads a dump into the buffers.
+pub(super) fn read(dump: &[u8], mut buffers: Buffers) -> Outcome {
     if dump.len() > DUMP_LIMIT {
         return Outcome::in_header(Reply::OverLimit, 0);
     }
@@ -43,14 +42,12 @@ pub(super) fn read(dump: &[u8], rows: &mut [u64], refs: &mut [u64]) -> Outcome {
         Err(reply) => return Outcome::in_header(reply, cursor.missing),
     };
     let mut body = Body::new(cursor, header);
-    let mut buffers = Buffers::new(rows, refs);
     let (reply, place) = read_records(&mut body, &mut buffers);
     Outcome {
         reply,
         place,
         missing: body.cursor.missing,
-        rows: buffers.row_count,
-        refs: buffers.ref_count,
+        counts: buffers.finish(),
         header: Some(body.header),
     }
 }
@@ -112,23 +109,23 @@ fn read_header(cursor: &mut Cursor) -> Result<Header, Reply> {
 
 /// A record (01's term) as read. Its references are still bytes: checked, but not yet stored.
 #[derive(Default)]
-struct Record<'a> {
+pub(super) struct Record<'a> {
     /// Where its tag is.
-    offset: usize,
-    kind: u64,
+    pub offset: usize,
+    pub kind: u64,
     /// The address divided by four, as gaps are.
-    address: i64,
-    class: u64,
-    hash_kind: u64,
-    hash: u64,
-    size: u64,
-    length: u64,
-    name_place: u64,
-    name_length: u64,
-    primitive: u64,
-    ref_count: usize,
-    ref_code: u8,
-    ref_bytes: &'a [u8],
+    pub address: i64,
+    pub class: u64,
+    pub hash_kind: u64,
+    pub hash: u64,
+    pub size: u64,
+    pub length: u64,
+    pub name_place: u64,
+    pub name_length: u64,
+    pub primitive: u64,
+    pub ref_count: usize,
+    pub ref_code: u8,
+    pub ref_bytes: &'a [u8],
 }
 
 /// The state of reading the records.
@@ -338,55 +335,5 @@ fn add_gap(from: i64, gap: i64, limit: i64) -> Result<i64, Reply> {
     match from.checked_add(gap) {
         Some(to) if (0..limit).contains(&to) => Ok(to),
         _ => Err(Reply::OutOfRange),
-    }
-}
-
-/// The caller's buffers for rows and references, and how much of them is filled.
-struct Buffers<'t> {
-    rows: &'t mut [[u64; ROW_LEN]],
-    refs: &'t mut [u64],
-    row_count: usize,
-    ref_count: usize,
-}
-
-impl<'t> Buffers<'t> {
-    /// Returns the buffers before the first record. Numbers at the end that are too few for a row are not used.
-    fn new(rows: &'t mut [u64], refs: &'t mut [u64]) -> Buffers<'t> {
-        Buffers {
-            rows: rows.as_chunks_mut().0,
-            refs,
-            row_count: 0,
-            ref_count: 0,
-        }
-    }
-
-    /// Stores a record completely, or nothing of it if there is too little capacity.
-    fn store(&mut self, record: &Record) -> Result<(), Reply> {
-        let row = self.rows.get_mut(self.row_count).ok_or(Reply::NoRow)?;
-        let capacity = self.refs[self.ref_count..].get_mut(..record.ref_count);
-        let mut places = capacity.ok_or(Reply::NoRefs)?.iter_mut();
-        *row = [
-            record.kind,
-            record.address as u64 * 4,
-            record.class,
-            record.hash_kind,
-            record.hash,
-            self.ref_count as u64,
-            record.ref_count as u64,
-            record.size,
-            record.length,
-            record.name_place,
-            record.name_length,
-            record.primitive,
-            record.offset as u64,
-        ];
-        self.row_count += 1;
-        self.ref_count += record.ref_count;
-        each_value(record.ref_bytes, record.ref_code, |value| {
-            if let Some(place) = places.next() {
-                *place = (record.address + value) as u64 * 4;
-            }
-            Ok(())
-        })
     }
 }

@@ -1,8 +1,11 @@
-//! Tests of the worked example of the scope paper (01): the whole dump, its cuts with their missing bytes, and its text. Also of
-//! the nulls of arrays.
+//! Tests of the worked example of the scope paper (01): the whole dump, its cuts with their missing bytes, its text, and its class
+//! summaries. Also of the nulls of arrays.
 
-use super::answer::{Answer, MISSING, PLACE, REPLY};
-use super::{read, text, text_size, write, write_size, Reply, Tables, OBJECT_ARRAY, ROW_LEN};
+use super::answer::{Answer, CLASSES, MISSING, PLACE, REPLY, ROWS as ROW_COUNT};
+use super::{
+    read, read_tables, text, text_size, write, write_size, Reply, Tables, OBJECT_ARRAY, ROW_LEN,
+};
+use crate::summary::Summary;
 
 /// The widths of the example's fields, in file order: the header, the four records and the end tag.
 const FIELDS: [usize; 29] = [
@@ -65,7 +68,7 @@ fn expect(dump: &[u8], capacity: usize, reply: Reply, place: u64, count: usize) 
     let mut rows = vec![UNTOUCHED; capacity * ROW_LEN + ROW_LEN - 1];
     let mut refs = vec![UNTOUCHED; 3];
     let mut answer = [UNTOUCHED; 16];
-    let returned = read(dump, &mut rows, &mut refs, &mut answer);
+    let returned = read_tables(dump, &mut rows, &mut refs, &mut answer);
     assert_eq!(returned, reply as u64);
     let ref_count = if count >= 2 { 1 } else { 0 };
     let start = [reply as u64, place, count as u64, ref_count as u64];
@@ -208,4 +211,52 @@ fn nulls() {
         });
         assert_eq!(written.lines().rev().nth(2), Some(&last[..]));
     }
+}
+
+/// Returns an entry of the example's list: class, mark, instances, bytes, references and waiting objects.
+fn entry([class, mark, instances, bytes, refs, waiting]: [u64; 6]) -> Summary {
+    Summary {
+        class,
+        mark,
+        instances,
+        bytes,
+        refs,
+        waiting,
+    }
+}
+
+/// Reads a dump with a list of `capacity` entries, and returns the reply, how many rows were stored, and the entries in use.
+fn summaries(dump: &[u8], capacity: usize) -> (u64, u64, Vec<Summary>) {
+    let untouched = entry([UNTOUCHED; 6]);
+    let (mut rows, mut refs) = ([0; 4 * ROW_LEN], [0; 1]);
+    let (mut list, mut answer) = (vec![untouched; capacity], [UNTOUCHED; 16]);
+    let reply = read(dump, &mut rows, &mut refs, &mut list, &mut answer);
+    let used = answer[CLASSES] as usize;
+    assert!(list[used..].iter().all(|entry| *entry == untouched));
+    list.truncate(used);
+    (reply, answer[ROW_COUNT], list)
+}
+
+/// The example's list: two objects of class A and a char array. A class row that comes last or never, and a full list.
+#[test]
+fn class_summaries() {
+    let dump = dump();
+    let (done, cut, no_entry) = (Reply::Done as u64, Reply::Cut as u64, Reply::NoEntry as u64);
+    let (objects, array) = ([0x1000, 0, 2, 32, 1, 0], [1, 1, 1, 24, 0, 0]);
+    let both = vec![entry(objects), entry(array)];
+    assert_eq!(summaries(&dump, 3), (done, 4, both.clone()));
+    assert_eq!(summaries(&dump, 2), (done, 4, both));
+    assert_eq!(summaries(&dump, 1), (no_entry, 3, vec![entry(objects)]));
+    assert_eq!(summaries(&dump, 0), (no_entry, 1, vec![]));
+    assert_eq!(summaries(&dump[..57], 0), (cut, 1, vec![]));
+    let first = vec![entry([0x1000, 0, 1, 16, 1, 0])];
+    assert_eq!(summaries(&dump[..64], 2), (cut, 2, first));
+    let header = &dump[..38];
+    let object = b"\x40\x04\x00\x00\x10\x00";
+    let class = b"\x06\x40\x03\xFC\x00\x00\x00\x10\x00\x00\x00\x00\x00\x01\x41\x00\x00\x00\x00";
+    let late = [header, object, class].concat();
+    let before = vec![entry([0x1000, 0, 1, 0, 0, 1])];
+    assert_eq!(summaries(&late[..late.len() - 1], 2), (cut, 1, before));
+    let after = vec![entry([0x1000, 0, 1, 16, 0, 0])];
+    assert_eq!(summaries(&late, 2), (cut, 2, after));
 }

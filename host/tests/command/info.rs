@@ -1,5 +1,6 @@
 //! Tests of `phd info`.
 
+use crate::builder::Builder;
 use crate::harness::{edited, example, Folder, FIELDS, STARTS};
 use phd_host::reply;
 
@@ -25,6 +26,11 @@ a.phd: whole (reply 0)
   all objects hashed  no
   from OpenJ9         yes
   VM version          \"Test\"
+
+               bytes     share     instances  largest classes
+                  32    57.1 %             2  A
+                  24    42.8 %             1  char[]
+                  56   100.0 %             3  2 classes in all
 ";
     assert_eq!(ran.out(), report);
 }
@@ -52,6 +58,10 @@ a.phd: cut off (reply 1)
   all objects hashed  no
   from OpenJ9         yes
   VM version          \"Test\"
+
+               bytes     share     instances  largest classes
+                  16   100.0 %             1  A
+                  16   100.0 %             1  1 class in all
 ";
     assert_eq!(ran.out(), report);
 }
@@ -208,6 +218,58 @@ fn nulls_in_info_and_in_the_text() {
         let ran = folder.phd(&["text", "a.phd"]).exits(0).no_stderr();
         assert!(ran.out().ends_with(&last), "{last}{}", ran.out());
     }
+}
+
+/// The three largest classes, and the sum over all of them.
+#[test]
+fn the_largest_classes() {
+    let folder = Folder::new("info-largest");
+    let mut heap = Builder::new();
+    for (name, size, address) in [("a/A", 24, 0x100), ("a/B", 40, 0x104), ("a/C", 8, 0x108)] {
+        heap.class(address, name, size);
+    }
+    for at in 0..9 {
+        heap.object(0x1000 + 64 * at, [0x100, 0x104, 0x108][at as usize % 3]);
+    }
+    heap.array(0x2000, 0x100, 3, 300).primitive(0x3000, 6, 5);
+    folder.write("a", &heap.end());
+    let ran = folder.phd(&["info", "a"]).exits(0).no_stderr();
+    let end = "
+               bytes     share     instances  largest classes
+               1,200    83.5 %             1  a.A[]
+                 120     8.3 %             3  a.B
+                  72     5.0 %             3  a.A
+               1,436   100.0 %            11  5 classes in all
+";
+    assert!(ran.out().ends_with(end), "{}", ran.out());
+}
+
+/// Classes whose record was not read are not among the largest, and their objects are counted.
+#[test]
+fn classes_that_are_missing() {
+    let folder = Folder::new("info-missing");
+    let mut heap = Builder::new();
+    heap.object(0x1000, 0x100).object(0x1010, 0x104);
+    heap.primitive(0x1020, 1, 2);
+    folder.write("a", &heap.end());
+    let ran = folder.phd(&["info", "a"]).exits(0).no_stderr();
+    let end = "
+               bytes   known %     instances  largest classes
+                   8   100.0 %             1  char[]
+                >= 8   100.0 %             3  3 classes in all
+  Not in this sum are the bytes of 2 objects: the records of their classes were not read.
+";
+    assert!(ran.out().ends_with(end), "{}", ran.out());
+}
+
+#[test]
+fn no_classes_of_an_empty_heap() {
+    let folder = Folder::new("info-empty");
+    let mut heap = Builder::new();
+    folder.write("none", &Builder::new().end());
+    folder.write("class", &heap.class(0x100, "A", 8).end());
+    let ran = folder.phd(&["info", "none", "class"]).exits(0).no_stderr();
+    assert!(!ran.out().contains("largest"), "{}", ran.out());
 }
 
 /// Errors in the header of the example: a place, other bytes there, the reply, and the message.

@@ -1,5 +1,6 @@
 //! Tests of dumps that need larger tables than the first guess, and of dumps that need more memory or stack than there is.
 
+use crate::builder::Builder;
 use crate::harness::{example, Folder, Ran, PHD, TEXT};
 use std::fs::File;
 use std::io::Write;
@@ -221,7 +222,8 @@ fn a_small_stack() {
     let folder = Folder::new("large-stack");
     for count in [60, 1000] {
         folder.write("a", &many_records(count));
-        let run = "ulimit -s 256; \"$PHD\" text a && \"$PHD\" copy a b";
+        let run = "ulimit -s 256; \"$PHD\" classes a >/dev/null && \"$PHD\" info a >/dev/null && \
+                   \"$PHD\" text a && \"$PHD\" copy a b";
         let ran = folder.shell(run).exits(0).no_stderr();
         let rows = count + 2;
         assert!(ran.out().ends_with(&format!(" : {rows},1(0)\n")));
@@ -243,4 +245,27 @@ fn no_memory_for_the_stack() {
     assert_eq!(folder.names(), ["a"]);
     run(20_000).exits(0).no_stderr();
     assert_eq!(folder.read("out"), TEXT.as_bytes());
+    let run = |limit| folder.shell(&format!("ulimit -v {limit}; \"$PHD\" classes a"));
+    let message =
+        "phd: a: its records cannot be read: a thread with a stack of 4 MB cannot be started: ";
+    let refused = |ran: &Ran| ran.status == Some(2) && ran.err.contains(message);
+    assert!(limits.clone().any(|limit| refused(&run(limit))));
+}
+
+/// Objects of so many classes that the first list of classes is too short for them.
+#[test]
+fn many_classes() {
+    let folder = Folder::new("large-classes");
+    let mut heap = Builder::new();
+    for at in 0..20_000 {
+        heap.object(0x10_0000 + 16 * at, 4 * at);
+    }
+    folder.write("a", &heap.end());
+    let ran = folder.phd(&["classes", "a", "--top", "1"]).exits(0);
+    ran.no_stderr()
+        .stdout_has("(19,999 others, 19,999 of them with unknown bytes)\n")
+        .stdout_has("  20,000 classes\n")
+        .stdout_has("of 20,000 objects: at most 319,984 for 19,999, and without a bound for 1.");
+    let ran = folder.phd(&["info", "a"]).exits(0).no_stderr();
+    ran.stdout_has("  20,000 classes in all\n");
 }

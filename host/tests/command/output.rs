@@ -60,6 +60,7 @@ fn an_output_that_cannot_be_made() {
     for command in [
         &["copy", "a", "none/out"][..],
         &["text", "a", "-o", "none/out"],
+        &["classes", "a", "-o", "none/out"],
     ] {
         let ran = folder.phd(command).exits(2).no_stdout();
         let message = "phd: none/out: cannot be written: its folder is not there\n";
@@ -92,7 +93,14 @@ fn a_disk_that_is_full() {
     assert_eq!(folder.names(), ["a", "old"]);
     // The last output is so short that it may stay in a buffer until the end.
     folder.write("b", &example());
-    for command in ["info a", "text a", "copy a -", "--help", "copy b -"] {
+    for command in [
+        "info a",
+        "classes a",
+        "text a",
+        "copy a -",
+        "--help",
+        "copy b -",
+    ] {
         let ran = folder.shell(&format!("\"$PHD\" {command} >/dev/full"));
         let ran = ran.exits(2);
         ran.stderr_has("phd: standard output: cannot be written: No space left");
@@ -125,7 +133,7 @@ fn a_reader_that_goes_away() {
 fn no_reader_from_the_start() {
     let folder = Folder::new("output-no-reader");
     folder.write("a", &example());
-    for arguments in ["info a a", "text a", "--help"] {
+    for arguments in ["info a a", "classes a", "text a", "--help"] {
         // The left side waits until the right side has ended.
         let line = format!("{{ sleep 0.3; \"$PHD\" {arguments}; echo $? >status; }} | true");
         folder.shell(&line).no_stderr();

@@ -101,6 +101,6 @@ fn many_rows() {
         let wanted = format!("{index:>12}  0x{offset:08X}  object           0x{address:08X}  ");
         assert!(line.starts_with(&wanted), "{line}");
     }
-    let ran = folder.shell("\"$PHD\" info --rows a | head -n 20 | tail -n 1");
+    let ran = folder.shell("\"$PHD\" info --rows a | head -n 30 | tail -n 1");
     ran.exits(0).no_stderr().stdout_has("0x000000");
 }

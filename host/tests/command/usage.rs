@@ -9,7 +9,9 @@ fn help_and_version() {
     for arguments in [&["-h"][..], &["help"], &["info", "--help"], &["copy", "-h"]] {
         assert_eq!(folder.phd(arguments).exits(0).no_stderr().out(), help.out());
     }
-    help.stdout_has("phd info FILE..")
+    help.stdout_has("phd classes FILE [-o OUT]")
+        .stdout_has("--sort bytes|instances|name")
+        .stdout_has("phd info FILE..")
         .stdout_has("phd info --rows FILE..")
         .stdout_has("phd text FILE [-o OUT]")
         .stdout_has("phd copy FILE OUT")
@@ -21,32 +23,71 @@ fn help_and_version() {
     );
 }
 
+/// Command lines that are wrong, and a part of the message.
+const WRONG: [(&[&str], &str); 29] = [
+    (&[], "no command is given"),
+    (&["--"], "no command is given"),
+    (&["look", "a"], "unknown command 'look'"),
+    (&["info", "-x", "a"], "unknown option '-x'"),
+    (&["--all", "info", "a"], "unknown option '--all'"),
+    (&["info"], "info wants one FILE or more"),
+    (&["info", "-", "a", "-"], "can be read only once"),
+    (&["text"], "text wants one FILE"),
+    (&["text", "a", "b"], "text wants one FILE"),
+    (&["text", "a", "-o"], "-o wants the output's name after it"),
+    (&["text", "a", "-o", "b", "-o", "c"], "-o is given twice"),
+    (&["copy", "a"], "copy wants one FILE and one OUT"),
+    (
+        &["copy", "a", "-o", "b"],
+        "-o belongs to 'classes' and 'text' alone",
+    ),
+    (&["info", "--rows"], "info wants one FILE or more"),
+    (&["text", "--rows", "a"], "--rows belongs to 'info' alone"),
+    (
+        &["copy", "a", "b", "--rows"],
+        "--rows belongs to 'info' alone",
+    ),
+    (&["classes"], "classes wants one FILE"),
+    (&["classes", "a", "a"], "classes wants one FILE"),
+    (&["classes", "a", "--top"], "--top wants a number from 1 on"),
+    (&["classes", "a", "--top", "0"], "--top wants a number from"),
+    (
+        &["classes", "a", "--top", "-1"],
+        "--top wants a number from",
+    ),
+    (
+        &["classes", "a", "--top", "1", "--top", "2"],
+        "--top is given twice",
+    ),
+    (
+        &["classes", "a", "--sort"],
+        "--sort wants bytes, instances or name after it",
+    ),
+    (
+        &["classes", "a", "--sort", "size"],
+        "--sort wants bytes, instances or name after it",
+    ),
+    (
+        &["classes", "a", "--csv", "--json"],
+        "--csv and --json are given",
+    ),
+    (
+        &["classes", "--rows", "a"],
+        "--rows belongs to 'info' alone",
+    ),
+    (&["info", "--top", "3", "a"], "--top belongs to 'classes'"),
+    (
+        &["text", "--json", "a"],
+        "--json belongs to 'classes' alone",
+    ),
+    (&["copy", "--raw", "a", "b"], "--raw belongs to 'classes'"),
+];
+
 #[test]
 fn wrong_command_lines() {
     let folder = Folder::new("usage-wrong");
     folder.write("a", &example());
-    let wrong: [(&[&str], &str); 16] = [
-        (&[], "no command is given"),
-        (&["--"], "no command is given"),
-        (&["look", "a"], "unknown command 'look'"),
-        (&["info", "-x", "a"], "unknown option '-x'"),
-        (&["--all", "info", "a"], "unknown option '--all'"),
-        (&["info"], "info wants one FILE or more"),
-        (&["info", "-", "a", "-"], "can be read only once"),
-        (&["text"], "text wants one FILE"),
-        (&["text", "a", "b"], "text wants one FILE"),
-        (&["text", "a", "-o"], "-o wants the output's name after it"),
-        (&["text", "a", "-o", "b", "-o", "c"], "-o is given twice"),
-        (&["copy", "a"], "copy wants one FILE and one OUT"),
-        (&["copy", "a", "-o", "b"], "-o belongs to 'text' alone"),
-        (&["info", "--rows"], "info wants one FILE or more"),
-        (&["text", "--rows", "a"], "--rows belongs to 'info' alone"),
-        (
-            &["copy", "a", "b", "--rows"],
-            "--rows belongs to 'info' alone",
-        ),
-    ];
-    for (arguments, message) in wrong {
+    for (arguments, message) in WRONG {
         let ran = folder
             .phd(arguments)
             .exits(2)
@@ -104,6 +145,7 @@ fn files_that_cannot_be_read() {
     std::fs::create_dir(folder.0.join("folder")).unwrap();
     for arguments in [
         &["info", "none"][..],
+        &["classes", "none"],
         &["text", "none"],
         &["copy", "none", "out"],
     ] {
@@ -112,6 +154,7 @@ fn files_that_cannot_be_read() {
     }
     for arguments in [
         &["info", "folder"][..],
+        &["classes", "folder"],
         &["text", "folder"],
         &["copy", "folder", "out"],
     ] {

@@ -10,8 +10,8 @@ type ReadFn = fn(&[u8], &mut [u64], &mut [u64], &mut Answer) -> u64;
 pub type WriteFn = fn(&Tables, &mut [u8], &mut Answer) -> u64;
 type SizeFn = fn(&Tables, &mut Answer) -> u64;
 
-/// How many numbers of an answer a read uses, and how many any other operation.
-const READ_USES: usize = answer::UNUSED;
+/// How many numbers of an answer a read without a list uses, and how many any other operation but a read.
+const READ_USES: usize = answer::CLASSES;
 const WRITE_USES: usize = answer::PLACE + 1;
 
 /// Writing a dump or a text, and its size query, on both sides.
@@ -46,7 +46,7 @@ pub const TEXT: Operation = Operation {
 pub struct Outcome {
     pub reply: u64,
     pub answer: Answer,
-    /// The tables of rows and of references of a read.
+    /// The tables of rows and of references of a read, and the numbers of its list of class summaries if it has one.
     pub tables: Vec<Vec<u64>>,
     pub out: Vec<u8>,
 }
@@ -90,7 +90,7 @@ pub fn byte_pattern(salt: u64, length: usize) -> Vec<u8> {
 }
 
 /// Returns the answer before a call; none of its numbers is 0.
-fn answer_pattern(salt: u64) -> Answer {
+pub fn answer_pattern(salt: u64) -> Answer {
     std::array::from_fn(|at| salt.rotate_left(at as u32) | 1)
 }
 
@@ -135,8 +135,8 @@ fn query_by(query: SizeFn, tables: &OwnedTables, salt: u64) -> Outcome {
 
 /// Reads a dump on both sides, and returns the library's outcome if they agree.
 pub fn read(dump: &[u8], capacities: (usize, usize), salt: u64) -> Result<Outcome, String> {
-    let library = read_by(library::read, dump, capacities, salt);
-    let plain = catch_panic(|| read_by(plain::read, dump, capacities, salt));
+    let library = read_by(library::read_tables, dump, capacities, salt);
+    let plain = catch_panic(|| read_by(plain::read_tables, dump, capacities, salt));
     let checked = plain.and_then(|plain| {
         check_equal(&library, &plain)?;
         check_read(&library, dump, salt)
@@ -214,7 +214,7 @@ pub fn with_tables(error: &str, tables: &OwnedTables) -> String {
 }
 
 /// Calls the plain implementation, and returns a panic as an error.
-fn catch_panic(call: impl FnOnce() -> Outcome) -> Result<Outcome, String> {
+pub fn catch_panic(call: impl FnOnce() -> Outcome) -> Result<Outcome, String> {
     catch_unwind(AssertUnwindSafe(call)).map_err(|_| "plain panicked".to_string())
 }
 
@@ -266,10 +266,16 @@ fn first_difference<T: PartialEq>(left: &[T], right: &[T]) -> Option<usize> {
     Some(at.unwrap_or(left.len().min(right.len())))
 }
 
-/// Checks what is true of every read: the unused numbers of the answer are 0, nothing after the stored rows and references has
-/// changed, the dump has enough bytes for what was stored, and the offsets of the rows are right.
+/// Checks what is true of every read without a list of class summaries: the unused numbers of the answer are 0, and its tables
+/// are right.
 pub fn check_read(read: &Outcome, dump: &[u8], salt: u64) -> Result<(), String> {
     check_answer(read, READ_USES)?;
+    check_tables(read, dump, salt)
+}
+
+/// Checks what is true of every read: bytes are missing if and only if the dump is cut, nothing after the stored rows and references
+/// has changed, the dump has enough bytes for what was stored, and the offsets of the rows are right.
+pub fn check_tables(read: &Outcome, dump: &[u8], salt: u64) -> Result<(), String> {
     if (read.missing() != 0) != (read.reply == reply::CUT) {
         return Err(format!("reply {}, missing {}", read.reply, read.missing()));
     }
@@ -328,7 +334,7 @@ fn check_write(write: &Outcome, salt: u64) -> Result<(), String> {
 }
 
 /// Checks that the answer begins with the reply that was returned, and is 0 after its first `used` numbers.
-fn check_answer(outcome: &Outcome, used: usize) -> Result<(), String> {
+pub fn check_answer(outcome: &Outcome, used: usize) -> Result<(), String> {
     if outcome.answer[answer::REPLY] != outcome.reply {
         return Err("the answer has another reply".to_string());
     }

@@ -22,8 +22,11 @@ pub const READ_REPLIES: [u64; 14] = [
 ];
 
 /// What is counted, in the order in which it is printed.
-const TOPICS: [&str; 17] = [
+const TOPICS: [&str; 20] = [
     "read",
+    "read with a list",
+    "entry",
+    "full buffers",
     "write",
     "text",
     "write size",

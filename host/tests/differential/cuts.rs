@@ -14,8 +14,8 @@ use phd_host::{library, reply};
 
 const CASES: u64 = 120_000;
 
-/// The replies that are not final: longer input or larger tables may give another.
-const NOT_FINAL: [u64; 3] = [reply::CUT, reply::NO_ROW, reply::NO_REFS];
+/// The replies that are not final: longer input or larger buffers may give another.
+const NOT_FINAL: [u64; 4] = [reply::CUT, reply::NO_ROW, reply::NO_REFS, reply::NO_ENTRY];
 
 /// What a longer cut showed about the missing bytes of a shorter one: some are still missing, or the end tag is reached.
 const STILL_MISSING: i64 = 0;
@@ -59,7 +59,7 @@ impl Case<'_> {
         capacities: (usize, usize),
     ) -> Result<Outcome, String> {
         let salt = self.rng.any();
-        let read = read_by(library::read, &dump[..cut], capacities, salt);
+        let read = read_by(library::read_tables, &dump[..cut], capacities, salt);
         self.coverage.count_reply("read", read.reply);
         match check_read(&read, &dump[..cut], salt) {
             Ok(()) => Ok(read),
@@ -197,7 +197,7 @@ impl Case<'_> {
 
 /// Checks that the longer cut has everything that the shorter stored, and its reply if that is final. With the same capacity a
 /// reply of too little capacity is final too.
-fn check_prefix(less: &Outcome, more: &Outcome, same_capacity: bool) -> Result<(), String> {
+pub fn check_prefix(less: &Outcome, more: &Outcome, same_capacity: bool) -> Result<(), String> {
     let widths = [ROW_LEN, 1];
     for (at, width) in widths.into_iter().enumerate() {
         let first = less.answer[answer::ROWS + at] as usize * width;

@@ -1,6 +1,7 @@
 //! Tests the size limits, which random cases cannot reach: dumps of more than 1,073,741,824 bytes are read, written and queried.
 
 use crate::compare::{self, check_equal, Outcome, WriteFn, TEXT, WRITE};
+use crate::summaries::{self, Capacity};
 use crate::tables::*;
 use phd_host::{library, plain, reply};
 
@@ -17,7 +18,7 @@ fn dump_over_the_limit() {
         dump[..opening.len()].copy_from_slice(opening);
         for (size, reply) in [(LIMIT, within), (LIMIT + 1, reply::OVER_LIMIT)] {
             let read = |read| compare::read_by(read, &dump[..size], (ROW_LEN, 1), 7);
-            let (library, plain) = (read(library::read), read(plain::read));
+            let (library, plain) = (read(library::read_tables), read(plain::read_tables));
             assert_eq!(library.reply, reply, "{size} bytes");
             let place = match reply {
                 reply::DONE => EMPTY.len(),
@@ -26,6 +27,13 @@ fn dump_over_the_limit() {
             assert_eq!(library.place(), place, "{size} bytes");
             compare::check_read(&library, &dump[..size], 7).expect("a valid read");
             check_equal(&library, &plain).expect("both sides are equal");
+            let capacity = Capacity {
+                rows: ROW_LEN,
+                refs: 1,
+                classes: 1,
+            };
+            let with_list = summaries::read_both(&dump[..size], capacity, 7);
+            assert_eq!(with_list.expect("both sides are equal").reply, reply);
         }
     }
 }

@@ -49,7 +49,7 @@ impl<'a> Search<'a> {
         self.dump.truncate(self.start);
         self.dump.extend(bytes);
         let mut answer = [0; 16];
-        plain::read(&self.dump, &mut self.rows, &mut self.refs, &mut answer);
+        plain::read_tables(&self.dump, &mut self.rows, &mut self.refs, &mut answer);
         let row = &self.rows[self.index * ROW_LEN..][..ROW_LEN];
         answer[answer::ROWS] == self.index as u64 + 1
             && is_same_row(self.tables, self.index, row, &self.refs, &self.dump)

@@ -2,6 +2,7 @@
 
 use phd_host::answer::{self, Answer};
 use phd_host::row::{OFFSET, ROW_LEN};
+use phd_host::summary::{mark, Summary};
 use phd_host::tables::Tables;
 use phd_host::{library, reply};
 use std::fs::File;
@@ -32,6 +33,23 @@ fn line(call: &str, reply: u64, answer: &Answer) -> String {
     format!("{call} {reply} {}\n", numbers.join(" "))
 }
 
+/// Formats a class summary as the C program does.
+fn class_line(entry: &Summary) -> String {
+    let name = match entry.mark {
+        mark::CLASS_WORD => "class",
+        _ => "type",
+    };
+    let Summary {
+        class,
+        mark,
+        instances,
+        bytes,
+        refs,
+        waiting,
+    } = entry;
+    format!("{name} {class} {mark} {instances} {bytes} {refs} {waiting}\n")
+}
+
 /// Returns what the C program must print for a dump.
 fn expected(dump: &[u8]) -> String {
     let mut text = String::new();
@@ -41,8 +59,16 @@ fn expected(dump: &[u8]) -> String {
     }
     let (mut rows, mut refs) = (vec![0; 1 << 16], vec![0; 1 << 16]);
     let mut answer = [0; 16];
-    let reply = library::read(dump, &mut rows, &mut refs, &mut answer);
-    text += &line("read", reply, &answer);
+    let mut list = vec![Summary::default(); library::max_rows(dump.len())];
+    for call in ["read", "read with a short list"] {
+        let reply = library::read(dump, &mut rows, &mut refs, &mut list, &mut answer);
+        text += &line(call, reply, &answer);
+        list.truncate(answer[answer::CLASSES] as usize);
+        text += &list.iter().map(class_line).collect::<String>();
+        list.pop();
+    }
+    let reply = library::read_tables(dump, &mut rows, &mut refs, &mut answer);
+    text += &line("read tables", reply, &answer);
     let tables = Tables {
         header: answer::header(&answer),
         rows: &rows[..answer[answer::ROWS] as usize * ROW_LEN],
@@ -82,6 +108,9 @@ fn a_c_program_gets_the_same() {
             printed.contains(&format!("\nread {reply} {reply} ")),
             "{name}: {printed}"
         );
+        let no_entry = reply::NO_ENTRY;
+        let short = format!("\nread with a short list {no_entry} {no_entry} ");
+        assert!(printed.contains(&short), "{name}: {printed}");
         assert!(
             printed.starts_with("max of 30: 0 0\nmax of 31: 0 0\nmax of 32: 0 1\nmax of 33: 1 2\n"),
             "{name}: {printed}"

@@ -2,23 +2,20 @@
 use borrow.Author.Needs.{needs}
 use native.Mathlib.Omega.{arith}
 use borrow.Author.Tests.{lt-ltb, le-ltb}
-use Rattle.class_index.specs.ClassIndex.{hash, first-bucket}
+use Rattle.class_index.specs.ClassIndex.{first-bucket}
 use Rattle.class_index.proofs.first_bucket.Statement.{statement}
 use Rattle.class_index.proofs.first_bucket.Tie as tie
 
-add-folded : tie.Need-add-folded
-add-folded c = search needs
-
-mul-hash : tie.Need-mul-hash
-mul-hash c = search needs
+hash-requires : tie.Need-hash-requires
+hash-requires c κs = search needs
 
 returns : tie.Need-returns
-unfolding first-bucket hash
-returns c = (rw (lt-ltb _ _ (c .if1 .taken)), omega arith)
+unfolding first-bucket
+returns c = let h = c .before .hash .ensures in (rw (lt-ltb _ _ (c .if1 .taken), h .0), omega (arith, h .1))
 
 returns-2 : tie.Need-returns-2
-unfolding first-bucket hash
-returns-2 c = (rw (le-ltb _ _ (c .if1 .left)), omega arith)
+unfolding first-bucket
+returns-2 c = let h = c .before .hash .ensures in (rw (le-ltb _ _ (c .if1 .left), h .0), omega (arith, h .1))
 
 pub first-bucket-spec : {M : Type 1} → statement M
-first-bucket-spec = tie.close (tie.spec add-folded mul-hash returns returns-2)
+first-bucket-spec = tie.close (tie.spec hash-requires returns returns-2)

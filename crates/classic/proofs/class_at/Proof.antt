@@ -4,7 +4,7 @@ use mathlib.Core.Path.{sym, _∙_}
 use Prim.Native.Nat.{_-_}
 use native.Mathlib.Omega.{arith}
 use Rattle.table.specs.Table.{row-count}
-use Rattle.classic.specs.ClassicText.{is-class-at}
+use Rattle.table.specs.RowBytes.{is-class-at}
 use Rattle.table.specs.Search.{SearchInvariant, search-start, search-found, search-next, search-done}
 use Rattle.classic.proofs.ClassRowTests.{is-class-at-test}
 use Rattle.classic.proofs.class_at.Statement.{statement}

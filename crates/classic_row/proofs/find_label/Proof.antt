@@ -6,7 +6,8 @@ use borrow.Author.Needs.{needs}
 use borrow.Author.Tests.{eq-eqb, ne-eqb}
 use Rattle.table.specs.Rows.{is-kind, rows-of}
 use Rattle.table.specs.Search.{found-in-table, found-row-at}
-use Rattle.classic.specs.ClassicText.{class-at, is-not-found, class-missing, naming-class, bytes-of}
+use Rattle.classic.specs.ClassicText.{class-missing}
+use Rattle.table.specs.RowBytes.{class-at, is-not-found, naming-class, bytes-of}
 use Rattle.classic_row.specs.RowText.{type-label, type-label-or-18}
 use Rattle.classic_row.proofs.RowTextLaws.{class-missing-by-search}
 use Rattle.classic_row.proofs.find_label.Statement.{statement}

@@ -1,4 +1,4 @@
--- `read` satisfies its contract: it checks the size limit, reads the header, and then the records.
+-- `read_tables` satisfies its contract: it checks the size limit, reads the header, and then the records.
 use borrow.Author.Needs.{needs}
 use mathlib.Core.Path.{_≡_, refl, sym, ap, _∙_}
 use Prim.Native.Nat.{_≤_}
@@ -12,8 +12,8 @@ use Rattle.table.specs.Buffer.{overwrite}
 use Rattle.phd_read.specs.ReadContract.{read-answer}
 use Rattle.reader.specs.Reader.{no-records as no-records-of}
 use Rattle.reader.specs.Steps.{read-over-limit, read-header-whole, read-header-stops}
-use Rattle.phd_read.proofs.read.Statement.{statement}
-use Rattle.phd_read.proofs.read.Tie as tie
+use Rattle.phd_read.proofs.read_tables.Statement.{statement}
+use Rattle.phd_read.proofs.read_tables.Tie as tie
 
 -- The dump is within the size limit.
 within : (c : tie.Else1) → length (c .before .before .before .before .args .dump .now) ≤ limit
@@ -81,8 +81,8 @@ returns-3 c =
     let a = d .before .before .before .before .before .before .before .args in
     rw (read-header-stops phd (a .dump .now) (capacity (length (a .rows .now)) (length (a .refs .now))) _ (within (d .before .before .before)) (refused d), c .no-records2 .ensures, c .before .before .reply-of .ensures, c .before .missing-of .ensures) (refl, (refl, refl))
 
-pub read-spec : {M : Type 1} → statement M
-read-spec =
+pub read-tables-spec : {M : Type 1} → statement M
+read-tables-spec =
     tie.close
     (tie.spec
     no-records-requires
