@@ -168,9 +168,8 @@ enum phd_reply {
 /* Reads a dump: stores its rows at the start of `rows`, PHD_ROW_LEN numbers each, its references at the start of `refs`,
  * and their class summaries at the start of `classes`, which has classes_len entries. Whatever the reply, all records
  * before its place are stored completely, the entries in use are the summaries of the rows that are stored, wherever the
- * class rows are among them, and nothing else in the buffers has changed. Pass a list with some entries to spare: while it
- * is full, each record is decoded twice, which takes about three times as long. It takes up to 530,000 bytes of stack, for a
- * table in which it finds entries: a thread that calls it needs at least 640 KiB of it, as for phd_text below. */
+ * class rows are among them, and nothing else in the buffers has changed. It takes up to 530,000 bytes of stack, for a table
+ * in which it finds entries: a thread that calls it needs at least 640 KiB of it, as for phd_text below. */
 uint64_t phd_read(const uint8_t *dump, size_t dump_len, uint64_t *rows, size_t rows_len, uint64_t *refs, size_t refs_len,
                   struct phd_class *classes, size_t classes_len, uint64_t answer[16]);
 

@@ -11,8 +11,7 @@ SAME_HASH = 2**34 - 4
 
 def hash_of(address):
     """Returns the hash of an address, whose upper bits are its bucket."""
-    product = (address % 2**32 + address // 2**32) % 2**32 * 0x9E3779B1
-    return (product // 2**32 + product) % 2**32 * 0xC2B2AE35 % 2**32
+    return (address // 4 + address // 2**34) % 2**32 * 0x9E3779B1 % 2**32
 
 
 def sharing(count):

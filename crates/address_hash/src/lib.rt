@@ -7,7 +7,6 @@ ghost use Rattle.address_hash.specs.AddressHash.{hash};
 pub fn hash(address: u64) -> u64
     ensures { (result ≡ hash address) × (result < 0x1_0000_0000) }
 {
-    let folded = (address % 0x1_0000_0000 + address / 0x1_0000_0000) % 0x1_0000_0000;
-    let product = folded * 0x9E37_79B1;
-    (product / 0x1_0000_0000 + product) % 0x1_0000_0000 * 0xC2B2_AE35 % 0x1_0000_0000
+    let folded = (address / 4 + address / 0x4_0000_0000) % 0x1_0000_0000;
+    folded * 0x9E37_79B1 % 0x1_0000_0000
 }

@@ -8,11 +8,11 @@ abbrev addresses : List ℕ
 addresses = 0x7_0000_0000 ∷ 0x7_0000_0100 ∷ 0x7_0000_0200 ∷ 0x7_0000_0300 ∷ 0x7_0000_0400 ∷ 0x7_0000_0500 ∷ 0x7_0000_0600 ∷ 0x7_0000_0700 ∷ []
 
 -- In a small class index.
-pub small_buckets : map (first_bucket 16448) addresses ≡ (8170 ∷ 15260 ∷ 5966 ∷ 13055 ∷ 16222 ∷ 6928 ∷ 14017 ∷ 4723 ∷ [])
+pub small_buckets : map (first_bucket 16448) addresses ≡ (6029 ∷ 15109 ∷ 7805 ∷ 500 ∷ 9580 ∷ 2275 ∷ 11355 ∷ 4051 ∷ [])
 unfolding hash first_bucket
 small_buckets = refl
 
 -- In a large one.
-pub large_buckets : map (first_bucket 131136) addresses ≡ (65364 ∷ 122082 ∷ 47729 ∷ 104447 ∷ 129779 ∷ 55425 ∷ 112143 ∷ 37790 ∷ [])
+pub large_buckets : map (first_bucket 131136) addresses ≡ (48238 ∷ 120875 ∷ 62440 ∷ 4005 ∷ 76642 ∷ 18207 ∷ 90844 ∷ 32408 ∷ [])
 unfolding hash first_bucket
 large_buckets = refl

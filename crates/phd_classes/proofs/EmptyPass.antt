@@ -2,39 +2,33 @@
 -- Assumes nothing.
 use mathlib.Core.Path.{◌≡◌, refl, sym, ap, ◌∙◌}
 use mathlib.Core.Logic.{◌⊎◌, inl, inr}
-use Prim.Native.Nat.{ℕ, zero, suc, ◌+◌, ◌-◌, ◌≤◌, ◌<◌}
+use Prim.Native.Nat.{ℕ, zero, suc, ◌+◌, ◌-◌, ◌*◌, ◌≤◌, ◌<◌}
 use native.Mathlib.Omega.{arith}
 use mathlib.Core.List.{List, []}
-use lib.ListN.{drop, replicate}
+use lib.ListN.{get_or, drop, replicate}
 use lib.Seq.{drop-drop}
 use Rattle.summaries.specs.declared.Summary.{Summary}
 use Rattle.summaries.specs.Summaries.{keys_from, keys, summaries}
 use Rattle.summaries.specs.ClassRowsLast.{others, class_rows, entries_after}
-use Rattle.summary_index.specs.SummaryIndex.{entry_of, bucket_at, seek_in_list}
 use Rattle.summary_pass.specs.PassState.{IndexState, PassHolds, ListHolds}
 use Rattle.summary_pass.specs.declared.Pass.{Pass}
 use Rattle.phd_classes.specs.ReadState.{empty_pass}
 
--- A bucket of zeros, or after the end, leads to the first entry.
-zero_entry : (n i : ℕ) → entry_of (bucket_at (replicate n 0) i) ≡ 0
-zero_entry zero i = refl
-zero_entry (suc n) zero = refl
-zero_entry (suc n) (suc i) = zero_entry n i
-
-zeros_in_list : (n i : ℕ) → entry_of (bucket_at (replicate n 0) i) ≤ 0
-zeros_in_list n i = let z = zero_entry n i in omega arith
+zero_at : (n i : ℕ) → get_or (replicate {A = ℕ} n 0) i 0 ≡ 0
+zero_at zero i = refl
+zero_at (suc n) zero = refl
+zero_at (suc n) (suc i) = zero_at n i
 
 -- An index without keys, of buckets that are all zeros.
-empty_index : (p : Pass) → p.used ≡ 0 → IndexState [] (replicate 65600 0) p
+empty_index : (p : Pass) → p.used ≡ 0 → IndexState [] (replicate 65664 0) p
 empty_index p u = record {
   used = u;
-  index = record {
-    in_list = zeros_in_list 65600;
-    before = λ class i l. absurd (let z = seek_in_list (replicate 65600 0) (zeros_in_list 65600) class in omega arith);
-  };
+  index = record { sound = λ b l. absurd (let z = zero_at 65664 (2 * b + 1) in omega arith); finds = λ e i l. absurd (omega arith) };
+  last = λ l. absurd (omega arith);
+  once = λ i j l. absurd (omega arith);
 }
 
-pub empty_holds : (rows : List ℕ) → PassHolds rows (replicate 65600 0) empty_pass
+pub empty_holds : (rows : List ℕ) → PassHolds rows (replicate 65664 0) empty_pass
 unfolding keys keys_from
 empty_holds rows = record {
   on = refl;

@@ -72,10 +72,10 @@ module _ (dump rows₀ refs₀ buckets₀ : List ℕ) (classes₀ : List Summary
     pub status : Status s rows refs
 
   -- The first stage.
-  pub stage_start : buckets₀ ≡ replicate 65600 0 → (s : Progress) → Begun dump (length classes₀) s → Stage s rows₀ refs₀ buckets₀ classes₀
+  pub stage_start : buckets₀ ≡ replicate 65664 0 → (s : Progress) → Begun dump (length classes₀) s → Stage s rows₀ refs₀ buckets₀ classes₀
   stage_start zeros s b = by b
     where
-      idle : {t : Progress} → t.len ≡ length classes₀ → t.pass ≡ empty_pass → Status t rows₀ refs₀ → buckets₀ ≡ replicate 65600 0 → Stage t rows₀ refs₀ buckets₀ classes₀
+      idle : {t : Progress} → t.len ≡ length classes₀ → t.pass ≡ empty_pass → Status t rows₀ refs₀ → buckets₀ ≡ replicate 65664 0 → Stage t rows₀ refs₀ buckets₀ classes₀
       idle l e status z = record {
         rows_length = refl;
         refs_length = refl;

@@ -1,7 +1,7 @@
 -- Whether a key is among those of the first rows: row by row, by its place among the keys, and by what one more row adds.
 -- Assumes nothing.
 use Rattle.std.proofs.Math.Path.{◌≡◌, refl, sym}
-use Rattle.std.proofs.Common.{ap, ◌∙◌, add-one, take-suc, take-add}
+use Rattle.std.proofs.Common.{◌∙◌, add-one, take-suc, take-add}
 use Rattle.std.specs.Prelude.{ℕ, suc, ◌+◌, ◌-◌, ◌≤◌, ◌<◌, Bool, ◌&&◌, ◌||◌, eqb, take, drop}
 use native.Mathlib.Omega.{arith}
 use Rattle.std.proofs.Math.Bool.{true, false, cond}
@@ -14,10 +14,10 @@ use Rattle.table.specs.Rows.{is_kind, row_at, rows_of, zero_row, length_rows, nt
 use Rattle.table.specs.declared.Row.{Row}
 use Rattle.summaries.specs.Summaries.{Key, same_key, key_of, has, with_key, keyed, keys_from, keys}
 use Rattle.summaries.specs.SummaryKeys.{same_turn, mem, with_other, keyed_has}
-use Rattle.summary_index.specs.SummaryIndex.{make_key, find, IndexHolds}
-use Rattle.summary_index.specs.EnterKey.{seek_none}
+use Rattle.table.specs.declared.Search.TheVariants.{At, NotFound}
+use Rattle.summary_index.specs.SummaryIndex.{make_key, find, IndexHolds, found, not_found}
 use Rattle.summary_pass.specs.PassState.{place_of}
-use Rattle.summary_pass.specs.KeyPlaces.{place_key, with_same, with_new}
+use Rattle.summary_pass.specs.KeyPlaces.{place_key, place_before, with_same, with_new}
 use Rattle.phd_classes.specs.ReadState.{among, key_among}
 
 -- ---- one row
@@ -139,11 +139,18 @@ module _ (k : Key) where
       by true = refl
       by false = refl
 
--- A key whose class word or primitive type has no bucket is not in use.
-pub no_bucket_not_in_use : {ks : List Key} {buckets : List ℕ} → IndexHolds ks buckets → (k : Key) → find buckets k.class ≡ 0 → in_use k ks ≡ false
-no_bucket_not_in_use {ks} {buckets} w k e =
-    let at : place_of k ks < length ks → ⊥ = λ l. w.before k.class (place_of k ks) (rw (seek_none buckets k.class (length ks) e) l) (ap (λ (j : Key). j.class) (place_key k ks l)) in
-    le-ltb (place_of k ks) (length ks) (omega arith)
+-- A key that the index finds is in use; if the index is complete, one that it does not find is not.
+module _ {ks : List Key} {buckets : List ℕ} {complete : Bool} (w : IndexHolds ks buckets complete) (k : Key) where
+  pub found_in_use : (i : ℕ) → find buckets k ≡ At i → in_use k ks ≡ true
+  found_in_use i e =
+      let f = found w k i e in
+      let before : i < place_of k ks → ⊥ = λ l. place_before k ks i l f.1 in
+      lt-ltb (place_of k ks) (length ks) (omega (arith, f.0))
+
+  pub not_found_not_in_use : complete ≡ true → find buckets k ≡ NotFound → in_use k ks ≡ false
+  not_found_not_in_use c e =
+      let at : place_of k ks < length ks → ⊥ = λ l. not_found w k c e (place_of k ks) l (place_key k ks l) in
+      le-ltb (place_of k ks) (length ks) (omega arith)
 
 -- ---- what one more row adds
 

@@ -68,7 +68,7 @@ module _ {rows buckets : List ℕ} {p : Pass} (w : PassHolds rows buckets p) whe
     end_few = let a = w.class_rows_in in let b = w.counted_few in omega arith;
     counted_few = w.counted_few;
     counting = λ e. absurd (let z : ◌≡◌ {A = ℕ} 0 1 = cc in omega arith);
-    index = record { used = w.index.used; index = w.index.index };
+    index = record { used = w.index.used; index = w.index.index; last = w.index.last; once = w.index.once };
     small = λ i l m. w.small i l (inr (by i m));
     class_rows = w.class_rows;
     class_rows_in = w.class_rows_in;
@@ -109,7 +109,7 @@ module _ {rows buckets : List ℕ} (rows' : List ℕ) {p : Pass} (w : PassHolds 
     end_few = end_few;
     counted_few = w.counted_few;
     counting = λ e. w.counting counting;
-    index = rw same (record { used = w.index.used; index = w.index.index });
+    index = rw same (record { used = w.index.used; index = w.index.index; last = w.index.last; once = w.index.once });
     small = λ i l m. small i (by i m);
     class_rows = λ i l e. w.class_rows i l (rw (← nth_same i l) e);
     class_rows_in = w.class_rows_in;

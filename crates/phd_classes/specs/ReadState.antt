@@ -24,7 +24,7 @@ use Rattle.classes_read.specs.ClassesRead.{classes_result, classes_answer}
 
 -- The pass before the first row.
 abbrev pub empty_pass : Pass
-empty_pass = record { on = false; sizing = false; row = 0; end = 0; counted = 0; used = 0; lowest = 0; above = 0 }
+empty_pass = record { on = false; sizing = false; row = 0; end = 0; counted = 0; used = 0; complete = true; last = 0; class = 0; mark = 0; lowest = 0; above = 0 }
 
 -- A pass that counts the rows up to `end`, and the pass over the class rows.
 abbrev pub counting_pass : Pass → ℕ → Pass
@@ -35,6 +35,10 @@ counting_pass p end = record {
   end = end;
   counted = p.counted;
   used = p.used;
+  complete = p.complete;
+  last = p.last;
+  class = p.class;
+  mark = p.mark;
   lowest = p.lowest;
   above = p.above;
 }
@@ -47,6 +51,10 @@ sizing_pass p = record {
   end = p.above;
   counted = p.counted;
   used = p.used;
+  complete = p.complete;
+  last = p.last;
+  class = p.class;
+  mark = p.mark;
   lowest = p.lowest;
   above = p.above;
 }

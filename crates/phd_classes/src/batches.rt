@@ -1,5 +1,5 @@
 // Reads the next batch of records, or starts the pass over the class rows.
-ghost use Rattle.std.specs.Prelude.{◌≡◌, ◌≤◌, ◌<◌, ltb, length};
+ghost use Rattle.std.specs.Prelude.{◌≡◌, ◌⊎◌, ◌≤◌, ◌<◌, ltb, length};
 ghost use Rattle.table.specs.Table.{row_count};
 ghost use Rattle.table.specs.Rows.{row_at};
 ghost use Rattle.summaries.specs.Summaries.{has};
@@ -15,14 +15,10 @@ use phd_read::records::Cursor;
 use phd_record::Next;
 use reader::StepResult;
 use summary_pass::Pass;
+use table::Search;
 
-// How many records a batch has, at most: few, so that their rows are still in the processor's first cache when they are counted; or
-// many, if so many entries are in use that entries and rows drive each other out of the second cache.
-const SMALL_BATCH: usize = 256;
-
-const LARGE_BATCH: usize = 0x2000;
-
-const MANY_ENTRIES: usize = 0x2000;
+// How many records a batch has, at most.
+const BATCH: usize = 256;
 
 // Checks whether row i has a key. A class row has none.
 fn row_has_key(rows: &[u64], i: usize, class: u64, mark: u64) -> bool
@@ -54,22 +50,20 @@ fn key_among_rows(rows: &[u64], n: usize, class: u64, mark: u64) -> bool
     false
 }
 
-// Checks whether an entry in use has a key: the row that the summary index names has it, or another.
+// Checks whether an entry in use has a key.
 fn has_entry(rows: &[u64], buckets: &[u64], p: Pass, class: u64, mark: u64) -> bool
     requires { PassHolds rows.now buckets.now p }
     ensures { result ≡ ltb (place_of (make_key class mark) (keys_counted rows.now p)) (length (keys_counted rows.now p)) }
 {
-    let bucket = summary_index::find(buckets, class);
-    if bucket == 0 {
-        return false;
-    }
-    let above = summary_index::row_of(bucket);
-    if (0 < above) & (above <= p.counted) {
-        if row_has_key(rows, above - 1, class, mark) {
-            return true;
+    match summary_index::find(buckets, class, mark) {
+        Search::At(_) => true,
+        Search::NotFound => {
+            if p.complete {
+                return false;
+            }
+            key_among_rows(rows, p.counted, class, mark)
         }
     }
-    key_among_rows(rows, p.counted, class, mark)
 }
 
 // Checks whether the next record fits both tables and needs a new entry.
@@ -120,6 +114,10 @@ fn count_up_to(p: Pass, end: usize) -> Pass
         end: end,
         counted: p.counted,
         used: p.used,
+        complete: p.complete,
+        last: p.last,
+        class: p.class,
+        mark: p.mark,
         lowest: p.lowest,
         above: p.above,
     }
@@ -136,6 +134,10 @@ fn size_by_classes(p: Pass) -> Pass
         end: p.above,
         counted: p.counted,
         used: p.used,
+        complete: p.complete,
+        last: p.last,
+        class: p.class,
+        mark: p.mark,
         lowest: p.lowest,
         above: p.above,
     }
@@ -195,18 +197,14 @@ fn read_batch(dump: &[u8], rows: &mut [u64], refs: &mut [u64], s: Progress, upto
     }
 }
 
-// Returns how many records the next batch has, at most, with so many entries in use and so many left.
-fn batch_len(used: usize, left: usize) -> usize
-    ensures { (result ≤ left) × (result ≤ 0x2000) × (0 < left → 0 < result) }
+// Returns the lesser of two numbers.
+fn min(a: usize, b: usize) -> usize
+    ensures { (result ≤ a) × (result ≤ b) × ((result ≡ a) ⊎ (result ≡ b)) }
 {
-    let mut most = SMALL_BATCH;
-    if MANY_ENTRIES <= used {
-        most = LARGE_BATCH;
+    if a < b {
+        return a;
     }
-    if left < most {
-        return left;
-    }
-    most
+    b
 }
 
 // Reads the next batch, or ends the reading with reply 20 if no entry is left for the next record; after the last batch, starts the pass
@@ -227,13 +225,7 @@ pub fn advance(
         return end(s, false, k, size_by_classes(p), s.reply, s.place, s.missing);
     }
     if p.used < s.len {
-        return read_batch(
-            dump,
-            rows,
-            refs,
-            s,
-            k.rows + batch_len(p.used, s.len - p.used),
-        );
+        return read_batch(dump, rows, refs, s, k.rows + min(s.len - p.used, BATCH));
     }
     let header = s.header;
     if needs_entry(dump, header, rows, refs, buckets, p, k) {

@@ -46,7 +46,7 @@ pub fn read_with(
     buckets: &mut [u64],
     classes: &mut [Summary],
 ) -> Progress
-    requires { buckets.old ≡ replicate 65600 0 }
+    requires { buckets.old ≡ replicate 65664 0 }
     ensures { Finished dump.now rows.old refs.old classes.old result rows.new refs.new classes.new }
 {
     let mut s = progress::begin(dump, classes.len());

@@ -34,6 +34,10 @@ fn first_pass() -> Pass
         end: 0,
         counted: 0,
         used: 0,
+        complete: true,
+        last: 0,
+        class: 0,
+        mark: 0,
         lowest: 0,
         above: 0,
     }

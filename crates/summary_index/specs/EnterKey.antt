@@ -1,180 +1,154 @@
--- Entering an entry in an empty bucket keeps the index right.
+-- Entering a key in an empty bucket keeps the index right, and the key is found then.
 -- Assumes nothing; no definition of a result uses it.
-use Rattle.std.specs.Prelude.{◌≡◌, ◌⊎◌, Bool, List, [], ◌∷◌, ◌++◌, eqb, length, set}
+use Rattle.std.specs.Prelude.{◌≡◌, ◌⊎◌, Bool, ◌&&◌, List, [], ◌∷◌, ◌++◌, eqb, set}
 use Rattle.std.proofs.Math.Path.{refl}
-use Rattle.std.proofs.Common.{sym, ap, ◌∙◌, inl, inr, arith, length-append, get_or-set_same, get_or-set_other}
-use Prim.Native.Nat.{ℕ, zero, suc, ◌+◌, ◌≤◌, ◌<◌}
+use Rattle.std.proofs.Common.{◌∙◌, inl, inr, length-set, length-append, get_or-set_same, get_or-set_other, eq-eqb, ne_eqb, eqb-true}
+use Prim.Native.Nat.{ℕ, zero, suc, ◌+◌, ◌-◌, ◌*◌, ◌/◌, ◌%◌, ◌≤◌, ◌<◌}
 use Rattle.std.proofs.Math.Decide.{dec_lt}
+use native.Mathlib.Omega.{arith}
 use Rattle.std.proofs.Math.Bool.{true, false, cond}
-use Rattle.std.proofs.Math.ListN.{get_or-append}
+use Rattle.std.proofs.Math.ListN.{length, get_or-append}
 use Rattle.std.proofs.lemmas.List.{get_or_at}
-use borrow.Author.Tests.{eq-eqb, ne_eqb, eqb-true, eqb-false}
+use Rattle.std.proofs.lemmas.Bool.{eqb-false}
+use Rattle.decode.specs.Values.{and_left}
+use Rattle.table.specs.declared.Search.TheVariants.{At, NotFound}
 use Rattle.summaries.specs.Summaries.{Key}
-use Rattle.summary_index.specs.SummaryIndex.{make_key, key_at, first_bucket, check, check_of, entry_of, anywhere, bucket_at, find_from, find, seek, IndexHolds, seek_in_list}
+use Rattle.summary_index.specs.SummaryIndex.{make_key, first_bucket, word_at, slot_at, bucket_has, find_from, find, key_at, IndexHolds, has_means}
 
--- `enter`: of any index of keys of which the next, number i, has this class word or primitive type, the buckets afterwards are an index
--- with that key too.
-abbrev pub EntersKey : (class i : ℕ) → (before after : List ℕ) → Type 0
-EntersKey class i before after =
-    (mark : ℕ) (ks : List Key) → IndexHolds ks before → i ≡ length ks → IndexHolds (ks ++ (make_key class mark ∷ [])) after
-
--- A bucket that is not empty, has the check, and leads to entry i or one before it.
-pub record LeadsTo (c i bucket : ℕ) : Type 0 where
-  pub full : bucket ≡ 0 → ⊥
-  pub checked : check_of bucket ≡ c
-  pub entry : entry_of bucket ≤ i
+-- `enter`: of any index of keys of which the next, number i, is k, and which has not k, the buckets afterwards are an index with k too. It
+-- stays complete if the key was entered.
+abbrev pub EntersKey : Key → ℕ → (before after : List ℕ) → Bool → Type 0
+EntersKey k i before after entered =
+    (ks : List Key) (complete : Bool) → IndexHolds ks before complete → i ≡ length ks → ((j : ℕ) → j < length ks → key_at ks j ≡ k → ⊥)
+    → IndexHolds (ks ++ (k ∷ [])) after (complete && entered)
 
 -- Two numbers are equal or not.
-pub equal_or_not : (c b : ℕ) → (c ≡ b) ⊎ (c ≡ b → ⊥)
+equal_or_not : (c b : ℕ) → (c ≡ b) ⊎ (c ≡ b → ⊥)
 equal_or_not c b = go (eqb c b) refl
   where
     go : (z : Bool) → eqb c b ≡ z → (c ≡ b) ⊎ (c ≡ b → ⊥)
     go true e = inl (eqb-true _ _ e)
     go false e = inr (eqb-false _ _ e)
 
--- ---- where a search leads
-
-module _ (buckets : List ℕ) (class : ℕ) where
-  pub seek_none : (n : ℕ) → find buckets class ≡ 0 → seek buckets n class ≡ n
-  unfolding seek
-  seek_none n e = rw (eq-eqb (find buckets class) 0 e)
-
-  seek_some : (n : ℕ) → (find buckets class ≡ 0 → ⊥) → seek buckets n class ≡ entry_of (find buckets class)
-  unfolding seek
-  seek_some n e = rw (ne_eqb (find buckets class) 0 e)
-
 -- ---- the list of keys with one more
 
-module _ (class mark : ℕ) (ks : List Key) where
-  abbrev more : List Key
-  more = ks ++ (make_key class mark ∷ [])
+module _ (ks : List Key) (k : Key) where
+  key_before : (i : ℕ) → i < length ks → key_at (ks ++ (k ∷ [])) i ≡ key_at ks i
+  key_before i l = get_or-append ks (k ∷ []) (make_key 0 0) i l
 
-  key_before : (i : ℕ) → i < length ks → key_at more i ≡ key_at ks i
-  key_before i l = get_or-append ks (make_key class mark ∷ []) (make_key 0 0) i l
+  key_last : key_at (ks ++ (k ∷ [])) (length ks) ≡ k
+  key_last = get_or_at ks k [] (make_key 0 0) (length ks) refl
 
-  key_last : key_at more (length ks) ≡ make_key class mark
-  key_last = get_or_at ks (make_key class mark) [] (make_key 0 0) (length ks) refl
+  length_more : length (ks ++ (k ∷ [])) ≡ length ks + 1
+  length_more = length-append ks (k ∷ [])
 
-  length_more : length more ≡ length ks + 1
-  length_more = length-append ks (make_key class mark ∷ [])
+-- ---- nothing entered
 
-  -- An old key, or the new one.
-  by_key : (d i : ℕ) → i < length ks + 1 → (i < length ks → (key_at ks i).class ≡ d → ⊥) → (class ≡ d → i ≡ length ks → ⊥) → (key_at more i).class ≡ d → ⊥
-  by_key d i l old last e = by (dec_lt i (length ks))
-    where
-      by : Dec (i < length ks) → ⊥
-      by (yes m) = old m (sym (ap (λ (k : Key). k.class) (key_before i m)) ∙ e)
-      by (no m) =
-          let q : i ≡ length ks = omega arith in
-          last (sym (ap (λ (k : Key). k.class) (ap (key_at more) q ∙ key_last)) ∙ e) q
+none_entered : (complete : Bool) → complete && false ≡ true → ⊥
+none_entered true e = let z : ◌≡◌ {A = ℕ} 0 1 = cc in omega arith
+none_entered false e = let z : ◌≡◌ {A = ℕ} 0 1 = cc in omega arith
 
--- ---- nothing entered: the search ends before an empty bucket
-
-pub nothing_entered : (class i : ℕ) (buckets : List ℕ) → (find buckets class ≡ 0 → ⊥) → EntersKey class i buckets buckets
-nothing_entered class i buckets full mark ks w is = record {
-  in_list = λ b. rw (length_more class mark ks) (let l = w.in_list b in omega arith);
-  before = λ d j l. by d j (equal_or_not (find buckets d) 0) (rw (length_more class mark ks) at l);
+pub nothing_entered : (k : Key) (i : ℕ) (buckets : List ℕ) → EntersKey k i buckets buckets false
+nothing_entered k i buckets ks complete w is new = record {
+  sound = λ b l.
+      let s = w.sound b l in
+      (rw (length_more ks k) (omega (arith, s.0)), key_before ks k _ s.0 ∙ s.1);
+  finds = λ e. absurd (none_entered complete e);
 }
-  where
-    by : (d j : ℕ) → (find buckets d ≡ 0) ⊎ (find buckets d ≡ 0 → ⊥) → j < seek buckets (length ks + 1) d → (key_at (more class mark ks) j).class ≡ d → ⊥
-    by d j (inl z) l =
-        by_key class mark ks d j (rw (seek_none buckets d (length ks + 1) z) at l)
-        (λ m. w.before d j (rw (seek_none buckets d (length ks) z) m))
-        (λ c q. full (ap (find buckets) c ∙ z))
-    by d j (inr z) l =
-        let m : j < seek buckets (length ks) d = rw (seek_some buckets d (length ks) z) (rw (seek_some buckets d (length ks + 1) z) at l) in
-        let n = seek_in_list buckets w.in_list d in
-        by_key class mark ks d j (omega arith) (λ o. w.before d j m) (λ c q. omega arith)
 
 -- ---- entered in bucket b
 
-module _ (buckets : List ℕ) (b new : ℕ) (empty : bucket_at buckets b ≡ 0) (inside : b < length buckets) where
+module _ (k : Key) (i : ℕ) (mark : k.mark < 2) (buckets : List ℕ) (b : ℕ) (empty : slot_at buckets b ≡ 0) (inside : 2 * b + 1 < length buckets) where
+  abbrev slot : ℕ
+  slot = 2 * i + k.mark + 1
+
   abbrev pub entered : List ℕ
-  entered = set buckets b new
+  entered = set (set buckets (2 * b) k.class) (2 * b + 1) slot
 
-  bucket_here : bucket_at entered b ≡ new
-  bucket_here = get_or-set_same buckets b new anywhere inside
+  slot_here : slot_at entered b ≡ slot
+  slot_here = get_or-set_same (set buckets (2 * b) k.class) (2 * b + 1) slot 0 (rw (length-set buckets (2 * b) k.class) inside)
 
-  bucket_other : (c : ℕ) → (c ≡ b → ⊥) → bucket_at entered c ≡ bucket_at buckets c
-  bucket_other c other = get_or-set_other buckets b c new anywhere other
+  word_here : word_at entered b ≡ k.class
+  word_here = get_or-set_other (set buckets (2 * b) k.class) (2 * b + 1) (2 * b) slot 0 (λ e. omega arith) ∙ get_or-set_same buckets (2 * b) k.class 0 (omega arith)
 
-  -- A search that found a bucket before finds it after.
-  keeps_from : (k c n : ℕ) → (find_from buckets k c n ≡ 0 → ⊥) → find_from entered k c n ≡ find_from buckets k c n
+  module _ (c : ℕ) (other : c ≡ b → ⊥) where
+    slot_other : slot_at entered c ≡ slot_at buckets c
+    slot_other = get_or-set_other (set buckets (2 * b) k.class) (2 * b + 1) (2 * c + 1) slot 0 (λ e. other (omega arith)) ∙ get_or-set_other buckets (2 * b) (2 * c + 1) k.class 0 (λ e. omega arith)
+
+    word_other : word_at entered c ≡ word_at buckets c
+    word_other = get_or-set_other (set buckets (2 * b) k.class) (2 * b + 1) (2 * c) slot 0 (λ e. omega arith) ∙ get_or-set_other buckets (2 * b) (2 * c) k.class 0 (λ e. other (omega arith))
+
+  slot_half : (slot - 1) / 2 ≡ i
+  slot_half = omega arith
+
+  slot_mark : (slot - 1) % 2 ≡ k.mark
+  slot_mark = omega arith
+
+  -- A search that found an entry before finds it after.
+  keeps_from : (j : Key) (c n p : ℕ) → find_from buckets j c n ≡ At p → find_from entered j c n ≡ At p
   unfolding find_from
-  keeps_from k c zero e = refl
-  keeps_from k c (suc n) e = by (equal_or_not c b) (eqb (bucket_at buckets c) 0) refl e (keeps_from k (c + 1) n)
+  keeps_from j c zero p e = e
+  keeps_from j c (suc n) p e = by (equal_or_not c b) (eqb (slot_at buckets c) 0) refl e (keeps_from j (c + 1) n p)
     where
-      rest : (hit : Bool) → ((find_from buckets k (c + 1) n ≡ 0 → ⊥) → find_from entered k (c + 1) n ≡ find_from buckets k (c + 1) n)
-          → (cond hit (bucket_at buckets c) (find_from buckets k (c + 1) n) ≡ 0 → ⊥)
-          → cond hit (bucket_at buckets c) (find_from entered k (c + 1) n) ≡ cond hit (bucket_at buckets c) (find_from buckets k (c + 1) n)
-      rest true h e = refl
+      rest : (hit : Bool) → (find_from buckets j (c + 1) n ≡ At p → find_from entered j (c + 1) n ≡ At p)
+          → cond hit (At ((slot_at buckets c - 1) / 2)) (find_from buckets j (c + 1) n) ≡ At p → cond hit (At ((slot_at buckets c - 1) / 2)) (find_from entered j (c + 1) n) ≡ At p
+      rest true h e = e
       rest false h e = h e
 
-      by : (c ≡ b) ⊎ (c ≡ b → ⊥) → (z : Bool) → eqb (bucket_at buckets c) 0 ≡ z
-          → (cond z 0 (cond (eqb (check_of (bucket_at buckets c)) k) (bucket_at buckets c) (find_from buckets k (c + 1) n)) ≡ 0 → ⊥)
-          → ((find_from buckets k (c + 1) n ≡ 0 → ⊥) → find_from entered k (c + 1) n ≡ find_from buckets k (c + 1) n)
-          → cond (eqb (bucket_at entered c) 0) 0 (cond (eqb (check_of (bucket_at entered c)) k) (bucket_at entered c) (find_from entered k (c + 1) n))
-          ≡ cond z 0 (cond (eqb (check_of (bucket_at buckets c)) k) (bucket_at buckets c) (find_from buckets k (c + 1) n))
-      by d true z e h = absurd (e refl)
-      by (inl q) false z e h = absurd (eqb-false (bucket_at buckets c) 0 z (rw q empty))
-      by (inr q) false z e h = rw (bucket_other c q, z) (rest (eqb (check_of (bucket_at buckets c)) k) h e)
+      by : (c ≡ b) ⊎ (c ≡ b → ⊥) → (z : Bool) → eqb (slot_at buckets c) 0 ≡ z
+          → cond z NotFound (cond (bucket_has (word_at buckets c) (slot_at buckets c) j) (At ((slot_at buckets c - 1) / 2)) (find_from buckets j (c + 1) n)) ≡ At p
+          → (find_from buckets j (c + 1) n ≡ At p → find_from entered j (c + 1) n ≡ At p)
+          → cond (eqb (slot_at entered c) 0) NotFound (cond (bucket_has (word_at entered c) (slot_at entered c) j) (At ((slot_at entered c - 1) / 2)) (find_from entered j (c + 1) n)) ≡ At p
+      by d true z e h = let y : ◌≡◌ {A = ℕ} 0 1 = cc in absurd (omega arith)
+      by (inl q) false z e h = absurd (eqb-false (slot_at buckets c) 0 z (rw q empty))
+      by (inr q) false z e h = rw (slot_other c q, word_other c q, z) (rest (bucket_has (word_at buckets c) (slot_at buckets c) j) h e)
 
-  module _ (class i : ℕ) (leads : LeadsTo (check class) i new) where
-    -- The search for the class word or primitive type finds the bucket, if those before it have other checks.
-    finds_from : (c n : ℕ) → c ≤ b → b < c + n → ((d : ℕ) → c ≤ d → d < b → (bucket_at buckets d ≡ 0 → ⊥) × (check_of (bucket_at buckets d) ≡ check class → ⊥))
-        → find_from entered (check class) c n ≡ new
-    unfolding find_from
-    finds_from c zero l m others = absurd (omega arith)
-    finds_from c (suc n) l m others = by (equal_or_not c b) (finds_from (c + 1) n)
+  -- Every bucket leads to the entry whose key it has.
+  module _ {ks : List Key} {complete : Bool} (w : IndexHolds ks buckets complete) (is : i ≡ length ks) (new : (j : ℕ) → j < length ks → key_at ks j ≡ k → ⊥) where
+    sound_after : (c : ℕ) → 0 < slot_at entered c
+        → ((slot_at entered c - 1) / 2 < length (ks ++ (k ∷ []))) × (key_at (ks ++ (k ∷ [])) ((slot_at entered c - 1) / 2) ≡ make_key (word_at entered c) ((slot_at entered c - 1) % 2))
+    sound_after c l = by (equal_or_not c b)
       where
-        by : (c ≡ b) ⊎ (c ≡ b → ⊥)
-            → (c + 1 ≤ b → b < c + 1 + n → ((d : ℕ) → c + 1 ≤ d → d < b → (bucket_at buckets d ≡ 0 → ⊥) × (check_of (bucket_at buckets d) ≡ check class → ⊥)) → find_from entered (check class) (c + 1) n ≡ new)
-            → cond (eqb (bucket_at entered c) 0) 0 (cond (eqb (check_of (bucket_at entered c)) (check class)) (bucket_at entered c) (find_from entered (check class) (c + 1) n)) ≡ new
-        by (inl q) h = rw (q, bucket_here, ne_eqb new 0 leads.full, eq-eqb (check_of new) (check class) leads.checked)
+        by : (c ≡ b) ⊎ (c ≡ b → ⊥) → ((slot_at entered c - 1) / 2 < length (ks ++ (k ∷ []))) × (key_at (ks ++ (k ∷ [])) ((slot_at entered c - 1) / 2) ≡ make_key (word_at entered c) ((slot_at entered c - 1) % 2))
+        by (inl q) = rw (q, slot_here, word_here, slot_half, slot_mark, length_more ks k, is) (omega arith, key_last ks k)
+        by (inr q) =
+            let s = w.sound c (rw (slot_other c q) at l) in
+            rw (slot_other c q, word_other c q, length_more ks k) (omega (arith, s.0), key_before ks k _ s.0 ∙ s.1)
+
+    -- The search for the key finds it, if the buckets before b, from its first one on, are not empty.
+    finds_from : (c n : ℕ) → c ≤ b → b < c + n → ((d : ℕ) → c ≤ d → d < b → 0 < slot_at buckets d) → find_from entered k c n ≡ At i
+    unfolding find_from
+    finds_from c zero l m full = absurd (omega arith)
+    finds_from c (suc n) l m full = by (equal_or_not c b) (finds_from (c + 1) n)
+      where
+        miss : (c ≡ b → ⊥) → 0 < slot_at buckets c → (hit : Bool) → bucket_has (word_at buckets c) (slot_at buckets c) k ≡ hit → hit ≡ false
+        miss q f true e = absurd (let s = has_means w k c f e in new _ s.0 s.1)
+        miss q f false e = refl
+
+        by : (c ≡ b) ⊎ (c ≡ b → ⊥) → (c + 1 ≤ b → b < c + 1 + n → ((d : ℕ) → c + 1 ≤ d → d < b → 0 < slot_at buckets d) → find_from entered k (c + 1) n ≡ At i)
+            → cond (eqb (slot_at entered c) 0) NotFound (cond (bucket_has (word_at entered c) (slot_at entered c) k) (At ((slot_at entered c - 1) / 2)) (find_from entered k (c + 1) n)) ≡ At i
+        by (inl q) h = rw (q, slot_here, word_here, ne_eqb slot 0 (λ z. omega arith), slot_half, slot_mark, eq-eqb k.class k.class refl, eq-eqb k.mark k.mark refl)
         by (inr q) h =
-            let f = others c (omega arith) (omega arith) in
-            rw (bucket_other c q, ne_eqb (bucket_at buckets c) 0 f.0, ne_eqb (check_of (bucket_at buckets c)) (check class) f.1)
-            (h (omega arith) (omega arith) (λ d x y. others d (omega arith) y))
+            let f : 0 < slot_at buckets c = full c (omega arith) (omega arith) in
+            rw (slot_other c q, word_other c q, ne_eqb (slot_at buckets c) 0 (λ z. omega arith), miss q f _ refl)
+            (h (omega arith) (omega arith) (λ d x y. full d (omega arith) y))
 
-    -- The law of entering: bucket b is the first empty one of those that the search looks at.
-    module _ (from : first_bucket class ≤ b) (to : b < first_bucket class + 64)
-        (others : (d : ℕ) → first_bucket class ≤ d → d < b → (bucket_at buckets d ≡ 0 → ⊥) × (check_of (bucket_at buckets d) ≡ check class → ⊥))
-        (mark : ℕ) (ks : List Key) (w : IndexHolds ks buckets) (is : i ≡ length ks) where
-      in_list_after : (c : ℕ) → entry_of (bucket_at entered c) ≤ length ks + 1
-      in_list_after c = by (equal_or_not c b)
-        where
-          by : (c ≡ b) ⊎ (c ≡ b → ⊥) → entry_of (bucket_at entered c) ≤ length ks + 1
-          by (inl q) = rw (q, bucket_here) (let l = leads.entry in omega arith)
-          by (inr q) = rw (bucket_other c q) (let l = w.in_list c in omega arith)
+    finds_after : first_bucket k.class ≤ b → b < first_bucket k.class + 64 → ((d : ℕ) → first_bucket k.class ≤ d → d < b → 0 < slot_at buckets d)
+        → complete ≡ true → (j : ℕ) → j < length (ks ++ (k ∷ [])) → find entered (key_at (ks ++ (k ∷ [])) j) ≡ At j
+    unfolding find
+    finds_after l m full c j inside_j = by (dec_lt j (length ks))
+      where
+        by : Dec (j < length ks) → find_from entered (key_at (ks ++ (k ∷ [])) j) (first_bucket (key_at (ks ++ (k ∷ [])) j).class) 64 ≡ At j
+        by (yes q) = rw (key_before ks k j q) (keeps_from (key_at ks j) (first_bucket (key_at ks j).class) 64 j (w.finds c j q))
+        by (no q) =
+            let e : j ≡ length ks = let z = length_more ks k in omega arith in
+            rw (e, key_last ks k, ← is) (finds_from (first_bucket k.class) 64 l m full)
 
-      finds_new : find entered class ≡ new
-      unfolding find
-      finds_new = finds_from (first_bucket class) 64 from to others
-
-      keeps : (d : ℕ) → (find buckets d ≡ 0 → ⊥) → find entered d ≡ find buckets d
-      unfolding find
-      keeps d e = keeps_from (check d) (first_bucket d) 64 e
-
-      -- The new key is not before the entry that a search for its class word or primitive type leads to.
-      not_new : (d j : ℕ) → j < seek entered (length ks + 1) d → class ≡ d → j ≡ length ks → ⊥
-      not_new d j l c q =
-          let z : j < seek entered (length ks + 1) class = rw c l in
-          let s = seek_some entered class (length ks + 1) (λ e. leads.full (sym finds_new ∙ e)) ∙ ap entry_of finds_new in
-          let e = leads.entry in
-          omega arith
-
-      pub key_entered : IndexHolds (more class mark ks) entered
-      key_entered = record {
-        in_list = λ c. rw (length_more class mark ks) (in_list_after c);
-        before = λ d j l. by d j (equal_or_not (find buckets d) 0) (rw (length_more class mark ks) at l);
-      }
-        where
-          by : (d j : ℕ) → (find buckets d ≡ 0) ⊎ (find buckets d ≡ 0 → ⊥) → j < seek entered (length ks + 1) d → (key_at (more class mark ks) j).class ≡ d → ⊥
-          by d j (inl z) l =
-              by_key class mark ks d j (let n = seek_in_list entered in_list_after d in omega arith)
-              (λ m. w.before d j (rw (seek_none buckets d (length ks) z) m))
-              (not_new d j l)
-          by d j (inr z) l =
-              let m : j < seek buckets (length ks) d = rw (seek_some buckets d (length ks) z, ← keeps d z) (rw (seek_some entered d (length ks + 1) (λ e. z (sym (keeps d z) ∙ e))) at l) in
-              let n = seek_in_list buckets w.in_list d in
-              by_key class mark ks d j (omega arith) (λ o. w.before d j m) (not_new d j l)
+-- The law of entering: bucket b is the first empty one of those that the search for k looks at.
+pub key_entered : (k : Key) (i : ℕ) (mark : k.mark < 2) (buckets : List ℕ) (b : ℕ) (empty : slot_at buckets b ≡ 0) (inside : 2 * b + 1 < length buckets)
+    → first_bucket k.class ≤ b → b < first_bucket k.class + 64 → ((d : ℕ) → first_bucket k.class ≤ d → d < b → 0 < slot_at buckets d)
+    → EntersKey k i buckets (entered k i mark buckets b empty inside) true
+key_entered k i mark buckets b empty inside l m full ks complete w is new = record {
+  sound = sound_after k i mark buckets b empty inside w is new;
+  finds = λ e. finds_after k i mark buckets b empty inside w is new l m full (and_left complete true e);
+}

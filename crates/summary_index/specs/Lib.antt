@@ -1,5 +1,3 @@
--- SummaryIndex (the index, and what a search in it means), EnterKey (an entry entered in a bucket keeps the index right), IndexExample
--- (buckets by computation).
+-- SummaryIndex (the index, and what a search in it means), EnterKey (a key entered in a bucket keeps the index right).
 pub mod SummaryIndex
 pub mod EnterKey
-pub mod IndexExample

@@ -1,89 +1,99 @@
--- The summary index: buckets that lead from a class word or primitive type to an entry of class summaries before which none has it, and
--- the search in them, whatever they hold. `IndexHolds` is what the passes over rows know of it.
+-- The summary index: buckets of two numbers that lead from the keys of class summaries to their entries, and the search in them,
+-- whatever they hold. `IndexHolds` is what the passes over rows know of it.
 -- No definition of a result uses it. A reader need not believe it.
-use Rattle.std.specs.Prelude.{◌≡◌, Bool, List, eqb, length, get_or}
-use Prim.Native.Nat.{ℕ, zero, suc, ◌+◌, ◌/◌, ◌%◌, ◌≤◌, ◌<◌}
-use native.Mathlib.Omega.{arith}
+use Rattle.std.specs.Prelude.{◌≡◌, Bool, ◌&&◌, List, get_or}
+use Rattle.std.proofs.Math.Path.{refl, ap}
+use Rattle.std.proofs.Common.{sym, ◌∙◌, arith}
+use Prim.Native.Nat.{ℕ, zero, suc, ◌+◌, ◌-◌, ◌*◌, ◌/◌, ◌%◌, ◌<◌}
 use Rattle.std.proofs.Math.Bool.{true, false, cond}
+use Rattle.std.proofs.Math.Dec.{eqb}
+use Rattle.std.proofs.Math.ListN.{length}
+use borrow.Author.Tests.{eqb-true, eqb-false}
+use Rattle.decode.specs.Values.{and_left, and_right}
+use Rattle.table.specs.declared.Search.{Search}
+use Rattle.table.specs.declared.Search.TheVariants.{At, NotFound}
 use Rattle.address_hash.specs.AddressHash.{hash}
 use Rattle.summaries.specs.Summaries.{Key}
 
 abbrev pub make_key : (class mark : ℕ) → Key
 make_key class mark = record { mark = mark; class = class }
 
+-- The bucket, of 32,768, at which the search for a class word or primitive type begins.
+unfoldable pub first_bucket : ℕ → ℕ
+first_bucket class = hash class / 0x2_0000
+
+-- The two numbers of bucket b; 0 after the end.
+abbrev pub word_at : List ℕ → ℕ → ℕ
+word_at buckets b = get_or buckets (2 * b) 0
+
+abbrev pub slot_at : List ℕ → ℕ → ℕ
+slot_at buckets b = get_or buckets (2 * b + 1) 0
+
+-- Whether a bucket with these two numbers, which is not empty, has the key.
+abbrev pub bucket_has : ℕ → ℕ → Key → Bool
+bucket_has word slot k = eqb word k.class && eqb ((slot - 1) % 2) k.mark
+
+-- The search for a key in n buckets from bucket b on: it ends at the first empty bucket, and at the first that has the key.
+unfoldable pub find_from : List ℕ → Key → ℕ → ℕ → Search
+find_from buckets k b zero = NotFound
+find_from buckets k b (suc n) =
+    cond (eqb (slot_at buckets b) 0) NotFound
+    (cond (bucket_has (word_at buckets b) (slot_at buckets b) k) (At ((slot_at buckets b - 1) / 2)) (find_from buckets k (b + 1) n))
+
+-- The search for a key.
+unfoldable pub find : List ℕ → Key → Search
+find buckets k = find_from buckets k (first_bucket k.class) 64
+
 -- Key i of a list.
 abbrev pub key_at : List Key → ℕ → Key
 key_at ks i = get_or ks i (make_key 0 0)
 
--- ---- buckets
-
--- The bucket, of 65,536, at which the search for a class word or primitive type begins, and the check by which its bucket is recognised.
-unfoldable pub first_bucket : ℕ → ℕ
-first_bucket class = hash class / 0x1_0000
-
-unfoldable pub check : ℕ → ℕ
-check class = hash class % 0x2_0000
-
--- The numbers that a bucket packs: the check, one more than a row, the entry.
-abbrev pub check_of : ℕ → ℕ
-check_of bucket = bucket / 0x8000_0000_0000
-
-abbrev pub row_of : ℕ → ℕ
-row_of bucket = bucket / 0x2_0000 % 0x4000_0000
-
-abbrev pub entry_of : ℕ → ℕ
-entry_of bucket = bucket % 0x2_0000
-
--- A bucket that leads to the first entry.
-abbrev pub anywhere : ℕ
-anywhere = 0x2_0000
-
-abbrev pub bucket_at : List ℕ → ℕ → ℕ
-bucket_at buckets b = get_or buckets b anywhere
-
--- ---- the search
-
--- The search for a check in n buckets from bucket b on: it ends at the first empty bucket, and at the first with that check.
-unfoldable pub find_from : (buckets : List ℕ) → (check b n : ℕ) → ℕ
-find_from buckets c b zero = anywhere
-find_from buckets c b (suc n) =
-    cond (eqb (bucket_at buckets b) 0) 0
-    (cond (eqb (check_of (bucket_at buckets b)) c) (bucket_at buckets b) (find_from buckets c (b + 1) n))
-
--- The bucket for a class word or primitive type; 0 if none has it.
-unfoldable pub find : (buckets : List ℕ) → (class : ℕ) → ℕ
-find buckets class = find_from buckets (check class) (first_bucket class) 64
-
--- The entry, of n, that the bucket leads to; n if there is no bucket.
-unfoldable pub seek : (buckets : List ℕ) → (n class : ℕ) → ℕ
-seek buckets n class = cond (eqb (find buckets class) 0) n (entry_of (find buckets class))
-
--- The buckets are an index of the keys: each leads to one of them or to their end, and none before the one to which a search leads has
--- the class word or primitive type.
-pub record IndexHolds (ks : List Key) (buckets : List ℕ) : Type 0 where
-  pub in_list : (b : ℕ) → entry_of (bucket_at buckets b) ≤ length ks
-  pub before : (class i : ℕ) → i < seek buckets (length ks) class → (key_at ks i).class ≡ class → ⊥
+-- The buckets are an index of the keys: each leads to the entry whose key it has; and if the index is complete, the search for each key
+-- finds its entry.
+pub record IndexHolds (ks : List Key) (buckets : List ℕ) (complete : Bool) : Type 0 where
+  pub sound : (b : ℕ) → 0 < slot_at buckets b
+      → ((slot_at buckets b - 1) / 2 < length ks) × (key_at ks ((slot_at buckets b - 1) / 2) ≡ make_key (word_at buckets b) ((slot_at buckets b - 1) % 2))
+  pub finds : complete ≡ true → (i : ℕ) → i < length ks → find buckets (key_at ks i) ≡ At i
 
 -- ---- what a search means
 
--- Buckets each of which leads to one of m entries or to their end.
-module _ (buckets : List ℕ) {m : ℕ} (in_list : (b : ℕ) → entry_of (bucket_at buckets b) ≤ m) where
-  find_in_list : (c b n : ℕ) → entry_of (find_from buckets c b n) ≤ m
-  unfolding find_from
-  find_in_list c b zero = omega arith
-  find_in_list c b (suc n) = by (eqb (bucket_at buckets b) 0) (eqb (check_of (bucket_at buckets b)) c) (find_in_list c (b + 1) n)
-    where
-      by : (empty hit : Bool) → entry_of (find_from buckets c (b + 1) n) ≤ m
-          → entry_of (cond empty 0 (cond hit (bucket_at buckets b) (find_from buckets c (b + 1) n))) ≤ m
-      by true hit h = omega arith
-      by false true h = in_list b
-      by false false h = h
+not_at : (i : ℕ) → NotFound ≡ At i → ⊥
+not_at i e = let z : ◌≡◌ {A = ℕ} 0 1 = cc in omega arith
 
-  -- A search leads to one of them or to their end.
-  pub seek_in_list : (class : ℕ) → seek buckets m class ≤ m
-  unfolding seek find
-  seek_in_list class = by (eqb (find_from buckets (check class) (first_bucket class) 64) 0)
+-- The index in a result.
+abbrev place_in : Search → ℕ
+place_in (At i) = i
+place_in NotFound = 0
+
+module _ {ks : List Key} {buckets : List ℕ} {complete : Bool} (w : IndexHolds ks buckets complete) (k : Key) where
+  -- The search found the key in bucket b.
+  pub has_means : (b : ℕ) → 0 < slot_at buckets b → bucket_has (word_at buckets b) (slot_at buckets b) k ≡ true
+      → ((slot_at buckets b - 1) / 2 < length ks) × (key_at ks ((slot_at buckets b - 1) / 2) ≡ k)
+  has_means b l e =
+      let c : word_at buckets b ≡ k.class = eqb-true _ _ (and_left (eqb (word_at buckets b) k.class) (eqb ((slot_at buckets b - 1) % 2) k.mark) e) in
+      let m : (slot_at buckets b - 1) % 2 ≡ k.mark = eqb-true _ _ (and_right (eqb (word_at buckets b) k.class) (eqb ((slot_at buckets b - 1) % 2) k.mark) e) in
+      ((w.sound b l).0, (w.sound b l).1 ∙ (λ i. make_key (c i) (m i)))
+
+  found_from : (b n i : ℕ) → find_from buckets k b n ≡ At i → (i < length ks) × (key_at ks i ≡ k)
+  unfolding find_from
+  found_from b zero i e = absurd (not_at i e)
+  found_from b (suc n) i e = by (eqb (slot_at buckets b) 0) (bucket_has (word_at buckets b) (slot_at buckets b) k) refl refl e (found_from (b + 1) n i)
     where
-      by : (b : Bool) → cond b m (entry_of (find_from buckets (check class) (first_bucket class) 64)) ≤ m
-      by true = omega arith
-      by false = find_in_list (check class) (first_bucket class) 64
+      by : (empty hit : Bool) → eqb (slot_at buckets b) 0 ≡ empty → bucket_has (word_at buckets b) (slot_at buckets b) k ≡ hit
+          → cond empty NotFound (cond hit (At ((slot_at buckets b - 1) / 2)) (find_from buckets k (b + 1) n)) ≡ At i
+          → (find_from buckets k (b + 1) n ≡ At i → (i < length ks) × (key_at ks i ≡ k)) → (i < length ks) × (key_at ks i ≡ k)
+      by true hit p q e rest = absurd (not_at i e)
+      by false false p q e rest = rest e
+      by false true p q e rest =
+          let l : slot_at buckets b ≡ 0 → ⊥ = eqb-false (slot_at buckets b) 0 p in
+          let s : (slot_at buckets b - 1) / 2 ≡ i = ap place_in e in
+          rw s at (has_means b (omega arith) q)
+
+  -- A key that is found is that of the entry.
+  pub found : (i : ℕ) → find buckets k ≡ At i → (i < length ks) × (key_at ks i ≡ k)
+  unfolding find
+  found i e = found_from (first_bucket k.class) 64 i e
+
+  -- If the index is complete, a key that is not found is no entry's.
+  pub not_found : complete ≡ true → find buckets k ≡ NotFound → (i : ℕ) → i < length ks → key_at ks i ≡ k → ⊥
+  not_found c e i l q = not_at i (sym e ∙ rw q at (w.finds c i l))

@@ -1,117 +1,99 @@
-// The summary index: a hash table in memory that the caller passes, all zeros at the start. It leads from a class word or primitive type
-// to an entry of class summaries before which none has it. A bucket is 0 if it is empty; else it packs three numbers, from the top: a
-// check, 17 bits of the hash; one more than a row in which the class word or primitive type may be found, 30 bits; and the entry.
-// Nothing is believed of the hash: two that have one hash share a bucket, which leads to the entry of the first. For one that has found
-// no bucket, a search leads to the first entry.
+// The summary index: a hash table of the keys of class summaries, in memory that the caller passes, all zeros at the start. It leads from
+// a key to the index of its entry. A bucket is two numbers, a class word or primitive type, and a slot number: 0 if the bucket is
+// empty, else twice the index of the entry plus the key's mark plus one.
+// Nothing is believed of the hash. A key that finds no empty bucket is left out; then the index is not complete, which is reported.
 // Defined in specs/SummaryIndex.antt.
-ghost use Rattle.std.specs.Prelude.{◌≡◌, ◌+◌, ◌*◌, ◌/◌, ◌%◌, ◌^◌, ◌≤◌, ◌<◌, length, get_or};
-ghost use Rattle.summary_index.specs.SummaryIndex.{anywhere, check, first_bucket, check_of, row_of, find, seek};
-ghost use Rattle.summary_index.specs.EnterKey.{EntersKey, LeadsTo};
+ghost use Rattle.std.specs.Prelude.{◌≡◌, ◌+◌, ◌-◌, ◌*◌, ◌/◌, ◌^◌, ◌<◌, length, get_or};
+ghost use Rattle.summary_index.specs.SummaryIndex.{make_key, bucket_has, first_bucket, find};
+ghost use Rattle.summary_index.specs.EnterKey.{EntersKey};
+
+use table::Search;
 
 // How many buckets a search looks at, at most.
 const PROBES: usize = 64;
 
-// How many buckets a summary index has: a search begins at one of 65,536, and after the last of them are those that a search from it
-// looks at.
-pub const LEN: usize = 0x1_0000 + PROBES;
+// How many numbers a summary index has: a search begins at one of 32,768 buckets, and after the last of them are those that a search
+// from it looks at.
+pub const LEN: usize = 0x1_0000 + 2 * PROBES;
 
-// The units of a check and of a row in a bucket.
-const CHECK: u64 = 0x8000_0000_0000;
-
-const ROW: u64 = 0x2_0000;
-
-// A bucket that leads to the first entry.
-const ANYWHERE: u64 = 0x2_0000;
-
-// Returns the bucket at which the search for a hash begins.
-fn first_bucket(hash: u64) -> usize
-    requires { hash < 0x1_0000_0000 }
-    ensures { (result ≡ hash / 0x1_0000) × (result < 0x1_0000) }
+// Returns the bucket at which the search for a class word or primitive type begins.
+fn first_bucket(class: u64) -> usize
+    ensures { (result ≡ first_bucket class) × (result < 0x8000) }
 {
-    (hash / 0x1_0000) as usize
+    (address_hash::hash(class) / 0x2_0000) as usize
 }
 
-// Returns bucket i; after the end, one that leads to the first entry.
-fn bucket_at(buckets: &[u64], i: usize) -> u64
-    ensures { result ≡ get_or buckets.now i anywhere }
+// Returns number i of the index; 0 after its end.
+fn number_at(buckets: &[u64], i: usize) -> u64
+    ensures { result ≡ get_or buckets.now i 0 }
 {
     if i < buckets.len() {
         return buckets[i];
     }
-    ANYWHERE
+    0
 }
 
-// Returns the bucket for a class word or primitive type; 0 if none has it.
-pub fn find(buckets: &[u64], class: u64) -> u64
-    ensures { result ≡ find buckets.now class }
+// Returns the index of the entry that a slot leads to.
+fn entry_of(slot: u64) -> usize
+    requires { 0 < slot }
+    ensures { result ≡ (slot - 1) / 2 }
 {
-    let hash = address_hash::hash(class);
-    let check = hash % 0x2_0000;
-    let mut at = first_bucket(hash);
+    ((slot - 1) / 2) as usize
+}
+
+// Checks whether a bucket that is not empty has this key.
+fn has_key(word: u64, slot: u64, class: u64, mark: u64) -> bool
+    requires { 0 < slot }
+    ensures { result ≡ bucket_has word slot (make_key class mark) }
+{
+    (word == class) & ((slot - 1) % 2 == mark)
+}
+
+// Returns the index of the entry of a key, whatever the buckets hold.
+pub fn find(buckets: &[u64], class: u64, mark: u64) -> Search
+    ensures { result ≡ find buckets.now (make_key class mark) }
+{
+    let mut at = first_bucket(class);
     let end = at + PROBES;
     while at < end {
-        let bucket = bucket_at(buckets, at);
-        if bucket == 0 {
-            return 0;
+        let slot = number_at(buckets, 2 * at + 1);
+        if slot == 0 {
+            return Search::NotFound;
         }
-        if bucket / CHECK == check {
-            return bucket;
+        let word = number_at(buckets, 2 * at);
+        if has_key(word, slot, class, mark) {
+            return Search::At(entry_of(slot));
         }
         at += 1;
     }
-    ANYWHERE
+    Search::NotFound
 }
 
-// Returns an entry, of `used`, before which none has a class word or primitive type; `used` if none has it.
-pub fn seek(buckets: &[u64], used: usize, class: u64) -> usize
-    ensures { result ≡ seek buckets.now used class }
+// Returns the slot of entry i with this mark.
+fn slot_of(i: usize, mark: u64) -> u64
+    requires { (i < 2 ^ 62) × (mark < 2) }
+    ensures { result ≡ 2 * i + mark + 1 }
 {
-    let bucket = find(buckets, class);
-    if bucket == 0 {
-        return used;
-    }
-    (bucket % ROW) as usize
+    2 * (i as u64) + mark + 1
 }
 
-// Returns one more than the row of a bucket, or 0.
-pub fn row_of(bucket: u64) -> usize
-    ensures { result ≡ row_of bucket }
+// Enters the key of entry i in the first empty bucket of those that its search looks at. Returns whether there was one.
+pub fn enter(buckets: &mut [u64], class: u64, mark: u64, i: usize) -> bool
+    requires { (i < 2 ^ 62) × (mark < 2) }
+    ensures { EntersKey (make_key class mark) i buckets.old buckets.new result }
 {
-    (bucket / ROW % 0x4000_0000) as usize
-}
-
-// Returns a bucket for entry i, with a row. If the index of the entry has more than 17 bits, it leads to the first one.
-fn make_bucket(check: u64, row: usize, i: usize) -> u64
-    requires { (check < 0x2_0000) × (row < 2 ^ 32) × (i < 2 ^ 32) }
-    ensures { LeadsTo check i result }
-{
-    let above = (row % 0x3FFF_FFFF + 1) as u64;
-    let base = check * CHECK + above * ROW;
-    if i < 0x2_0000 {
-        return base + (i as u64);
-    }
-    base
-}
-
-// Enters entry i, of a class word or primitive type that a row has, in the first empty bucket of those that its search looks at, if the
-// search ends there.
-pub fn enter(buckets: &mut [u64], class: u64, row: usize, i: usize)
-    requires { (row < 2 ^ 32) × (i < 2 ^ 32) }
-    ensures { EntersKey class i buckets.old buckets.new }
-{
-    let hash = address_hash::hash(class);
-    let check = hash % 0x2_0000;
-    let mut at = first_bucket(hash);
+    let mut at = first_bucket(class);
     let end = at + PROBES;
     while at < end {
-        let bucket = bucket_at(buckets, at);
-        if bucket == 0 {
-            buckets[at] = make_bucket(check, row, i);
-            return;
+        if buckets.len() <= 2 * at + 1 {
+            return false;
         }
-        if bucket / CHECK == check {
-            return;
+        if buckets[2 * at + 1] == 0 {
+            buckets[2 * at] = class;
+            buckets[2 * at + 1] = slot_of(i, mark);
+            return true;
         }
         at += 1;
     }
+    false
 }

@@ -14,13 +14,13 @@ use borrow.Author.Tests.{ltb-true, ne_eqb}
 use Rattle.table.specs.Rows.{is_kind, rows_of, nth, length_rows}
 use Rattle.table.specs.declared.Row.{Row}
 use Rattle.summaries.specs.Summaries.{Key, key_of, keys}
-use Rattle.summaries.specs.SummaryKeys.{never}
-use Rattle.summary_index.specs.SummaryIndex.{make_key}
+use Rattle.summaries.specs.SummaryKeys.{never, distinct}
+use Rattle.summary_index.specs.SummaryIndex.{make_key, key_at}
 use Rattle.summary_index.specs.EnterKey.{EntersKey}
 use Rattle.summary_list.specs.declared.Change.{Change}
 use Rattle.summary_pass.specs.declared.Pass.{Pass}
 use Rattle.summary_pass.specs.PassState.{place_of, change_of, keys_counted, IndexState, PassHolds, ChangeFor, PassNext}
-use Rattle.summary_pass.specs.KeyPlaces.{place_le, keys_class, keys_same, keys_new, length_appended}
+use Rattle.summary_pass.specs.KeyPlaces.{place_le, place_key, place_before, key_once, keys_class, keys_same, keys_new, key_appended, length_appended}
 use Rattle.summary_pass.specs.PassSteps.{count_key, count_action}
 
 -- ---- what `after_change` returns
@@ -34,19 +34,27 @@ after_sizing p = record {
   end = p.end;
   counted = p.counted;
   used = p.used;
+  complete = p.complete;
+  last = p.last;
+  class = p.class;
+  mark = p.mark;
   lowest = p.lowest;
   above = p.above;
 }
 
 -- After a row of the pass that counts.
-abbrev pub after_counting : Pass → (used lowest above : ℕ) → Pass
-after_counting p used lowest above = record {
+abbrev pub after_counting : Pass → (used : ℕ) → (complete : Bool) → (last class mark lowest above : ℕ) → Pass
+after_counting p used complete last class mark lowest above = record {
   on = ltb (p.row + 1) p.end;
   sizing = false;
   row = p.row + 1;
   end = p.end;
   counted = p.row + 1;
   used = used;
+  complete = complete;
+  last = last;
+  class = class;
+  mark = mark;
   lowest = lowest;
   above = above;
 }
@@ -94,7 +102,7 @@ module _ {rows buckets : List ℕ} {p : Pass} (w : PassHolds rows buckets p) (on
       end_few = w.end_few;
       counted_few = w.counted_few;
       counting = λ e. absurd (never refl e);
-      index = record { used = w.index.used; index = w.index.index };
+      index = record { used = w.index.used; index = w.index.index; last = w.index.last; once = w.index.once };
       small = w.small;
       class_rows = w.class_rows;
       class_rows_in = w.class_rows_in;
@@ -129,12 +137,15 @@ module _ {rows buckets : List ℕ} {p : Pass} (w : PassHolds rows buckets p) (on
     index_before : IndexState ks buckets p
     index_before = subst (λ (n : ℕ). IndexState (keys (take n rs)) buckets p) counted_is w.index
 
+    once_next : (i n : ℕ) → i < length next_keys → n < length next_keys → key_at next_keys i ≡ key_at next_keys n → i ≡ n
+    once_next = key_once next_keys (distinct (take (p.row + 1) rs))
+
     -- What is left to show is the index and the range of the class rows.
-    counting_next : {buckets' : List ℕ} {used lowest above : ℕ}
-        → IndexState next_keys buckets' (after_counting p used lowest above)
+    counting_next : {buckets' : List ℕ} {used : ℕ} {complete : Bool} {last class mark lowest above : ℕ}
+        → IndexState next_keys buckets' (after_counting p used complete last class mark lowest above)
         → ((i : ℕ) → i < p.row + 1 → is_kind 1 (nth rs i) ≡ true → (lowest ≤ i) × (i < above))
         → above ≤ p.row + 1 → lowest ≤ p.row + 1 → lowest ≤ above
-        → PassNext rows buckets' p (after_counting p used lowest above)
+        → PassNext rows buckets' p (after_counting p used complete last class mark lowest above)
     counting_next index class_rows above_in lowest_in range_in =
         let l = row_left in
         let e = w.end_in in
@@ -168,9 +179,9 @@ module _ {rows buckets : List ℕ} {p : Pass} (w : PassHolds rows buckets p) (on
     -- ---- a class row
 
     class_next : is_kind 1 (nth rs p.row) ≡ true
-        → PassNext rows buckets p (after_counting p p.used (cond (eqb p.above 0) p.row p.lowest) (p.row + 1))
+        → PassNext rows buckets p (after_counting p p.used p.complete p.last p.class p.mark (cond (eqb p.above 0) p.row p.lowest) (p.row + 1))
     class_next e = counting_next
-        (rw (next_row, keys_class rs p.row row_in_list e) (record { used = index_before.used; index = index_before.index }))
+        (rw (next_row, keys_class rs p.row row_in_list e) (record { used = index_before.used; index = index_before.index; last = index_before.last; once = index_before.once }))
         (λ i l k. (lowest_before (dec_lt i p.row) l k, l))
         (omega arith)
         (lowest_le (eqb p.above 0))
@@ -218,7 +229,7 @@ module _ {rows buckets : List ℕ} {p : Pass} (w : PassHolds rows buckets p) (on
       lowest_le = let a = w.lowest_in in let c = counted_is in omega arith
 
       -- If the key is there, the keys are the same.
-      there_next : at < p.used → PassNext rows buckets p (after_counting p p.used p.lowest p.above)
+      there_next : at < p.used → PassNext rows buckets p (after_counting p p.used p.complete at class mark p.lowest p.above)
       there_next l =
           let u = index_before.used in
           let m : at < length ks = omega arith in
@@ -227,20 +238,24 @@ module _ {rows buckets : List ℕ} {p : Pass} (w : PassHolds rows buckets p) (on
           (record {
             used = rw same u;
             index = rw same index_before.index;
+            last = λ z. rw (same, at_is) (place_key (make_key class mark) ks (rw (← at_is) m));
+            once = once_next;
           })
           class_rows_same above_le lowest_le w.range_in
 
       -- If it is new, it is appended and entered in the index.
-      new_next : p.used ≤ at → (buckets' : List ℕ) → EntersKey class at buckets buckets'
-          → PassNext rows buckets' p (after_counting p (p.used + 1) p.lowest p.above)
-      new_next l buckets' enters =
+      new_next : p.used ≤ at → (buckets' : List ℕ) (entered : Bool) → EntersKey (make_key class mark) at buckets buckets' entered
+          → PassNext rows buckets' p (after_counting p (p.used + 1) (p.complete && entered) at class mark p.lowest p.above)
+      new_next l buckets' entered enters =
           let u = index_before.used in
           let m : at ≡ length ks = let z = place_le (make_key class mark) ks in let y = at_is in omega arith in
           let more : next_keys ≡ ks ++ (make_key class mark ∷ []) = rw (next_row, key) (keys_new rs p.row row_in_list e (rw (← at_key) (omega arith))) in
           counting_next
           (record {
             used = rw (more, length_appended ks (make_key class mark)) (omega arith);
-            index = rw more (enters mark ks index_before.index m);
+            index = rw more (enters ks p.complete index_before.index m (λ i n q. place_before (make_key class mark) ks i (rw (← at_is) (omega arith)) q));
+            last = λ z. rw (more, m) (key_appended ks (make_key class mark));
+            once = once_next;
           })
           class_rows_same above_le lowest_le w.range_in
 
@@ -252,7 +267,7 @@ module _ {rows buckets : List ℕ} {p : Pass} (w : PassHolds rows buckets p) (on
 
       -- A change that does nothing.
       pub nothing_next : k.action ≡ 0
-          → PassNext rows buckets p (after_counting p p.used (cond (eqb p.above 0) p.row p.lowest) (p.row + 1))
+          → PassNext rows buckets p (after_counting p p.used p.complete p.last p.class p.mark (cond (eqb p.above 0) p.row p.lowest) (p.row + 1))
       nothing_next z = class_next (nothing_class (nth rs p.row) k.from p.used (sym (ap (λ (x : Change). x.action) change_is) ∙ z))
 
       -- A change of entry `at`.
@@ -263,9 +278,9 @@ module _ {rows buckets : List ℕ} {p : Pass} (w : PassHolds rows buckets p) (on
         key_is : make_key k.class k.mark ≡ key_of (nth rs p.row)
         key_is = ap (λ (x : Change). make_key x.class x.mark) change_is ∙ other_key (nth rs p.row) k.from p.used other
 
-        pub old_next : at < p.used → PassNext rows buckets p (after_counting p p.used p.lowest p.above)
+        pub old_next : at < p.used → PassNext rows buckets p (after_counting p p.used p.complete at k.class k.mark p.lowest p.above)
         old_next = there_next other k.class k.mark key_is at is
 
-        pub added_next : p.used ≤ at → (buckets' : List ℕ) → EntersKey k.class at buckets buckets'
-            → PassNext rows buckets' p (after_counting p (p.used + 1) p.lowest p.above)
+        pub added_next : p.used ≤ at → (buckets' : List ℕ) (entered : Bool) → EntersKey (make_key k.class k.mark) at buckets buckets' entered
+            → PassNext rows buckets' p (after_counting p (p.used + 1) (p.complete && entered) at k.class k.mark p.lowest p.above)
         added_next = new_next other k.class k.mark key_is at is

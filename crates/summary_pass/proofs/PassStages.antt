@@ -20,9 +20,9 @@ use Rattle.summary_index.specs.SummaryIndex.{make_key}
 use Rattle.summary_list.specs.declared.Change.{Change}
 use Rattle.summary_list.specs.EntryList.{blank, entry_has, changed_entry, find_entry}
 use Rattle.summary_pass.specs.declared.Pass.{Pass}
-use Rattle.summary_pass.specs.PassState.{place_of, no_change, count_of, size_by, change_of, keys_counted, sized_rows, PassHolds, ListHolds, ChangeFor, PassNext, AfterChange, PassDone}
+use Rattle.summary_pass.specs.PassState.{place_of, no_change, size_by, change_of, keys_counted, sized_rows, PassHolds, ListHolds, ChangeFor, PassNext, AfterChange, PassDone}
 use Rattle.summary_pass.specs.PassLists.{change_place}
-use Rattle.summary_pass.specs.PassSteps.{count_used, entries_keys, entries_length, ListStep, list_with, count_step, size_step}
+use Rattle.summary_pass.specs.PassSteps.{entries_keys, entries_length, ListStep, list_with, count_step, size_step}
 
 -- The index of the entry that a change is made in, and the list with it.
 abbrev pub entry_place : List Summary → Change → ℕ
@@ -33,19 +33,30 @@ changed_list ys k = set ys (entry_place ys k) (changed_entry (get_or ys (entry_p
 
 -- ---- a change
 
--- A change knows how many entries are in use.
-change_used : (sizing : Bool) (r : Row) (from used : ℕ) → (change_of sizing r from used).used ≡ used
-unfolding change_of
-change_used sizing r from used = by (is_kind 1 r) sizing
-  where
-    by : (x s : Bool) → (cond x (cond s (size_by r from used) (no_change from used)) (cond s (no_change from used) (count_of r from used))).used ≡ used
-    by true true = refl
-    by true false = refl
-    by false true = refl
-    by false false = count_used r from used
+-- The parts of a change that do not depend on the row.
+pub record ChangeParts (used : ℕ) (k : Change) : Type 0 where
+  pub used_is : k.used ≡ used
+  pub mark_is : k.mark < 2
 
-used_of : {rows : List ℕ} {p : Pass} {k : Change} → ChangeFor rows p k → k.used ≡ p.used
-used_of {rows} {p} {k} c = ap (λ (x : Change). x.used) c.is ∙ change_used p.sizing (nth (rows_of rows) p.row) k.from p.used
+change_parts : (sizing : Bool) (r : Row) (from used : ℕ) → ChangeParts used (change_of sizing r from used)
+unfolding change_of
+change_parts sizing r from used = by (is_kind 1 r) sizing (is_kind 4 r) (is_kind 2 r)
+  where
+    by : (x s y z : Bool) → ChangeParts used (cond x (cond s (size_by r from used) (no_change from used)) (cond s (no_change from used)
+        (cond y
+        (record { from = from; used = used; class = r.prim; mark = 1; action = 1; bytes = 4 * r.size; refs = r.count; waiting = 0 })
+        (cond z
+        (record { from = from; used = used; class = r.class; mark = 0; action = 1; bytes = 0; refs = r.count; waiting = 1 })
+        (record { from = from; used = used; class = r.class; mark = 0; action = 1; bytes = 4 * r.size; refs = r.count; waiting = 0 })))))
+    by true true y z = record { used_is = refl; mark_is = omega arith }
+    by true false y z = record { used_is = refl; mark_is = omega arith }
+    by false true y z = record { used_is = refl; mark_is = omega arith }
+    by false false true z = record { used_is = refl; mark_is = omega arith }
+    by false false false true = record { used_is = refl; mark_is = omega arith }
+    by false false false false = record { used_is = refl; mark_is = omega arith }
+
+parts_of : {rows : List ℕ} {p : Pass} {k : Change} → ChangeFor rows p k → ChangeParts p.used k
+parts_of {rows} {p} {k} c = rw c.is (change_parts p.sizing (nth (rows_of rows) p.row) k.from p.used)
 
 -- A search ends at the latest after the entries that it looks at.
 find_le : (ys : List Summary) (k : Change) (t i : ℕ) → find_entry ys k i t ≤ i + t
@@ -111,24 +122,24 @@ module _ (rows buckets₀ : List ℕ) (classes₀ : List Summary) (start : Pass)
 
       pub change_requires : (k.from ≤ k.used) × (k.used ≤ length classes)
       change_requires =
-          let u = used_of c in
+          let u = (parts_of c).used_is in
           let f = c.from_in in
           let i = s.list.used_in in
           (omega arith, omega arith)
 
-      pub after_requires : (p.row < 2 ^ 32) × (p.used < 2 ^ 32) × (entry_place classes k < 2 ^ 32)
+      pub after_requires : (p.row < 2 ^ 32) × (p.used < 2 ^ 32) × (entry_place classes k < 2 ^ 33) × (k.mark < 2)
       after_requires =
-          let u = used_of c in
+          let u = (parts_of c).used_is in
           let f = c.from_in in
           let n = used_few in
           let r = row_left in
           let e = s.holds.end_few in
           let m = find_le classes k (k.used - k.from) k.from in
-          (omega arith, omega arith, omega arith)
+          (omega arith, omega arith, omega arith, (parts_of c).mark_is)
 
       -- The keys of the list.
       list_keys : map its_key (take k.used classes) ≡ keys_counted rows p
-      list_keys = rw (used_of c, s.list.entries) (entries_keys rs p.counted (sized_rows p))
+      list_keys = rw ((parts_of c).used_is, s.list.entries) (entries_keys rs p.counted (sized_rows p))
 
       at_place : (k.action ≡ 0 → ⊥) → entry_place classes k ≡ place_of (make_key k.class k.mark) (keys_counted rows p)
       at_place n =

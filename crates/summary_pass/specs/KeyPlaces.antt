@@ -1,19 +1,20 @@
--- The place of a key in a list of keys: the key is there, unless it is the end; and the list with the key is the list itself, or the key
--- appended. For the proofs of this crate's functions.
+-- The place of a key in a list of keys: before it no key is the same, at it the key is; and the list with the key is the list itself, or
+-- the key appended. For the proofs of this crate's functions.
 -- Assumes nothing.
 use Rattle.std.specs.Prelude.{◌≡◌, Bool, take}
 use Rattle.std.proofs.Math.Path.{refl, sym, ap}
 use Rattle.std.proofs.Common.{◌∙◌, length-append, take-suc}
-use Prim.Native.Nat.{ℕ, suc, ◌+◌, ◌≤◌, ◌<◌}
+use Prim.Native.Nat.{ℕ, zero, suc, ◌+◌, ◌≤◌, ◌<◌}
 use native.Mathlib.Omega.{arith}
 use Rattle.std.proofs.Math.Bool.{true, false, cond}
 use mathlib.Core.List.{List, [], ◌∷◌, ◌++◌}
-use Rattle.std.proofs.Math.ListN.{length}
+use Rattle.std.proofs.Math.ListN.{length, get_or-append}
+use Rattle.std.proofs.lemmas.List.{get_or_at}
 use Rattle.table.specs.Rows.{is_kind, zero_row, nth}
 use Rattle.table.specs.declared.Row.{Row}
 use Rattle.summaries.specs.Summaries.{Key, same_key, key_of, alter, with_key, keyed, keys}
-use Rattle.summaries.specs.SummaryKeys.{same_true, keys_next}
-use Rattle.summary_index.specs.SummaryIndex.{key_at}
+use Rattle.summaries.specs.SummaryKeys.{same_true, same_self, never, mem_at, Distinct, keys_next}
+use Rattle.summary_index.specs.SummaryIndex.{make_key, key_at}
 use Rattle.summary_pass.specs.PassState.{place_of}
 
 -- ---- the place of a key
@@ -39,6 +40,31 @@ module _ (j : Key) where
       go true e l h = sym (same_true j k e)
       go false e l h = h (omega arith)
 
+  -- No key before the place is the same.
+  pub place_before : (ks : List Key) (i : ℕ) → i < place_of j ks → key_at ks i ≡ j → ⊥
+  unfolding place_of
+  place_before [] i l e = omega arith
+  place_before (k ∷ ks) i l e = go (same_key j k) refl i l e (place_before ks)
+    where
+      go : (b : Bool) → same_key j k ≡ b → (i : ℕ) → i < cond b 0 (suc (place_of j ks)) → key_at (k ∷ ks) i ≡ j
+          → ((n : ℕ) → n < place_of j ks → key_at ks n ≡ j → ⊥) → ⊥
+      go true s i l e h = omega arith
+      go false s zero l e h = never (rw e (same_self j)) s
+      go false s (suc i) l e h = h i (omega arith) e
+
+  -- The place is the index before which no key is the same and at which, if it is one, the key is.
+  pub place_is : (ks : List Key) (i : ℕ) → i ≤ length ks → (i < length ks → key_at ks i ≡ j) → ((n : ℕ) → n < i → key_at ks n ≡ j → ⊥) → place_of j ks ≡ i
+  unfolding place_of
+  place_is [] i l at before = omega arith
+  place_is (k ∷ ks) zero l at before =
+      let s : same_key j k ≡ true = rw (at (omega arith)) (same_self j) in
+      rw s
+  place_is (k ∷ ks) (suc i) l at before = go (same_key j k) refl (place_is ks i (omega arith) (λ m. at (omega arith)) (λ n m e. before (suc n) (omega arith) e))
+    where
+      go : (b : Bool) → same_key j k ≡ b → place_of j ks ≡ i → cond b 0 (suc (place_of j ks)) ≡ suc i
+      go true s h = absurd (before 0 (omega arith) (sym (same_true j k s)))
+      go false s h = ap suc h
+
   -- ---- the list with a key
 
   -- The list with a key that it has is the list itself.
@@ -61,6 +87,15 @@ module _ (j : Key) where
           → cond b (k ∷ ks) (k ∷ with_key j ks) ≡ k ∷ (ks ++ (j ∷ []))
       go true l h = absurd (omega arith)
       go false l h = ap (λ (l : List Key). k ∷ l) (h (omega arith))
+
+-- ---- each key once
+
+pub key_once : (ks : List Key) → Distinct ks → (i n : ℕ) → i < length ks → n < length ks → key_at ks i ≡ key_at ks n → i ≡ n
+key_once [] d i n l m e = absurd (omega arith)
+key_once (k ∷ ks) d zero zero l m e = refl
+key_once (k ∷ ks) d zero (suc n) l m e = absurd (never (mem_at k (make_key 0 0) ks n (omega arith) (rw (← e) (same_self k))) d.0)
+key_once (k ∷ ks) d (suc i) zero l m e = absurd (never (mem_at k (make_key 0 0) ks i (omega arith) (rw e (same_self k))) d.0)
+key_once (k ∷ ks) d (suc i) (suc n) l m e = ap suc (key_once ks d.1 i n (omega arith) (omega arith) e)
 
 -- ---- one more row
 
@@ -87,5 +122,12 @@ module _ (rows : List Row) (i : ℕ) (inside : i < length rows) where
 
 -- ---- the list with one key more
 
-pub length_appended : (ks : List Key) (k : Key) → length (ks ++ (k ∷ [])) ≡ length ks + 1
-length_appended ks k = length-append ks (k ∷ [])
+module _ (ks : List Key) (k : Key) where
+  pub key_earlier : (i : ℕ) → i < length ks → key_at (ks ++ (k ∷ [])) i ≡ key_at ks i
+  key_earlier i l = get_or-append ks (k ∷ []) (make_key 0 0) i l
+
+  pub key_appended : key_at (ks ++ (k ∷ [])) (length ks) ≡ k
+  key_appended = get_or_at ks k [] (make_key 0 0) (length ks) refl
+
+  pub length_appended : length (ks ++ (k ∷ [])) ≡ length ks + 1
+  length_appended = length-append ks (k ∷ [])

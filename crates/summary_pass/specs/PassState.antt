@@ -20,12 +20,14 @@ place_of j (k ∷ ks) = cond (same_key j k) 0 (suc (place_of j ks))
 -- The summary index of the keys ks, as a pass knows it.
 pub record IndexState (ks : List Key) (buckets : List ℕ) (p : Pass) : Type 0 where
   pub used : p.used ≡ length ks
-  pub index : IndexHolds ks buckets
+  pub index : IndexHolds ks buckets p.complete
+  pub last : p.last < p.used → key_at ks p.last ≡ make_key p.class p.mark
+  pub once : (i j : ℕ) → i < length ks → j < length ks → key_at ks i ≡ key_at ks j → i ≡ j
 
--- No entry before index `from` has the class word or primitive type.
-abbrev pub FromBefore : (buckets : List ℕ) → Pass → (class from : ℕ) → Type 0
-FromBefore buckets p class from =
-    (ks : List Key) → IndexState ks buckets p → (from ≤ length ks) × ((i : ℕ) → i < from → (key_at ks i).class ≡ class → ⊥)
+-- No entry before index `from` has the key.
+abbrev pub FromBefore : (buckets : List ℕ) → Pass → (class mark from : ℕ) → Type 0
+FromBefore buckets p class mark from =
+    (ks : List Key) → IndexState ks buckets p → (from ≤ length ks) × ((i : ℕ) → i < from → key_at ks i ≡ make_key class mark → ⊥)
 
 -- ---- a change
 

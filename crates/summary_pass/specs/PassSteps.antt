@@ -114,7 +114,7 @@ count_action r from used = by (is_kind 4 r) (is_kind 2 r)
     by false true = refl
     by false false = refl
 
-pub count_used : (r : Row) (from used : ℕ) → (count_of r from used).used ≡ used
+count_used : (r : Row) (from used : ℕ) → (count_of r from used).used ≡ used
 count_used r from used = by (is_kind 4 r) (is_kind 2 r)
   where
     by : (x y : Bool) → let k : Change = cond x

@@ -7,7 +7,7 @@ ghost use Rattle.summary_pass.specs.PassState.{PassHolds, ListHolds, IndexState,
 
 use summaries::Summary;
 use summary_list::Change;
-use table::Row;
+use table::{Row, Search};
 
 // The state of a pass.
 #[derive(Drop)]
@@ -21,19 +21,35 @@ pub struct Pass {
     pub end: usize,
     // How many rows have been counted.
     pub counted: usize,
-    // How many entries are in use.
+    // How many entries are in use, and whether the summary index has the keys of all of them.
     pub used: usize,
+    pub complete: bool,
+    // The entry in which the last row was counted, and its key.
+    pub last: usize,
+    pub class: u64,
+    pub mark: u64,
     // The class rows among the rows counted are not before the first of these two rows, and before the second.
     pub lowest: usize,
     pub above: usize,
 }
 
-// Returns an entry before which none has the class word or primitive type: that to which the summary index leads, or the end of the
-// entries in use.
-fn seek_from(buckets: &[u64], p: Pass, class: u64) -> usize
-    ensures { FromBefore buckets.now p class result }
+// Returns an entry before which none has the key: that of the row before, that which the summary index leads to, or, if the index has no
+// such key, the end of the entries in use; the first entry if the index is not complete.
+fn seek_from(buckets: &[u64], p: Pass, class: u64, mark: u64) -> usize
+    ensures { FromBefore buckets.now p class mark result }
 {
-    summary_index::seek(buckets, p.used, class)
+    if (p.last < p.used) & (p.class == class) & (p.mark == mark) {
+        return p.last;
+    }
+    match summary_index::find(buckets, class, mark) {
+        Search::At(i) => i,
+        Search::NotFound => {
+            if p.complete {
+                return p.used;
+            }
+            0
+        }
+    }
 }
 
 // Returns a change that does nothing.
@@ -96,7 +112,7 @@ fn waiting_counted(row: Row) -> u64
 // Returns the change that counts a row.
 fn count_change(buckets: &[u64], p: Pass, row: Row) -> Change
     requires { row.size < 2 ^ 32 }
-    ensures { (result ≡ change_of false row result.from p.used) × (((result.action ≡ 0) × (result.from ≤ p.used)) ⊎ FromBefore buckets.now p result.class result.from) }
+    ensures { (result ≡ change_of false row result.from p.used) × (((result.action ≡ 0) × (result.from ≤ p.used)) ⊎ FromBefore buckets.now p result.class result.mark result.from) }
 {
     if row.kind == 1 {
         return no_change(p.used);
@@ -104,7 +120,7 @@ fn count_change(buckets: &[u64], p: Pass, row: Row) -> Change
     let class = key_class(row);
     let mark = key_mark(row);
     Change {
-        from: seek_from(buckets, p, class),
+        from: seek_from(buckets, p, class, mark),
         used: p.used,
         class: class,
         mark: mark,
@@ -117,11 +133,11 @@ fn count_change(buckets: &[u64], p: Pass, row: Row) -> Change
 
 // Returns the change that gives the objects of a class row their bytes.
 fn size_change(buckets: &[u64], p: Pass, row: Row) -> Change
-    ensures { (result ≡ change_of true row result.from p.used) × (((result.action ≡ 0) × (result.from ≤ p.used)) ⊎ FromBefore buckets.now p result.class result.from) }
+    ensures { (result ≡ change_of true row result.from p.used) × (((result.action ≡ 0) × (result.from ≤ p.used)) ⊎ FromBefore buckets.now p result.class result.mark result.from) }
 {
     if row.kind == 1 {
         return Change {
-            from: seek_from(buckets, p, row.address),
+            from: seek_from(buckets, p, row.address, 0),
             used: p.used,
             class: row.address,
             mark: 0,
@@ -156,9 +172,9 @@ fn lowest_class(p: Pass) -> usize
     p.lowest
 }
 
-// Returns the pass after the next row, which changed entry `at`. If the entry is new, it is entered in the summary index.
+// Returns the pass after the next row, which changed entry `at`. If the entry is new, its key is entered in the summary index.
 pub fn after_change(buckets: &mut [u64], p: Pass, k: Change, at: usize) -> Pass
-    requires { (p.row < 2 ^ 32) × (p.used < 2 ^ 32) × (at < 2 ^ 32) }
+    requires { (p.row < 2 ^ 32) × (p.used < 2 ^ 32) × (at < 2 ^ 33) × (k.mark < 2) }
     ensures { AfterChange buckets.old p k at buckets.new result }
 {
     let row = p.row + 1;
@@ -171,6 +187,10 @@ pub fn after_change(buckets: &mut [u64], p: Pass, k: Change, at: usize) -> Pass
             end: p.end,
             counted: p.counted,
             used: p.used,
+            complete: p.complete,
+            last: p.last,
+            class: p.class,
+            mark: p.mark,
             lowest: p.lowest,
             above: p.above,
         };
@@ -183,14 +203,19 @@ pub fn after_change(buckets: &mut [u64], p: Pass, k: Change, at: usize) -> Pass
             end: p.end,
             counted: row,
             used: p.used,
+            complete: p.complete,
+            last: p.last,
+            class: p.class,
+            mark: p.mark,
             lowest: lowest_class(p),
             above: row,
         };
     }
     let mut used = p.used;
+    let mut complete = p.complete;
     if p.used <= at {
         used = p.used + 1;
-        summary_index::enter(buckets, k.class, p.row, at);
+        complete = p.complete & summary_index::enter(buckets, k.class, k.mark, at);
     }
     Pass {
         on: on,
@@ -199,6 +224,10 @@ pub fn after_change(buckets: &mut [u64], p: Pass, k: Change, at: usize) -> Pass
         end: p.end,
         counted: row,
         used: used,
+        complete: complete,
+        last: at,
+        class: k.class,
+        mark: k.mark,
         lowest: p.lowest,
         above: p.above,
     }

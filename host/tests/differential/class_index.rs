@@ -20,16 +20,11 @@ pub const PROBES: usize = 64;
 /// Addresses at this distance have the same hash, and so the same bucket, apart from carries.
 pub const SAME_HASH: u64 = (1 << 34) - 4;
 
-/// Returns the hash of an address.
-pub fn hash(address: u64) -> u64 {
-    let folded = (address % (1 << 32) + (address >> 32)) % (1 << 32);
-    let product: u64 = folded * 0x9E37_79B1;
-    ((product >> 32) + product) % (1 << 32) * 0xC2B2_AE35 % (1 << 32)
-}
-
 /// Returns the bucket at which the search for an address begins, in an index of this size.
 pub fn bucket(address: u64, size: usize) -> usize {
-    ((hash(address) * size as u64) >> 32) as usize
+    let folded = (address / 4 + (address >> 34)) % (1 << 32);
+    let hash = folded * 0x9E37_79B1 % (1 << 32);
+    ((hash * size as u64) >> 32) as usize
 }
 
 /// Returns how many buckets are passed before each of these addresses is found in an index of this size. Returns nothing if one of

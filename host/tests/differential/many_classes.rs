@@ -1,7 +1,7 @@
-//! Compares reads with a list of class summaries on fixed dumps of many classes: more than the library's index of them can hold, and
-//! class words that may have the same hash. The lists are exactly long enough, longer, or too short by one.
+//! Compares reads with a list of class summaries on fixed dumps of many classes: more than an index of them can hold, and class
+//! words that may have the same hash. The lists are exactly long enough, longer, or too short by one.
 
-use crate::class_index::{hash, PROBES, SAME_HASH};
+use crate::class_index::SAME_HASH;
 use crate::encode;
 use crate::rng::Rng;
 use crate::summaries::{list_of, read_both, Capacity};
@@ -72,43 +72,16 @@ fn distinct(words: &[u64], entries: &[Entry]) -> usize {
     words.len() + (0..8).filter(types).count()
 }
 
-/// The last bucket at which the search for a class word may begin in the index of class summaries.
-const LAST_BUCKET: u64 = 0xFFFF;
-
-/// Returns class words with different hashes, for which the search begins at this bucket.
-fn words_of_bucket(bucket: u64, count: usize) -> Vec<u64> {
-    let all = (0..).map(|at| 0x7_0000_0000 + 4 * at);
-    let words = all.filter(|word| hash(*word) >> 16 == bucket).take(count);
-    words.collect()
-}
-
-/// Reads dumps of these class words, with their class rows in each order.
-fn check_orders(what: &str, words: &[u64]) {
-    for order in ORDERS {
-        let entries = entries(words, order, &mut Rng::new(words.len() as u64));
-        let what = format!("{what}, {order:?}");
-        check(&what, &entries, distinct(words, &entries));
-    }
-}
-
-#[test]
-fn many_classes() {
-    for count in [16_384, 40_000] {
-        check_orders(&format!("{count} classes"), &words(count, 256));
-    }
-}
-
-/// Of the classes for which the search begins at one bucket the index holds as many as a search looks at.
 #[test]
 fn more_classes_than_an_index_holds() {
-    for bucket in [0, 0x1234, LAST_BUCKET] {
-        for count in [PROBES - 1, PROBES, PROBES + 1, 3 * PROBES] {
-            let what = format!("{count} classes at bucket {bucket:#X}");
-            check_orders(&what, &words_of_bucket(bucket, count));
+    for count in [16_384, 25_000, 25_001, 30_000] {
+        for order in ORDERS {
+            let words = words(count, 256);
+            let entries = entries(&words, order, &mut Rng::new(count as u64));
+            let what = format!("{count} classes, {order:?}");
+            check(&what, &entries, distinct(&words, &entries));
         }
     }
-    let near = [0x1234, 0x1234 + 30].map(|bucket| words_of_bucket(bucket, PROBES));
-    check_orders("classes at two buckets that are near", &near.concat());
 }
 
 #[test]

@@ -9,12 +9,6 @@ use Rattle.address_hash.proofs.hash.Tie as tie
 add-folded : tie.Need-overflow-add-folded
 add-folded c = search rules
 
-mul-product : tie.Need-overflow-mul-product
-mul-product c = search rules
-
-add-result : tie.Need-overflow-add-result
-add-result c = search rules
-
 mul-result : tie.Need-overflow-mul-result
 mul-result c = search rules
 
@@ -23,4 +17,4 @@ unfolding hash
 returns c = (refl, omega arith)
 
 pub hash-spec : {M : Type 1} → statement M
-hash-spec = tie.close (tie.spec add-folded mul-product add-result mul-result returns)
+hash-spec = tie.close (tie.spec add-folded mul-result returns)

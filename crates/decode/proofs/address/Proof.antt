@@ -11,70 +11,70 @@ use Rattle.decode.proofs.address.Statement.{statement}
 use Rattle.decode.proofs.address.Tie as tie
 
 -- The field was read.
-got : (c : tie.After-raw) → let a = c.before.before.before.before.args in
-    run (field a.n) a.s.now a.at ≡ whole c.raw.given.0.0 c.raw.given.0.1.0
-got c = sym c.before.before.field.ensures.0 ∙ ap outcome c.raw.given.1
+got : (c : tie.In-Is) → let a = c.args in
+    run (field a.n) a.s.now a.at ≡ whole c.in-Is.raw c.in-Is.next
+got c = sym c.field.ensures.0 ∙ ap outcome c.in-Is.is
 
 -- `add_gap` returned the address for the field's signed gap, if it is in range.
-module _ (c : tie.After-add-gap) where
-  leads : let w = c.before.before.before in let a = w.before.before.before.before.args in
-      add_gap a.highest a.base (signed a.n w.raw.given.0.0) ≡ c.add_gap.result
+module _ (c : tie.After-add_gap) where
+  leads : let w = c.before.before in let a = w.args in
+      add_gap a.highest a.base (signed a.n w.in-Is.raw) ≡ c.add_gap.result
   leads =
-      let w = c.before.before.before in
-      let a = w.before.before.before.before.args in
-      let g = c.before.signed in
-      ap (add_gap a.highest a.base) (sym g.ensures ∙ sym (to_z-of_z {w = w64} {z = g.result} (record { sfits = g.type-inv }))) ∙ sym c.add_gap.ensures
+      let w = c.before.before in
+      let a = w.args in
+      let g = c.signed-gap in
+      ap (add_gap a.highest a.base) (sym g.ensures ∙ sym (to_z-of_z {w = w64} {z = g.result} (record { sfits = g.type_inv }))) ∙ sym c.add_gap.ensures
 
 field-requires : tie.Need-field-requires
 field-requires c κs = search rules
 
-enum-known-raw : tie.Need-enum-known-raw
-enum-known-raw c = search rules
+enum_known-raw : tie.Need-enum_known-raw
+enum_known-raw c = search rules
 
-signed-requires : tie.Need-signed-requires
-signed-requires c κs =
-    let w = c.before in
-    (omega arith, subst (FitsWidth _) w.raw.given.1 w.before.before.field.ensures.1)
+signed-gap-requires : tie.Need-signed-gap-requires
+signed-gap-requires c κs =
+    let w = c in
+    (omega arith, subst (FitsWidth _) w.in-Is.is w.field.ensures.1)
 
-add-gap-requires : tie.Need-add-gap-requires
-add-gap-requires c κs = search rules
+add_gap-requires : tie.Need-add_gap-requires
+add_gap-requires c κs = search rules
 
-enum-known-a : tie.Need-enum-known-a
-enum-known-a c = search rules
+enum_known-a : tie.Need-enum_known-a
+enum_known-a c = search rules
 
-enum_told : tie.Need-enum-told
-enum_told c = search rules
+enum_told-1 : tie.Need-enum_told-1
+enum_told-1 c = search rules
 
-enum-known-w : tie.Need-enum-known-w
-enum-known-w c = search rules
+enum_known-w : tie.Need-enum_known-w
+enum_known-w c = search rules
 
-returns : tie.Need-returns
+returns-in-Just : tie.Need-returns-in-Just
 unfolding address
-returns c =
-    let m = c.before.before.before in
-    rw (run_then, got m.before.before.before, run_need, leads m, c.before.a.given.1)
+returns-in-Just c =
+    let m = c.before in
+    rw (run_then, got m.before.before, run_need, leads m, c.in-Just.is)
 
-returns-2 : tie.Need-returns-2
+returns-in-Nothing : tie.Need-returns-in-Nothing
 unfolding address
-returns-2 c =
-    let m = c.before.before in
-    rw (run_then, got m.before.before.before, run_need, leads m, c.enum_told.given.1)
+returns-in-Nothing c =
+    let m = c.before in
+    rw (run_then, got m.before.before, run_need, leads m, c.in-Nothing.is)
 
-returns-3 : tie.Need-returns-3
+returns-in-Stops : tie.Need-returns-in-Stops
 unfolding address
-returns-3 c = rw (run_then, ← c.before.before.before.field.ensures.0, c.before.w.given.1)
+returns-in-Stops c = rw (run_then, ← c.field.ensures.0, c.in-Stops.is)
 
 pub address_spec : {M : Type 1} → statement M
 address_spec =
     tie.close
     (tie.spec
     field-requires
-    enum-known-raw
-    signed-requires
-    add-gap-requires
-    enum-known-a
-    enum_told
-    enum-known-w
-    returns
-    returns-2
-    returns-3)
+    enum_known-raw
+    signed-gap-requires
+    add_gap-requires
+    enum_known-a
+    enum_told-1
+    enum_known-w
+    returns-in-Just
+    returns-in-Nothing
+    returns-in-Stops)

@@ -10,66 +10,66 @@ use Rattle.decode.proofs.DecodeLaws.{all_within_too_low, all_within_too_high, al
 use Rattle.decode.proofs.all_within.Statement.{statement}
 use Rattle.decode.proofs.all_within.Tie as tie
 
-abbrev invariant-loop : tie.invariant-loop
-invariant-loop s at n low high i₀ i =
+abbrev invariant-loop-i : tie.invariant-loop-i
+invariant-loop-i s at n low high i₀ i =
     (i ≤ n) × (all_within low high (take (n - i) (drop (at + i) s)) ≡ all_within low high (take n (drop at s)))
 
-abbrev decreases-loop : tie.decreases-loop
-decreases-loop s at n low high i₀ i = n - i
+abbrev decreases-loop-i : tie.decreases-loop-i
+decreases-loop-i s at n low high i₀ i = n - i
 
-loop-holds : tie.Need-loop-init invariant-loop decreases-loop
-loop-holds c = (omega arith, simp (add-zero, sub-zero))
+loop-i-init : tie.Need-loop-i-init invariant-loop-i decreases-loop-i
+loop-i-init c = (omega arith, simp (add-zero, sub-zero))
 
-add-b : tie.Need-overflow-add-b invariant-loop decreases-loop
-add-b c = search rules
+overflow_add-b : tie.Need-overflow_add-b invariant-loop-i decreases-loop-i
+overflow_add-b c = search rules
 
-shared-slice-read-b : tie.Need-shared-slice-read-b invariant-loop decreases-loop
-shared-slice-read-b c = search rules
+bounds-s-at : tie.Need-bounds-s-at invariant-loop-i decreases-loop-i
+bounds-s-at c = search rules
 
-returns : tie.Need-returns invariant-loop decreases-loop
-returns c =
+returns-then-b-low : tie.Need-returns-then-b-low invariant-loop-i decreases-loop-i
+returns-then-b-low c =
     let l = c.before.before.before in
-    let a = l.before.args in
-    sym (sym l.loop.invariant.1 ∙ all_within_too_low a.s.now a.at a.n l.loop.i a.low a.high (omega arith) (omega arith) (omega arith))
+    let a = l.args in
+    sym (sym l.loop-i.invariant.1 ∙ all_within_too_low a.s.now a.at a.n l.loop-i.i a.low a.high (omega arith) (omega arith) (omega arith))
 
-returns-2 : tie.Need-returns-2 invariant-loop decreases-loop
-returns-2 c =
+returns-then-high-b : tie.Need-returns-then-high-b invariant-loop-i decreases-loop-i
+returns-then-high-b c =
     let l = c.before.before.before.before in
-    let a = l.before.args in
-    sym (sym l.loop.invariant.1 ∙ all_within_too_high a.s.now a.at a.n l.loop.i a.low a.high (omega arith) (omega arith) (omega arith) (omega arith))
+    let a = l.args in
+    sym (sym l.loop-i.invariant.1 ∙ all_within_too_high a.s.now a.at a.n l.loop-i.i a.low a.high (omega arith) (omega arith) (omega arith) (omega arith))
 
-add-i : tie.Need-overflow-add-i invariant-loop decreases-loop
-add-i c = search rules
+overflow_add-i : tie.Need-overflow_add-i invariant-loop-i decreases-loop-i
+overflow_add-i c = search rules
 
-loop-less : tie.Need-loop-smaller invariant-loop decreases-loop
-loop-less c = search rules
+loop-i-smaller : tie.Need-loop-i-smaller invariant-loop-i decreases-loop-i
+loop-i-smaller c = search rules
 
-loop-again : tie.Need-loop-preserved invariant-loop decreases-loop
-loop-again c =
+loop-i-preserved : tie.Need-loop-i-preserved invariant-loop-i decreases-loop-i
+loop-i-preserved c =
     let l = c.before.before.before.before in
-    let a = l.before.args in
-    (omega arith, sym (all_within_next a.s.now a.at a.n l.loop.i a.low a.high (omega arith) (omega arith) (omega arith) (omega arith)) ∙ l.loop.invariant.1)
+    let a = l.args in
+    (omega arith, sym (all_within_next a.s.now a.at a.n l.loop-i.i a.low a.high (omega arith) (omega arith) (omega arith) (omega arith)) ∙ l.loop-i.invariant.1)
 
-returns-3 : tie.Need-returns-3 invariant-loop decreases-loop
+returns : tie.Need-returns invariant-loop-i decreases-loop-i
 unfolding all_within
-returns-3 c =
+returns c =
     let l = c.before in
-    let a = l.before.args in
-    let e : a.n - l.loop.i ≡ 0 = omega arith in
-    rw e at l.loop.invariant.1
+    let a = l.args in
+    let e : a.n - l.loop-i.i ≡ 0 = omega arith in
+    rw e at l.loop-i.invariant.1
 
-pub all-within-spec : {M : Type 1} → statement M
-all-within-spec =
+pub all_within_spec : {M : Type 1} → statement M
+all_within_spec =
     tie.close
     (tie.spec
-    invariant-loop
-    decreases-loop
-    loop-holds
-    add-b
-    shared-slice-read-b
-    returns
-    returns-2
-    add-i
-    loop-less
-    loop-again
-    returns-3)
+    invariant-loop-i
+    decreases-loop-i
+    loop-i-init
+    overflow_add-b
+    bounds-s-at
+    returns-then-b-low
+    returns-then-high-b
+    overflow_add-i
+    loop-i-smaller
+    loop-i-preserved
+    returns)

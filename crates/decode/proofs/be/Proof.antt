@@ -11,74 +11,74 @@ use Rattle.decode.proofs.be.Statement.{statement}
 use Rattle.decode.proofs.be.Tie as tie
 
 -- The sum so far is below 256 ^ i, and the bytes left, read on from it, give the value of all n bytes.
-abbrev invariant-loop : tie.invariant-loop
-invariant-loop s at n sum₀ i₀ sum i =
+abbrev invariant-loop-i : tie.invariant-loop-i
+invariant-loop-i s at n sum₀ i₀ sum i =
     (i ≤ n) × (sum < 256 ^ i) × (value_after sum (take (n - i) (drop (at + i) s)) ≡ value_after 0 (take n (drop at s)))
 
-abbrev decreases-loop : tie.decreases-loop
-decreases-loop s at n sum₀ i₀ sum i = n - i
+abbrev decreases-loop-i : tie.decreases-loop-i
+decreases-loop-i s at n sum₀ i₀ sum i = n - i
 
-loop-holds : tie.Need-loop-init invariant-loop decreases-loop
-loop-holds c = (omega arith, omega arith, simp (add-zero, sub-zero))
+loop-i-init : tie.Need-loop-i-init invariant-loop-i decreases-loop-i
+loop-i-init c = (omega arith, omega arith, simp (add-zero, sub-zero))
 
-mul-sum : tie.Need-overflow-mul-sum invariant-loop decreases-loop
-mul-sum c = omega (arith, seven_bytes_lt _ c.before.loop.invariant.1 (omega arith))
+overflow_mul-sum : tie.Need-overflow_mul-sum invariant-loop-i decreases-loop-i
+overflow_mul-sum c = omega (arith, seven_bytes_lt _ c.loop-i.invariant.1 (omega arith))
 
-add_wide : tie.Need-overflow-add-wide invariant-loop decreases-loop
-add_wide c = search rules
+overflow_add-at : tie.Need-overflow_add-at invariant-loop-i decreases-loop-i
+overflow_add-at c = search rules
 
-shared-slice-read-wide : tie.Need-shared-slice-read-wide invariant-loop decreases-loop
-shared-slice-read-wide c = search rules
+bounds-s-at : tie.Need-bounds-s-at invariant-loop-i decreases-loop-i
+bounds-s-at c = search rules
 
-wide-requires : tie.Need-wide-requires invariant-loop decreases-loop
+wide-requires : tie.Need-wide-requires invariant-loop-i decreases-loop-i
 wide-requires c κs = search rules
 
 -- The digit is a byte of the slice, so below 256.
-digit : (c : tie.After-wide invariant-loop decreases-loop) → c.wide.result < 256
+digit : (c : tie.After-wide invariant-loop-i decreases-loop-i) → c.wide.result < 256
 digit c =
     let l = c.before.before.before in
-    omega (arith, c.before.shared-slice-known2.given (l.before.before.args.at + l.loop.i))
+    omega (arith, c.shared_slice_known-in-loop-i-1.given (l.args.at + l.loop-i.i))
 
-add-sum : tie.Need-overflow-add-sum invariant-loop decreases-loop
-add-sum c = omega (arith, digit c, seven_bytes_lt _ c.before.before.before.loop.invariant.1 (omega arith))
+overflow_add-sum : tie.Need-overflow_add-sum invariant-loop-i decreases-loop-i
+overflow_add-sum c = omega (arith, digit c, seven_bytes_lt _ c.loop-i.invariant.1 (omega arith))
 
-add-i : tie.Need-overflow-add-i invariant-loop decreases-loop
-add-i c = search rules
+overflow_add-i : tie.Need-overflow_add-i invariant-loop-i decreases-loop-i
+overflow_add-i c = search rules
 
-loop-less : tie.Need-loop-smaller invariant-loop decreases-loop
-loop-less c = search rules
+loop-i-smaller : tie.Need-loop-i-smaller invariant-loop-i decreases-loop-i
+loop-i-smaller c = search rules
 
-loop-again : tie.Need-loop-preserved invariant-loop decreases-loop
-loop-again c =
+loop-i-preserved : tie.Need-loop-i-preserved invariant-loop-i decreases-loop-i
+loop-i-preserved c =
     let l = c.before.before.before in
-    let a = l.before.before.args in (
+    let a = l.args in (
       omega arith,
-      digit_lt l.loop.i l.loop.invariant.1 (digit c),
-      rw c.wide.ensures (sym (value_after_step a.s.now a.at a.n l.loop.i l.loop.sum (omega arith) (omega arith)) ∙ l.loop.invariant.2),
+      digit_lt l.loop-i.i l.loop-i.invariant.1 (digit c),
+      rw c.wide.ensures (sym (value_after_step a.s.now a.at a.n l.loop-i.i l.loop-i.sum (omega arith) (omega arith)) ∙ l.loop-i.invariant.2),
     )
 
-returns : tie.Need-returns invariant-loop decreases-loop
+returns : tie.Need-returns invariant-loop-i decreases-loop-i
 unfolding value_after
 returns c =
     let l = c.before in
-    let a = l.before.before.args in
-    let e : a.n - l.loop.i ≡ 0 = omega arith in
-    let f : l.loop.i ≡ a.n = omega arith in
-    (rw e at l.loop.invariant.2, rw f at l.loop.invariant.1)
+    let a = l.args in
+    let e : a.n - l.loop-i.i ≡ 0 = omega arith in
+    let f : l.loop-i.i ≡ a.n = omega arith in
+    (rw e at l.loop-i.invariant.2, rw f at l.loop-i.invariant.1)
 
-pub be-spec : {M : Type 1} → statement M
-be-spec =
+pub be_spec : {M : Type 1} → statement M
+be_spec =
     tie.close
     (tie.spec
-    invariant-loop
-    decreases-loop
-    loop-holds
-    mul-sum
-    add_wide
-    shared-slice-read-wide
+    invariant-loop-i
+    decreases-loop-i
+    loop-i-init
+    overflow_mul-sum
+    overflow_add-at
+    bounds-s-at
     wide-requires
-    add-sum
-    add-i
-    loop-less
-    loop-again
+    overflow_add-sum
+    overflow_add-i
+    loop-i-smaller
+    loop-i-preserved
     returns)

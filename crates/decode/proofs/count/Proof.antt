@@ -11,68 +11,68 @@ use Rattle.decode.proofs.count.Statement.{statement}
 use Rattle.decode.proofs.count.Tie as tie
 
 -- The field was read.
-got : (c : tie.After-raw) → let a = c.before.before.before.before.args in
-    run (field a.n) a.s.now a.at ≡ whole c.raw.given.0.0 c.raw.given.0.1.0
-got c = sym c.before.before.field.ensures.0 ∙ ap outcome c.raw.given.1
+got : (c : tie.In-Is) → let a = c.args in
+    run (field a.n) a.s.now a.at ≡ whole c.in-Is.raw c.in-Is.next
+got c = sym c.field.ensures.0 ∙ ap outcome c.in-Is.is
 
 -- `to_count` returned the count of the field's signed number, if it is valid.
-module _ (c : tie.After-to-count) where
-  holds : let w = c.before.before.before in let a = w.before.before.before.before.args in
-      to_count (signed a.n w.raw.given.0.0) ≡ c.to_count.result
+module _ (c : tie.After-to_count) where
+  holds : let w = c.before.before in let a = w.args in
+      to_count (signed a.n w.in-Is.raw) ≡ c.to_count.result
   holds =
-      let g = c.before.signed in
-      ap to_count (sym g.ensures ∙ sym (to_z-of_z {w = w64} {z = g.result} (record { sfits = g.type-inv }))) ∙ sym c.to_count.ensures
+      let g = c.signed in
+      ap to_count (sym g.ensures ∙ sym (to_z-of_z {w = w64} {z = g.result} (record { sfits = g.type_inv }))) ∙ sym c.to_count.ensures
 
 field-requires : tie.Need-field-requires
 field-requires c κs = search rules
 
-enum-known-raw : tie.Need-enum-known-raw
-enum-known-raw c = search rules
+enum_known-raw : tie.Need-enum_known-raw
+enum_known-raw c = search rules
 
 signed-requires : tie.Need-signed-requires
 signed-requires c κs =
-    let w = c.before in
-    (omega arith, subst (FitsWidth _) w.raw.given.1 w.before.before.field.ensures.1)
+    let w = c in
+    (omega arith, subst (FitsWidth _) w.in-Is.is w.field.ensures.1)
 
-to-count-requires : tie.Need-to-count-requires
-to-count-requires c κs = search rules
+to_count-requires : tie.Need-to_count-requires
+to_count-requires c κs = search rules
 
-enum-known-c : tie.Need-enum-known-c
-enum-known-c c = search rules
+enum_known-c : tie.Need-enum_known-c
+enum_known-c c = search rules
 
-enum_told : tie.Need-enum-told
-enum_told c = search rules
+enum_told-1 : tie.Need-enum_told-1
+enum_told-1 c = search rules
 
-enum-known-w : tie.Need-enum-known-w
-enum-known-w c = search rules
+enum_known-w : tie.Need-enum_known-w
+enum_known-w c = search rules
 
-returns : tie.Need-returns
+returns-in-Just : tie.Need-returns-in-Just
 unfolding count
-returns c =
-    let m = c.before.before.before in
-    rw (run_then, got m.before.before.before, run_need, holds m, c.before.c.given.1)
+returns-in-Just c =
+    let m = c.before in
+    rw (run_then, got m.before.before, run_need, holds m, c.in-Just.is)
 
-returns-2 : tie.Need-returns-2
+returns-in-Nothing : tie.Need-returns-in-Nothing
 unfolding count
-returns-2 c =
-    let m = c.before.before in
-    rw (run_then, got m.before.before.before, run_need, holds m, c.enum_told.given.1)
+returns-in-Nothing c =
+    let m = c.before in
+    rw (run_then, got m.before.before, run_need, holds m, c.in-Nothing.is)
 
-returns-3 : tie.Need-returns-3
+returns-in-Stops : tie.Need-returns-in-Stops
 unfolding count
-returns-3 c = rw (run_then, ← c.before.before.before.field.ensures.0, c.before.w.given.1)
+returns-in-Stops c = rw (run_then, ← c.field.ensures.0, c.in-Stops.is)
 
 pub count_spec : {M : Type 1} → statement M
 count_spec =
     tie.close
     (tie.spec
     field-requires
-    enum-known-raw
+    enum_known-raw
     signed-requires
-    to-count-requires
-    enum-known-c
-    enum_told
-    enum-known-w
-    returns
-    returns-2
-    returns-3)
+    to_count-requires
+    enum_known-c
+    enum_told-1
+    enum_known-w
+    returns-in-Just
+    returns-in-Nothing
+    returns-in-Stops)

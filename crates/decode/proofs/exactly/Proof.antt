@@ -8,30 +8,30 @@ use Rattle.decode.proofs.exactly.Statement.{statement}
 use Rattle.decode.proofs.exactly.Tie as tie
 
 -- The field was read.
-got : (c : tie.After-x) → let a = c.before.before.before.before.args in
-    run (field a.n) a.s.now a.at ≡ whole c.x.given.0.0 c.x.given.0.1.0
-got c = sym c.before.before.field.ensures.0 ∙ ap outcome c.x.given.1
+got : (c : tie.In-Is) → let a = c.args in
+    run (field a.n) a.s.now a.at ≡ whole c.in-Is.x c.in-Is.next
+got c = sym c.field.ensures.0 ∙ ap outcome c.in-Is.is
 
 field-requires : tie.Need-field-requires
 field-requires c κs = search rules
 
-enum-known-x : tie.Need-enum-known-x
-enum-known-x c = search rules
+enum_known-x : tie.Need-enum_known-x
+enum_known-x c = search rules
 
-returns : tie.Need-returns
+returns-then-x-v : tie.Need-returns-then-x-v
 unfolding exactly
-returns c = rw (run_then, got c.before.before, run_then, run_check, eq-eqb _ _ c.if1.true, run_yield)
+returns-then-x-v c = rw (run_then, got c.before, run_then, run_check, eq-eqb _ _ c.if-x-v.true, run_yield)
 
-enum-known-w : tie.Need-enum-known-w
-enum-known-w c = search rules
+enum_known-w : tie.Need-enum_known-w
+enum_known-w c = search rules
 
-returns-2 : tie.Need-returns-2
+returns-else-x-v : tie.Need-returns-else-x-v
 unfolding exactly
-returns-2 c = rw (run_then, got c.before.before, run_then, run_check, ne_eqb _ _ c.if1.false)
+returns-else-x-v c = rw (run_then, got c.before, run_then, run_check, ne_eqb _ _ c.if-x-v.false)
 
-returns-3 : tie.Need-returns-3
+returns-in-Stops : tie.Need-returns-in-Stops
 unfolding exactly
-returns-3 c = rw (run_then, ← c.before.before.before.field.ensures.0, c.before.w.given.1)
+returns-in-Stops c = rw (run_then, ← c.field.ensures.0, c.in-Stops.is)
 
-pub exactly-spec : {M : Type 1} → statement M
-exactly-spec = tie.close (tie.spec field-requires enum-known-x returns enum-known-w returns-2 returns-3)
+pub exactly_spec : {M : Type 1} → statement M
+exactly_spec = tie.close (tie.spec field-requires enum_known-x returns-then-x-v enum_known-w returns-else-x-v returns-in-Stops)

@@ -8,14 +8,14 @@ use Rattle.decode.proofs.DecodeLaws.{half_plus_half}
 use Rattle.decode.proofs.half_of.Statement.{statement}
 use Rattle.decode.proofs.half_of.Tie as tie
 
-mul-result : tie.Need-overflow-mul-result
-mul-result c = search rules
+overflow_mul-result : tie.Need-overflow_mul-result
+overflow_mul-result c = search rules
 
-sub-result : tie.Need-overflow-sub-result
-sub-result c = search rules
+overflow_sub-result : tie.Need-overflow_sub-result
+overflow_sub-result c = search rules
 
-shl-result : tie.Need-overflow-shl-result
-shl-result c = search rules
+overflow_shl-result : tie.Need-overflow_shl-result
+overflow_shl-result c = search rules
 
 returns : tie.Need-returns
 returns c =
@@ -23,5 +23,5 @@ returns c =
     let h : 2 ^ (8 * n - 1) < 2 ^ 64 = pow-lt {i = 8 * n - 1} {j = 64} (omega arith) in
     simp (one-mul, mod-eq_of_lt h) (half_plus_half n (omega arith))
 
-pub half-of-spec : {M : Type 1} → statement M
-half-of-spec = tie.close (tie.spec mul-result sub-result shl-result returns)
+pub half_of_spec : {M : Type 1} → statement M
+half_of_spec = tie.close (tie.spec overflow_mul-result overflow_sub-result overflow_shl-result returns)

@@ -4,19 +4,19 @@ use Rattle.decode.specs.Layout.{missing_of}
 use Rattle.decode.proofs.missing_of.Statement.{statement}
 use Rattle.decode.proofs.missing_of.Tie as tie
 
-enum-known-w : tie.Need-enum-known-w
-enum-known-w c = search rules
+enum_known-w : tie.Need-enum_known-w
+enum_known-w c = search rules
 
-enum_told : tie.Need-enum-told
-enum_told c = search rules
+enum_told-1 : tie.Need-enum_told-1
+enum_told-1 c = search rules
 
-returns : tie.Need-returns
+returns-in-Cut : tie.Need-returns-in-Cut
 unfolding missing_of
-returns c = rw c.before.w.given.1
+returns-in-Cut c = rw c.in-Cut.is
 
-returns-2 : tie.Need-returns-2
+returns-in-Refused : tie.Need-returns-in-Refused
 unfolding missing_of
-returns-2 c = rw c.enum_told.given.1
+returns-in-Refused c = rw c.in-Refused.is
 
-pub missing-of-spec : {M : Type 1} → statement M
-missing-of-spec = tie.close (tie.spec enum-known-w enum_told returns returns-2)
+pub missing_of_spec : {M : Type 1} → statement M
+missing_of_spec = tie.close (tie.spec enum_known-w enum_told-1 returns-in-Cut returns-in-Refused)

@@ -9,32 +9,32 @@ use Rattle.decode.proofs.ref_field.Statement.{statement}
 use Rattle.decode.proofs.ref_field.Tie as tie
 
 -- The address was read.
-got : (c : tie.After-a) → let a = c.before.before.before.before.args in
-    run (address a.n a.base a.highest) a.s.now a.at ≡ whole c.a.given.0.0 c.a.given.0.1.0
-got c = sym c.before.before.address.ensures ∙ ap outcome c.a.given.1
+got : (c : tie.In-Is) → let a = c.args in
+    run (address a.n a.base a.highest) a.s.now a.at ≡ whole c.in-Is.a c.in-Is.next
+got c = sym c.address.ensures ∙ ap outcome c.in-Is.is
 
 address-requires : tie.Need-address-requires
 address-requires c κs = search rules
 
-enum-known-a : tie.Need-enum-known-a
-enum-known-a c = search rules
+enum_known-a : tie.Need-enum_known-a
+enum_known-a c = search rules
 
-returns : tie.Need-returns
+returns-then-a-eq0 : tie.Need-returns-then-a-eq0
 unfolding ref_field
-returns c =
-    let z : c.before.before.a.given.0.0 ≡ 0 = omega arith in
-    rw (run_then, got c.before.before, run_then, run_check, eq-eqb _ _ z)
+returns-then-a-eq0 c =
+    let z : c.in-Is.a ≡ 0 = omega arith in
+    rw (run_then, got c.before, run_then, run_check, eq-eqb _ _ z)
 
-enum-known-w : tie.Need-enum-known-w
-enum-known-w c = search rules
+enum_known-w : tie.Need-enum_known-w
+enum_known-w c = search rules
 
-returns-2 : tie.Need-returns-2
+returns-else-a-eq0 : tie.Need-returns-else-a-eq0
 unfolding ref_field
-returns-2 c = rw (run_then, got c.before.before, run_then, run_check, ne_eqb _ _ c.if1.false, run_yield)
+returns-else-a-eq0 c = rw (run_then, got c.before, run_then, run_check, ne_eqb _ _ c.if-a-eq0.false, run_yield)
 
-returns-3 : tie.Need-returns-3
+returns-in-Stops : tie.Need-returns-in-Stops
 unfolding ref_field
-returns-3 c = rw (run_then, ← c.before.before.before.address.ensures, c.before.w.given.1)
+returns-in-Stops c = rw (run_then, ← c.address.ensures, c.in-Stops.is)
 
-pub ref-field-spec : {M : Type 1} → statement M
-ref-field-spec = tie.close (tie.spec address-requires enum-known-a returns enum-known-w returns-2 returns-3)
+pub ref_field_spec : {M : Type 1} → statement M
+ref_field_spec = tie.close (tie.spec address-requires enum_known-a returns-then-a-eq0 enum_known-w returns-else-a-eq0 returns-in-Stops)

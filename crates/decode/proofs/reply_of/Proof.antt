@@ -4,19 +4,19 @@ use Rattle.decode.specs.Layout.{reply_of}
 use Rattle.decode.proofs.reply_of.Statement.{statement}
 use Rattle.decode.proofs.reply_of.Tie as tie
 
-enum_told : tie.Need-enum-told
-enum_told c = search rules
+enum_told-1 : tie.Need-enum_told-1
+enum_told-1 c = search rules
 
-enum-known-w : tie.Need-enum-known-w
-enum-known-w c = search rules
+enum_known-w : tie.Need-enum_known-w
+enum_known-w c = search rules
 
-returns : tie.Need-returns
+returns-in-Cut : tie.Need-returns-in-Cut
 unfolding reply_of
-returns c = rw c.enum_told.given.1
+returns-in-Cut c = rw c.in-Cut.is
 
-returns-2 : tie.Need-returns-2
+returns-in-Refused : tie.Need-returns-in-Refused
 unfolding reply_of
-returns-2 c = rw c.before.w.given.1
+returns-in-Refused c = rw c.in-Refused.is
 
-pub reply-of-spec : {M : Type 1} → statement M
-reply-of-spec = tie.close (tie.spec enum_told enum-known-w returns returns-2)
+pub reply_of_spec : {M : Type 1} → statement M
+reply_of_spec = tie.close (tie.spec enum_told-1 enum_known-w returns-in-Cut returns-in-Refused)

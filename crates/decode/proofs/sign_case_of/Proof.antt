@@ -1,4 +1,4 @@
--- `sign_case_of` satisfies its contract: each branch returns the case of its sign, and no operation wraps.
+-- `sign_case_of` satisfies its contract: each branch returns-then-gap-lt0 the case of its sign, and no operation wraps.
 use mathlib.Core.Path.{◌≡◌, sym, ap, subst, ◌∙◌}
 use Prim.Native.Nat.{ℕ}
 use native.Mathlib.Omega.{arith}
@@ -13,49 +13,49 @@ use Rattle.decode.proofs.sign_case_of.Statement.{statement}
 use Rattle.decode.proofs.sign_case_of.Tie as tie
 
 -- A negative gap.
-module _ (c : tie.Then1) where
-  abbrev same : to_z w64 (of_z w64 c.before.args.gap) ≡ c.before.args.gap
-  same = to_z-of_z {w = w64} c.before.ranges.gap
+module _ (c : tie.Then-gap-lt0) where
+  abbrev same : to_z w64 (of_z w64 c.args.gap) ≡ c.args.gap
+  same = to_z-of_z {w = w64} c.ranges.gap
 
-  abbrev neg : (n : ℕ) × (c.before.args.gap ≡ negsuc n)
-  neg = negative_is_negsuc c.before.args.gap (ap (λ (z : ℤ). lt_z z (pos 0)) (sym same) ∙ c.if1.true)
+  abbrev neg : (n : ℕ) × (c.args.gap ≡ negsuc n)
+  neg = negative_is_negsuc c.args.gap (ap (λ (z : ℤ). lt_z z (pos 0)) (sym same) ∙ c.if-gap-lt0.true)
 
   fit : SFits w64 (negsuc neg.0)
-  fit = subst (SFits w64) neg.1 c.before.ranges.gap
+  fit = subst (SFits w64) neg.1 c.ranges.gap
 
-  down : negsuc 0 -ℤ to_z w64 (of_z w64 c.before.args.gap) ≡ pos neg.0
+  down : negsuc 0 -ℤ to_z w64 (of_z w64 c.args.gap) ≡ pos neg.0
   down = ap (λ (z : ℤ). negsuc 0 -ℤ z) (same ∙ neg.1) ∙ neg_one_neg neg.0
 
-sub-t4 : tie.Need-overflow-sub-t4
-sub-t4 c = rw (down c) (record { sfits = (fit c).sfits })
+overflow_sub-result : tie.Need-overflow_sub-result
+overflow_sub-result c = rw (down c) (record { sfits = (fit c).sfits })
 
-down-again : (c : tie.Then1) → to_z w64 (of_z w64 (negsuc 0 -ℤ to_z w64 (of_z w64 c.before.args.gap))) ≡ pos (neg c).0
-down-again c = to_z-of_z {w = w64} (sub-t4 c) ∙ down c
+down-again : (c : tie.Then-gap-lt0) → to_z w64 (of_z w64 (negsuc 0 -ℤ to_z w64 (of_z w64 c.args.gap))) ≡ pos (neg c).0
+down-again c = to_z-of_z {w = w64} (overflow_sub-result c) ∙ down c
 
-cast-t5 : tie.Need-overflow-cast-t5
-cast-t5 c = let f = (fit c).sfits in rw (down-again c) (tt, omega arith)
+overflow_cast-result : tie.Need-overflow_cast-result
+overflow_cast-result c = let f = (fit c).sfits in rw (down-again c) (tt, omega arith)
 
 -- A gap of at least 0.
-module _ (c : tie.Else1) where
-  abbrev up : (n : ℕ) × (c.before.args.gap ≡ pos n)
-  up = nonneg_is_pos c.before.args.gap (ap (λ (z : ℤ). lt_z z (pos 0)) (sym (to_z-of_z {w = w64} c.before.ranges.gap)) ∙ c.if1.false)
+module _ (c : tie.Else-gap-lt0) where
+  abbrev up : (n : ℕ) × (c.args.gap ≡ pos n)
+  up = nonneg_is_pos c.args.gap (ap (λ (z : ℤ). lt_z z (pos 0)) (sym (to_z-of_z {w = w64} c.ranges.gap)) ∙ c.if-gap-lt0.false)
 
-  up-again : to_z w64 (of_z w64 c.before.args.gap) ≡ pos up.0
-  up-again = to_z-of_z {w = w64} c.before.ranges.gap ∙ up.1
+  up-again : to_z w64 (of_z w64 c.args.gap) ≡ pos up.0
+  up-again = to_z-of_z {w = w64} c.ranges.gap ∙ up.1
 
-cast-t6 : tie.Need-overflow-cast-t6
-cast-t6 c =
-    let f : SFits w64 (pos (up c).0) = subst (SFits w64) (up c).1 c.before.ranges.gap in
+overflow_cast-result-else-gap-lt0 : tie.Need-overflow_cast-result-else-gap-lt0
+overflow_cast-result-else-gap-lt0 c =
+    let f : SFits w64 (pos (up c).0) = subst (SFits w64) (up c).1 c.ranges.gap in
     let g = f.sfits in
     rw (up-again c) (tt, omega arith)
 
-returns : tie.Need-returns
+returns-then-gap-lt0 : tie.Need-returns-then-gap-lt0
 unfolding sign_case
-returns c = rw (down-again c) (sym (ap sign_case (neg c).1))
+returns-then-gap-lt0 c = rw (down-again c) (sym (ap sign_case (neg c).1))
 
-returns-2 : tie.Need-returns-2
+returns-else-gap-lt0 : tie.Need-returns-else-gap-lt0
 unfolding sign_case
-returns-2 c = rw (up-again c) (sym (ap sign_case (up c).1))
+returns-else-gap-lt0 c = rw (up-again c) (sym (ap sign_case (up c).1))
 
-pub sign-case-of-spec : {M : Type 1} → statement M
-sign-case-of-spec = tie.close (tie.spec sub-t4 cast-t5 cast-t6 returns returns-2)
+pub sign_case_of_spec : {M : Type 1} → statement M
+sign_case_of_spec = tie.close (tie.spec overflow_sub-result overflow_cast-result overflow_cast-result-else-gap-lt0 returns-then-gap-lt0 returns-else-gap-lt0)

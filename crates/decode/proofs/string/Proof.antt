@@ -10,85 +10,85 @@ use Rattle.decode.specs.Fields.{outcome, string}
 use Rattle.decode.proofs.string.Statement.{statement}
 use Rattle.decode.proofs.string.Tie as tie
 
-module _ (c : tie.After-len) where
+module _ (c : tie.In-Is) where
   -- The length was read.
-  got : let a = c.before.before.before.before.args in
-      run (field 2) a.s.now a.at ≡ whole c.len.given.0.0 c.len.given.0.1.0
-  got = sym c.before.before.field.ensures.0 ∙ ap outcome c.len.given.1
+  got : let a = c.args in
+      run (field 2) a.s.now a.at ≡ whole c.in-Is.len c.in-Is.place
+  got = sym c.field.ensures.0 ∙ ap outcome c.in-Is.is
 
   -- The bytes begin within the dump.
-  placed : let a = c.before.before.before.before.args in c.len.given.0.1.0 ≤ length a.s.now
-  placed = let a = c.before.before.before.before.args in end_in_bounds (field 2) a.s.now a.at _ _ (omega arith) got
+  placed : let a = c.args in c.in-Is.place ≤ length a.s.now
+  placed = let a = c.args in end_in_bounds (field 2) a.s.now a.at _ _ (omega arith) got
 
 field-requires : tie.Need-field-requires
 field-requires c κs = search rules
 
-enum-known-len : tie.Need-enum-known-len
-enum-known-len c = search rules
+enum_known-len : tie.Need-enum_known-len
+enum_known-len c = search rules
 
-returns : tie.Need-returns
+returns-then-len-least : tie.Need-returns-then-len-least
 unfolding string
-returns c = rw (run_then, got c.before.before, run_then, run_check, lt-leb _ _ c.if1.true)
+returns-then-len-least c = rw (run_then, got c.before, run_then, run_check, lt-leb _ _ c.if-len-least.true)
 
-sub-left : tie.Need-overflow-sub-left
-sub-left c = placed c.before.before
+overflow_sub-left : tie.Need-overflow_sub-left
+overflow_sub-left c = placed c.before
 
-sub-t15 : tie.Need-overflow-sub-t15
-sub-t15 c = search rules
+overflow_sub-result : tie.Need-overflow_sub-result
+overflow_sub-result c = search rules
 
-returns-2 : tie.Need-returns-2
+returns-then-left-n : tie.Need-returns-then-left-n
 unfolding string
-returns-2 c =
-    let w = c.before.before.before in
-    let a = w.before.before.before.before.args in
+returns-then-left-n c =
+    let w = c.before.before in
+    let a = w.args in
     let p = placed w in
-    let h : length a.s.now < w.len.given.0.1.0 + w.len.given.0.0 = omega arith in
-    let e : w.len.given.0.1.0 + w.len.given.0.0 - length a.s.now ≡ w.len.given.0.0 - (length a.s.now - w.len.given.0.1.0) = omega arith in
-    rw (run_then, got w, run_then, run_check, le-leb _ _ c.before.if1.false, run_then, run_position, run_then, run_raw_short _ _ _ h, e)
+    let h : length a.s.now < w.in-Is.place + w.in-Is.len = omega arith in
+    let e : w.in-Is.place + w.in-Is.len - length a.s.now ≡ w.in-Is.len - (length a.s.now - w.in-Is.place) = omega arith in
+    rw (run_then, got w, run_then, run_check, le-leb _ _ c.if-len-least.false, run_then, run_position, run_then, run_raw_short _ _ _ h, e)
 
-all-within-requires : tie.Need-all-within-requires
-all-within-requires c κs = let p = placed c.before.before.before in omega arith
+all_within-requires : tie.Need-all_within-requires
+all_within-requires c κs = let p = placed c.before.before in omega arith
 
-add-t19 : tie.Need-overflow-add-t19
-add-t19 c = search rules
+overflow_add-result : tie.Need-overflow_add-result
+overflow_add-result c = search rules
 
 -- All bytes of the string are present.
-enough : (c : tie.After-all-within) → let w = c.before.before.before.before in let a = w.before.before.before.before.args in
-    w.len.given.0.1.0 + w.len.given.0.0 ≤ length a.s.now
-enough c = let p = placed c.before.before.before.before in omega arith
+enough : (c : tie.After-all_within) → let w = c.before.before.before in let a = w.args in
+    w.in-Is.place + w.in-Is.len ≤ length a.s.now
+enough c = let p = placed c.before.before.before in omega arith
 
-returns-3 : tie.Need-returns-3
+returns-then-all_within : tie.Need-returns-then-all_within
 unfolding string
-returns-3 c =
+returns-then-all_within c =
     let d = c.before in
-    rw (run_then, got d.before.before.before.before, run_then, run_check, le-leb _ _ d.before.before.if1.false, run_then, run_position, run_then, run_raw _ _ _ (enough d), run_then, run_check, ← d.all_within.ensures, c.if3.true, run_yield)
+    rw (run_then, got d.before.before.before, run_then, run_check, le-leb _ _ d.if-len-least.false, run_then, run_position, run_then, run_raw _ _ _ (enough d), run_then, run_check, ← d.all_within.ensures, c.if-all_within.true, run_yield)
 
-enum-known-w : tie.Need-enum-known-w
-enum-known-w c = search rules
+enum_known-w : tie.Need-enum_known-w
+enum_known-w c = search rules
 
-returns-4 : tie.Need-returns-4
+returns-else-all_within : tie.Need-returns-else-all_within
 unfolding string
-returns-4 c =
+returns-else-all_within c =
     let d = c.before in
-    rw (run_then, got d.before.before.before.before, run_then, run_check, le-leb _ _ d.before.before.if1.false, run_then, run_position, run_then, run_raw _ _ _ (enough d), run_then, run_check, ← d.all_within.ensures, c.if3.false)
+    rw (run_then, got d.before.before.before, run_then, run_check, le-leb _ _ d.if-len-least.false, run_then, run_position, run_then, run_raw _ _ _ (enough d), run_then, run_check, ← d.all_within.ensures, c.if-all_within.false)
 
-returns-5 : tie.Need-returns-5
+returns-in-Stops : tie.Need-returns-in-Stops
 unfolding string
-returns-5 c = rw (run_then, ← c.before.before.before.field.ensures.0, c.before.w.given.1)
+returns-in-Stops c = rw (run_then, ← c.field.ensures.0, c.in-Stops.is)
 
-pub string-spec : {M : Type 1} → statement M
-string-spec =
+pub string_spec : {M : Type 1} → statement M
+string_spec =
     tie.close
     (tie.spec
     field-requires
-    enum-known-len
-    returns
-    sub-left
-    sub-t15
-    returns-2
-    all-within-requires
-    add-t19
-    returns-3
-    enum-known-w
-    returns-4
-    returns-5)
+    enum_known-len
+    returns-then-len-least
+    overflow_sub-left
+    overflow_sub-result
+    returns-then-left-n
+    all_within-requires
+    overflow_add-result
+    returns-then-all_within
+    enum_known-w
+    returns-else-all_within
+    returns-in-Stops)

@@ -10,27 +10,27 @@ use Rattle.decode.proofs.to_count.Statement.{statement}
 use Rattle.decode.proofs.to_count.Tie as tie
 
 -- The sign case of the number is the one that `sign_case_of` returned.
-signs : (c : tie.After-sign-case-of) → sign_case c.before.args.c ≡ c.sign-case-of.result
-signs c = ap sign_case (sym (to_z-of_z {w = w64} c.before.ranges.c)) ∙ sym c.sign-case-of.ensures
+signs : (c : tie.After-sign_case_of) → sign_case c.args.c ≡ c.sign_case_of.result
+signs c = ap sign_case (sym (to_z-of_z {w = w64} c.ranges.c)) ∙ sym c.sign_case_of.ensures
 
-sign-case-of-requires : tie.Need-sign-case-of-requires
-sign-case-of-requires c κs = search rules
+sign_case_of-requires : tie.Need-sign_case_of-requires
+sign_case_of-requires c κs = search rules
 
-enum-known-n : tie.Need-enum-known-n
-enum-known-n c = search rules
+enum_known-n : tie.Need-enum_known-n
+enum_known-n c = search rules
 
-returns : tie.Need-returns
-returns c = let w = c.before.before in rw (to_count_nonneg _ _ (signs w.before.before ∙ w.n.given.1), lt-ltb _ _ c.if1.true)
+returns-then-n-lt2147483648 : tie.Need-returns-then-n-lt2147483648
+returns-then-n-lt2147483648 c = let w = c.before in rw (to_count_nonneg _ _ (signs w.before ∙ w.in-NonNeg.is), lt-ltb _ _ c.if-n-lt2147483648.true)
 
-enum_told : tie.Need-enum-told
-enum_told c = search rules
+enum_told-1 : tie.Need-enum_told-1
+enum_told-1 c = search rules
 
-returns-2 : tie.Need-returns-2
-returns-2 c = let w = c.before.before in rw (to_count_nonneg _ _ (signs w.before.before ∙ w.n.given.1), le-ltb _ _ c.if1.false)
+returns-else-n-lt2147483648 : tie.Need-returns-else-n-lt2147483648
+returns-else-n-lt2147483648 c = let w = c.before in rw (to_count_nonneg _ _ (signs w.before ∙ w.in-NonNeg.is), le-ltb _ _ c.if-n-lt2147483648.false)
 
-returns-3 : tie.Need-returns-3
-returns-3 c = rw (to_count_negsuc _ _ (signs c.before.before ∙ c.enum_told.given.1))
+returns-in-NegSuc : tie.Need-returns-in-NegSuc
+returns-in-NegSuc c = rw (to_count_negsuc _ _ (signs c.before ∙ c.in-NegSuc.is))
 
-pub to-count-spec : {M : Type 1} → statement M
-to-count-spec =
-    tie.close (tie.spec sign-case-of-requires enum-known-n returns enum_told returns-2 returns-3)
+pub to_count_spec : {M : Type 1} → statement M
+to_count_spec =
+    tie.close (tie.spec sign_case_of-requires enum_known-n returns-then-n-lt2147483648 enum_told-1 returns-else-n-lt2147483648 returns-in-NegSuc)

@@ -95,13 +95,13 @@ module _ {M : Type 1} {𝓤 : Ura M} (𝓛 : Logic 𝓤) (mem : Memory → SProp
 
 -- the buckets, all zeros, and their machine value
 abbrev zeros : List ℕ
-zeros = replicate 65600 0
+zeros = replicate 65664 0
 
 abbrev zero-array : Val
-zero-array = array_val (replicate 65600 (vint w64 0))
+zero-array = array_val (replicate 65664 (vint w64 0))
 
-zeros-is : Is (Array u64 65600) zeros (zero-array ∷ [])
-zeros-is = array_of 0 (lit< tt) 65600
+zeros-is : Is (Array u64 65664) zeros (zero-array ∷ [])
+zeros-is = array_of 0 (lit< tt) 65664
 
 module _ {M : Type 1} {𝓤 : Ura M} (𝓛 : Logic 𝓤) (at_mem : Memory → SProp 𝓤) (run : Routine → Fun 𝓤) (κ₁ κ₂ κ₃ κ₄ : Lft) (q₁ q₂ q₃ q₄ : Share)
     (b₁ o₁ : ℕ) (γ₁ : GName) (dump : List ℕ) (b₂ o₂ : ℕ) (γ₂ : GName) (rows : List ℕ) (b₃ o₃ : ℕ) (γ₃ : GName) (refs : List ℕ) (b₄ o₄ : ℕ) (γ₄ : GName) (classes : List Summary)
@@ -160,7 +160,7 @@ module _ {M : Type 1} {𝓤 : Ura M} (𝓛 : Logic 𝓤) (at_mem : Memory → SP
   abbrev read_has : (b₅ ν₂ ν₃ ν₅ ν₄ : ℕ) (δ₂ δ₃ δ₅ δ₄ : GName) (rows refs buckets : List ℕ) (classes : List Summary) → List (Item 𝓤)
   read_has b₅ ν₂ ν₃ ν₅ ν₄ δ₂ δ₃ δ₅ δ₄ rows refs buckets classes = ‵ (flft κ₁ q₁) ∷ ‵ (flft (ν₂ ∷ []) full_share) ∷ ‵ (flft (ν₃ ∷ []) full_share) ∷ ‵ (flft (ν₅ ∷ []) full_share) ∷ ‵ (flft (ν₄ ∷ []) full_share) ∷ ‵ A₁ ∷ ‵ ((MutSlice (named 1) (ν₂ ∷ []) u64).own_val (at b₂ o₂ δ₂ rows) (vals b₂ o₂ rows)) ∷ ‵ ((MutSlice (named 2) (ν₃ ∷ []) u64).own_val (at b₃ o₃ δ₃ refs) (vals b₃ o₃ refs)) ∷ ‵ ((MutSlice (named 3) (ν₅ ∷ []) u64).own_val (at b₅ 0 δ₅ buckets) (vals b₅ 0 buckets)) ∷ ‵ ((MutSlice (named 4) (ν₄ ∷ []) R).own_val (at b₄ o₄ δ₄ classes) (vals b₄ o₄ classes)) ∷ []
 
-  goes-read : (b₅ ν₂ ν₃ ν₅ ν₄ : ℕ) (δ₂ δ₃ δ₅ δ₄ : GName) (rows refs buckets : List ℕ) (classes : List Summary) → buckets ≡ replicate 65600 0 → ent 𝓤 (⋆ 𝓛 (read_has b₅ ν₂ ν₃ ν₅ ν₄ δ₂ δ₃ δ₅ δ₄ rows refs buckets classes)) ((ReadWith 𝓛 at_mem run).pre (to_read b₅ ν₂ ν₃ ν₅ ν₄ δ₂ δ₃ δ₅ δ₄ rows refs buckets classes))
+  goes-read : (b₅ ν₂ ν₃ ν₅ ν₄ : ℕ) (δ₂ δ₃ δ₅ δ₄ : GName) (rows refs buckets : List ℕ) (classes : List Summary) → buckets ≡ replicate 65664 0 → ent 𝓤 (⋆ 𝓛 (read_has b₅ ν₂ ν₃ ν₅ ν₄ δ₂ δ₃ δ₅ δ₄ rows refs buckets classes)) ((ReadWith 𝓛 at_mem run).pre (to_read b₅ ν₂ ν₃ ν₅ ν₄ δ₂ δ₃ δ₅ δ₄ rows refs buckets classes))
   goes-read b₅ ν₂ ν₃ ν₅ ν₄ δ₂ δ₃ δ₅ δ₄ rows refs buckets classes req =
       qed 𝓛 (read_has b₅ ν₂ ν₃ ν₅ ν₄ δ₂ δ₃ δ₅ δ₄ rows refs buckets classes) ∵ says ! req $ nothing ! $ move ! (5 ∷ 0 ∷ []) $ join ! $ move ! (4 ∷ 0 ∷ []) $ join ! $ move ! (3 ∷ 0 ∷ []) $ join ! $ move ! (2 ∷ 0 ∷ []) $ join ! $ move ! (1 ∷ 0 ∷ []) $ join ! $ frame ! $
       nothing ! $ move ! (5 ∷ 0 ∷ []) $ fjoin ! $ move ! (4 ∷ 0 ∷ []) $ fjoin ! $ move ! (3 ∷ 0 ∷ []) $ fjoin ! $ move ! (2 ∷ 0 ∷ []) $ fjoin ! $ move ! (1 ∷ 0 ∷ []) $ fjoin ! $ done !
@@ -191,11 +191,11 @@ module _ {M : Type 1} {𝓤 : Ura M} (𝓛 : Logic 𝓤) (at_mem : Memory → SP
     fm = fm_of 𝓤 H 𝓛.laws 𝓣
 
     abbrev En : Env 𝓤 H
-    En = (Q'.mir, l₀) ∷ (shared (named 0) u8, l₁) ∷ (unique (named 1) u64, l₂) ∷ (unique (named 2) u64, l₃) ∷ (unique (named 3) R, l₄) ∷ (ty_array (ty_int w64) 65600, l₅) ∷ (S'.mir, l₆) ∷ (ty_ref erased mut (ty_int w64), l₇) ∷ (unique erased u64, l₈) ∷ (ty_ref erased mut (ty_int w64), l₉) ∷ (unique erased u64, l₁₀) ∷ (ty_ref erased mut (ty_array (ty_int w64) 65600), l₁₁) ∷ (unique erased u64, l₁₂) ∷ (ty_ref erased mut (pointee R.written), l₁₃) ∷ (unique erased R, l₁₄) ∷ []
+    En = (Q'.mir, l₀) ∷ (shared (named 0) u8, l₁) ∷ (unique (named 1) u64, l₂) ∷ (unique (named 2) u64, l₃) ∷ (unique (named 3) R, l₄) ∷ (ty_array (ty_int w64) 65664, l₅) ∷ (S'.mir, l₆) ∷ (ty_ref erased mut (ty_int w64), l₇) ∷ (unique erased u64, l₈) ∷ (ty_ref erased mut (ty_int w64), l₉) ∷ (unique erased u64, l₁₀) ∷ (ty_ref erased mut (ty_array (ty_int w64) 65664), l₁₁) ∷ (unique erased u64, l₁₂) ∷ (ty_ref erased mut (pointee R.written), l₁₃) ∷ (unique erased R, l₁₄) ∷ []
 
     -- the answer, from the end of the reading
     answers : (s : Progress) (rows' refs' : List ℕ) (classes' : List Summary) → length rows' ≡ length rows → length refs' ≡ length refs → length classes' ≡ length classes → Is SR s (S'.lowered s ∷ []) → Finished dump rows refs classes s rows' refs' classes'
-        → Sq 𝓛 (Front rows' refs' classes' (vacant (unique erased R) l₁₄ (vacant (ty_ref erased mut (pointee R.written)) l₁₃ (vacant (unique erased u64) l₁₂ (vacant (ty_ref erased mut (ty_array (ty_int w64) 65600)) l₁₁ (vacant (unique erased u64) l₁₀ (vacant (ty_ref erased mut (ty_int w64)) l₉ (vacant (unique erased u64) l₈ (vacant (ty_ref erased mut (ty_int w64)) l₇ (held S'.mir l₆ (S'.lowered s) (vacant (ty_array (ty_int w64) 65600) l₅ (held (unique (named 3) R) l₄ (slice_val (b₄, o₄) (length classes')) (held (unique (named 2) u64) l₃ (slice_val (b₃, o₃) (length refs')) (held (unique (named 1) u64) l₂ (slice_val (b₂, o₂) (length rows')) (held (shared (named 0) u8) l₁ (slice_val (b₁, o₁) (length dump)) (vacant Q'.mir l₀ ([]))))))))))))))))) (runs C Λ En Mir.t-11 (at_ret En Post))
+        → Sq 𝓛 (Front rows' refs' classes' (vacant (unique erased R) l₁₄ (vacant (ty_ref erased mut (pointee R.written)) l₁₃ (vacant (unique erased u64) l₁₂ (vacant (ty_ref erased mut (ty_array (ty_int w64) 65664)) l₁₁ (vacant (unique erased u64) l₁₀ (vacant (ty_ref erased mut (ty_int w64)) l₉ (vacant (unique erased u64) l₈ (vacant (ty_ref erased mut (ty_int w64)) l₇ (held S'.mir l₆ (S'.lowered s) (vacant (ty_array (ty_int w64) 65664) l₅ (held (unique (named 3) R) l₄ (slice_val (b₄, o₄) (length classes')) (held (unique (named 2) u64) l₃ (slice_val (b₃, o₃) (length refs')) (held (unique (named 1) u64) l₂ (slice_val (b₂, o₂) (length rows')) (held (shared (named 0) u8) l₁ (slice_val (b₁, o₁) (length dump)) (vacant Q'.mir l₀ ([]))))))))))))))))) (runs C Λ En Mir.t-11 (at_ret En Post))
     answers s rows' refs' classes' len₂ len₃ len₄ g-s f =
         use_all 𝓛 (answer-has) (raw ((Answer 𝓛 at_mem run).pre (to-answer s))) (goes-answer s g-s) $
         calls_at ! fm (Answer 𝓛 at_mem run) known-answer (to-answer s) (and_then ! (load ! (from ! (stop !)) (look ! 25 refl)) (no_more !)) (λ v.
@@ -209,8 +209,8 @@ module _ {M : Type 1} {𝓤 : Ura M} (𝓛 : Logic 𝓤) (at_mem : Memory → SP
         by ! (exits r rows' refs' classes' (subst (λ (us : List Val). Is CR r us) ((Q'.lowers).val_is r (v ∷ []) is) is) len₂ len₃ len₄ (ens ∙ f.answer, f.row_table, f.ref_table, f.list)))))))
 
     -- from the array on
-    reads : (buckets : List ℕ) (av : Val) → Is (Array u64 65600) buckets (av ∷ []) → length buckets ≡ 65600 → buckets ≡ replicate 65600 0
-        → Sq 𝓛 (Front rows refs classes (vacant (unique erased R) l₁₄ (vacant (ty_ref erased mut (pointee R.written)) l₁₃ (vacant (unique erased u64) l₁₂ (vacant (ty_ref erased mut (ty_array (ty_int w64) 65600)) l₁₁ (vacant (unique erased u64) l₁₀ (vacant (ty_ref erased mut (ty_int w64)) l₉ (vacant (unique erased u64) l₈ (vacant (ty_ref erased mut (ty_int w64)) l₇ (vacant S'.mir l₆ (held (ty_array (ty_int w64) 65600) l₅ av (held (unique (named 3) R) l₄ (slice_val (b₄, o₄) (length classes)) (held (unique (named 2) u64) l₃ (slice_val (b₃, o₃) (length refs)) (held (unique (named 1) u64) l₂ (slice_val (b₂, o₂) (length rows)) (held (shared (named 0) u8) l₁ (slice_val (b₁, o₁) (length dump)) (vacant Q'.mir l₀ ([]))))))))))))))))) (runs C Λ En Mir.t-2 (at_ret En Post))
+    reads : (buckets : List ℕ) (av : Val) → Is (Array u64 65664) buckets (av ∷ []) → length buckets ≡ 65664 → buckets ≡ replicate 65664 0
+        → Sq 𝓛 (Front rows refs classes (vacant (unique erased R) l₁₄ (vacant (ty_ref erased mut (pointee R.written)) l₁₃ (vacant (unique erased u64) l₁₂ (vacant (ty_ref erased mut (ty_array (ty_int w64) 65664)) l₁₁ (vacant (unique erased u64) l₁₀ (vacant (ty_ref erased mut (ty_int w64)) l₉ (vacant (unique erased u64) l₈ (vacant (ty_ref erased mut (ty_int w64)) l₇ (vacant S'.mir l₆ (held (ty_array (ty_int w64) 65664) l₅ av (held (unique (named 3) R) l₄ (slice_val (b₄, o₄) (length classes)) (held (unique (named 2) u64) l₃ (slice_val (b₃, o₃) (length refs)) (held (unique (named 1) u64) l₂ (slice_val (b₂, o₂) (length rows)) (held (shared (named 0) u8) l₁ (slice_val (b₁, o₁) (length dump)) (vacant Q'.mir l₀ ([]))))))))))))))))) (runs C Λ En Mir.t-2 (at_ret En Post))
     reads buckets av is-av len empty =
         let room : Room u64 (length buckets) = subst (Room u64) (sym len) (lit< tt, lit< tt) in
         assigns ! (addr ! (from ! (fld ! refl (hop ! (look_in ! 32 (sub ! 0 refl (whole !))) (stop !))))) (from ! (stop !)) (init ! 22 refl (tt, tt)) $ assigns ! (agg ! (and_then ! (load ! (from ! (stop !)) (look ! 22 refl)) (and_then ! (load ! (from ! (fld ! refl (stop !))) (look_in ! 32 (sub ! 1 refl (whole !)))) (no_more !)))) (from ! (stop !)) (init ! 20 refl (tt, (tt, (record { fits = g₂.0 }, tt)))) $
@@ -220,7 +220,7 @@ module _ {M : Type 1} {𝓤 : Ura M} (𝓛 : Logic 𝓤) (at_mem : Memory → SP
         assigns ! (addr ! (from ! (fld ! refl (hop ! (look_in ! 28 (sub ! 0 refl (whole !))) (stop !))))) (from ! (stop !)) (init ! 10 refl (tt, tt)) $ assigns ! (agg ! (and_then ! (load ! (from ! (stop !)) (look ! 10 refl)) (and_then ! (load ! (from ! (fld ! refl (stop !))) (look_in ! 28 (sub ! 1 refl (whole !)))) (no_more !)))) (from ! (stop !)) (init ! 8 refl (tt, (tt, (record { fits = g₄.0 }, tt)))) $
         move ! (2 ∷ 3 ∷ []) $ lend_mut ! tt u64 κ₂ q₂ γ₂ b₂ o₂ (named 1) (named 1) rows (λ ν₂ δ₂.
         move ! (5 ∷ 6 ∷ []) $ lend_mut ! tt u64 κ₃ q₃ γ₃ b₃ o₃ (named 2) (named 2) refs (λ ν₃ δ₃.
-        move ! (28 ∷ []) $ lend_array ! tt 65600 buckets av is-av room (named 3) l₅ (λ ν₅ δ₅.
+        move ! (28 ∷ []) $ lend_array ! tt 65664 buckets av is-av room (named 3) l₅ (λ ν₅ δ₅.
         move ! (11 ∷ 12 ∷ []) $ lend_mut ! tt R κ₄ q₄ γ₄ b₄ o₄ (named 3) (named 4) classes (λ ν₄ δ₄.
         move ! (13 ∷ []) $ copy_shr ! u8 κ₁ γ₁ b₁ o₁ (named 0) dump $ move ! (14 ∷ 11 ∷ 8 ∷ 5 ∷ 2 ∷ 0 ∷ 12 ∷ 9 ∷ 6 ∷ 3 ∷ []) $
         use_all 𝓛 (read_has l₅ ν₂ ν₃ ν₅ ν₄ δ₂ δ₃ δ₅ δ₄ rows refs buckets classes) (raw ((ReadWith 𝓛 at_mem run).pre (to_read l₅ ν₂ ν₃ ν₅ ν₄ δ₂ δ₃ δ₅ δ₄ rows refs buckets classes))) (goes-read l₅ ν₂ ν₃ ν₅ ν₄ δ₂ δ₃ δ₅ δ₄ rows refs buckets classes empty) $
@@ -231,7 +231,7 @@ module _ {M : Type 1} {𝓤 : Ura M} (𝓛 : Logic 𝓤) (at_mem : Memory → SP
         move ! (6 ∷ []) $ split ! $ move ! (1 ∷ []) $ peeks ! SR (Is SR) (shows 𝓛 SR) s (v ∷ []) (λ is. move ! (1 ∷ []) $ split ! $ move ! (1 ∷ []) $ split ! $ move ! (1 ∷ []) $ split ! $ move ! (1 ∷ []) $ split ! $ move ! (1 ∷ []) $ split ! $ move ! (12 ∷ 8 ∷ 1 ∷ []) $ drop ! $ drop ! $ drop ! $
         move ! (3 ∷ 14 ∷ 9 ∷ []) $ back_mut ! tt u64 κ₂ q₂ γ₂ b₂ o₂ (named 1) (named 1) rows ws.1.0 ν₂ δ₂ g₂ len₂ $
         move ! (4 ∷ 13 ∷ 9 ∷ []) $ back_mut ! tt u64 κ₃ q₃ γ₃ b₃ o₃ (named 2) (named 2) refs ws.1.1.0 ν₃ δ₃ g₃ len₃ $
-        move ! (5 ∷ 12 ∷ 9 ∷ []) $ back_array ! tt 65600 (length buckets) ws.1.1.1.0 len l₅ ν₅ δ₅ $
+        move ! (5 ∷ 12 ∷ 9 ∷ []) $ back_array ! tt 65664 (length buckets) ws.1.1.1.0 len l₅ ν₅ δ₅ $
         move ! (5 ∷ 10 ∷ 8 ∷ []) $ back_mut ! tt R κ₄ q₄ γ₄ b₄ o₄ (named 3) (named 4) classes ws.1.1.1.1.0 ν₄ δ₄ g₄ len₄ $
         move ! (8 ∷ []) $ drop ! $ land ! (from ! (stop !)) (init ! 25 refl ((LL.lawful S.the_type S'.the_laws 𝓛).typed s _ is).0) $ rewrite ! 25 (λ (t : Val). ‵ (fat full_share S'.mir l₆ 0 t)) (ap only ((S'.lowers).val_is s (v ∷ []) is)) refl $
         rewrite ! 32 (λ (n : ℕ). ‵ (fat full_share (unique (named 1) u64) l₂ 0 (slice_val (b₂, o₂) n))) (sym len₂) refl $
@@ -240,13 +240,13 @@ module _ {M : Type 1} {𝓤 : Ura M} (𝓛 : Logic 𝓤) (at_mem : Memory → SP
         forget ! 2 refl $ forget ! 23 refl $ forget ! 21 refl $ forget ! 19 refl $ forget ! 17 refl $ forget ! 15 refl $ forget ! 13 refl $ forget ! 11 refl $ forget ! 9 refl $ move ! (7 ∷ 8 ∷ 5 ∷ 6 ∷ 3 ∷ 4 ∷ 0 ∷ 1 ∷ 9 ∷ 10 ∷ 11 ∷ 12 ∷ 13 ∷ 14 ∷ 15 ∷ 16 ∷ 17 ∷ 18 ∷ 19 ∷ 20 ∷ 21 ∷ 22 ∷ 23 ∷ 24 ∷ 25 ∷ 26 ∷ 2 ∷ 27 ∷ 28 ∷ 29 ∷ 30 ∷ 31 ∷ 32 ∷ 33 ∷ 34 ∷ 35 ∷ 36 ∷ 37 ∷ []) $
         answers s ws.1.0 ws.1.1.0 ws.1.1.1.1.0 len₂ len₃ len₄ (subst (λ (us : List Val). Is SR s us) ((S'.lowers).val_is s (v ∷ []) is) is) ens)))))))))))))
 
-    begins : Sq 𝓛 (vacant (unique erased R) l₁₄ (vacant (ty_ref erased mut (pointee R.written)) l₁₃ (vacant (unique erased u64) l₁₂ (vacant (ty_ref erased mut (ty_array (ty_int w64) 65600)) l₁₁ (vacant (unique erased u64) l₁₀ (vacant (ty_ref erased mut (ty_int w64)) l₉ (vacant (unique erased u64) l₈ (vacant (ty_ref erased mut (ty_int w64)) l₇ (vacant S'.mir l₆ (vacant (ty_array (ty_int w64) 65600) l₅ (held (unique (named 3) R) l₄ (slice_val (b₄, o₄) (length classes)) (held (unique (named 2) u64) l₃ (slice_val (b₃, o₃) (length refs)) (held (unique (named 1) u64) l₂ (slice_val (b₂, o₂) (length rows)) (held (shared (named 0) u8) l₁ (slice_val (b₁, o₁) (length dump)) (vacant Q'.mir l₀ ((‵ (flft κ₁ q₁) ⊛ ‵ (flft κ₂ q₂) ⊛ ‵ (flft κ₃ q₃) ⊛ ‵ (flft κ₄ q₄) ⊛ ‵ ftrue) ∷ ‵ (owns (ShrSlice (named 0) κ₁ u8 ∷ MutSlice (named 1) κ₂ u64 ∷ MutSlice (named 2) κ₃ u64 ∷ MutSlice (named 3) κ₄ R ∷ []) a vs) ∷ [])))))))))))))))) (runs C Λ En Mir.t-1 (at_ret En Post))
+    begins : Sq 𝓛 (vacant (unique erased R) l₁₄ (vacant (ty_ref erased mut (pointee R.written)) l₁₃ (vacant (unique erased u64) l₁₂ (vacant (ty_ref erased mut (ty_array (ty_int w64) 65664)) l₁₁ (vacant (unique erased u64) l₁₀ (vacant (ty_ref erased mut (ty_int w64)) l₉ (vacant (unique erased u64) l₈ (vacant (ty_ref erased mut (ty_int w64)) l₇ (vacant S'.mir l₆ (vacant (ty_array (ty_int w64) 65664) l₅ (held (unique (named 3) R) l₄ (slice_val (b₄, o₄) (length classes)) (held (unique (named 2) u64) l₃ (slice_val (b₃, o₃) (length refs)) (held (unique (named 1) u64) l₂ (slice_val (b₂, o₂) (length rows)) (held (shared (named 0) u8) l₁ (slice_val (b₁, o₁) (length dump)) (vacant Q'.mir l₀ ((‵ (flft κ₁ q₁) ⊛ ‵ (flft κ₂ q₂) ⊛ ‵ (flft κ₃ q₃) ⊛ ‵ (flft κ₄ q₄) ⊛ ‵ ftrue) ∷ ‵ (owns (ShrSlice (named 0) κ₁ u8 ∷ MutSlice (named 1) κ₂ u64 ∷ MutSlice (named 2) κ₃ u64 ∷ MutSlice (named 3) κ₄ R ∷ []) a vs) ∷ [])))))))))))))))) (runs C Λ En Mir.t-1 (at_ret En Post))
     begins =
-        assigns ! (rep ! 65600 (lit ! tt)) (from ! (stop !)) (init ! 18 refl (Array-Typed u64 (uint_Lawful 𝓛 w64).typed 65600 zeros (zero-array ∷ []) zeros-is).0) $
+        assigns ! (rep ! 65664 (lit ! tt)) (from ! (stop !)) (init ! 18 refl (Array-Typed u64 (uint_Lawful 𝓛 w64).typed 65664 zeros (zero-array ∷ []) zeros-is).0) $
         move ! (30 ∷ []) $ split ! $ move ! (1 ∷ []) $ split ! $ move ! (1 ∷ []) $ split ! $ move ! (1 ∷ []) $ split ! $
         move ! (35 ∷ []) $ fsplit ! $ move ! (1 ∷ []) $ fsplit ! $ move ! (1 ∷ []) $ fsplit ! $ move ! (1 ∷ []) $ fsplit ! $
         move ! (6 ∷ 1 ∷ []) $ drop ! $ drop ! $ move ! (7 ∷ 3 ∷ 2 ∷ 6 ∷ 1 ∷ 5 ∷ 0 ∷ 4 ∷ []) $
-        reads zeros zero-array zeros-is (length-replicate {A = ℕ} 65600 0) refl
+        reads zeros zero-array zeros-is (length-replicate {A = ℕ} 65664 0) refl
 
   module _ (𝓣 : Tables 𝓤 H) (known_read : Triple 𝓤 (𝓣.C #read) (ReadWith 𝓛 at_mem run)) (known-answer : Triple 𝓤 (𝓣.C #answer) (Answer 𝓛 at_mem run)) where
     abbrev passed : List Val

@@ -114,7 +114,7 @@ module _ {M : Type 1} {𝓤 : Ura M} (𝓛 : Logic 𝓤) (mem : Memory → SProp
 
 module _ {M : Type 1} {𝓤 : Ura M} (𝓛 : Logic 𝓤) (at_mem : Memory → SProp 𝓤) (run : Routine → Fun 𝓤) (κ₁ κ₂ κ₃ κ₄ κ₅ : Lft) (q₁ q₂ q₃ q₄ q₅ : Share)
     (b₁ o₁ : ℕ) (γ₁ : GName) (dump : List ℕ) (b₂ o₂ : ℕ) (γ₂ : GName) (rows₀ : List ℕ) (b₃ o₃ : ℕ) (γ₃ : GName) (refs₀ : List ℕ) (b₄ o₄ : ℕ) (γ₄ : GName) (buckets₀ : List ℕ) (b₅ o₅ : ℕ) (γ₅ : GName) (classes₀ : List Summary)
-    (g₁ : Room u8 (length dump)) (g₂ : Room u64 (length rows₀)) (g₃ : Room u64 (length refs₀)) (g₄ : Room u64 (length buckets₀)) (g₅ : Room R (length classes₀)) (empty : buckets₀ ≡ replicate 65600 0) where
+    (g₁ : Room u8 (length dump)) (g₂ : Room u64 (length rows₀)) (g₃ : Room u64 (length refs₀)) (g₄ : Room u64 (length buckets₀)) (g₅ : Room R (length classes₀)) (empty : buckets₀ ≡ replicate 65664 0) where
   open 𝓛 use {H}
 
   abbrev a : MutBor (List ℕ) × (MutBor (List ℕ) × (MutBor (List ℕ) × (MutBor (List ℕ) × (MutBor (List Summary) × Unit {0}))))

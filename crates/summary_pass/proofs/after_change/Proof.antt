@@ -1,5 +1,5 @@
 -- `after_change` satisfies its contract: in the pass over class rows only the row changes; in the pass that counts, a class row widens the
--- range of class rows, and the key of any other row is there or its entry is entered in the index.
+-- range of class rows, and the key of any other row is there or is entered in the index.
 use borrow.Author.Rules.{rules}
 use Rattle.summary_pass.proofs.AfterRow.{sizing_next, nothing_next, old_next, added_next}
 use Rattle.summary_pass.proofs.after_change.Statement.{statement}
@@ -30,10 +30,10 @@ same_length c = search rules
 
 returns-3 : tie.Need-returns-3
 returns-3 c rows w on k at =
-    let e = c.before.before in
+    let e = c.before.before.before in
     let t = e.before.before.before in
     let d = t.before.before in
-    added_next w on d.before.before.if1.false k d.if2.false _ (at d.if2.false) t.if3.true _ e.enter.ensures
+    added_next w on d.before.before.if1.false k d.if2.false _ (at d.if2.false) t.if3.true _ _ e.enter.ensures
 
 returns-4 : tie.Need-returns-4
 returns-4 c rows w on k at =

@@ -2,7 +2,7 @@
 -- searches has its key.
 -- Assumes nothing.
 use mathlib.Core.Logic.{◌⊎◌, inl, ⊎_elim}
-use mathlib.Core.Path.{◌≡◌, sym, ap, ◌∙◌}
+use mathlib.Core.Path.{◌≡◌, sym, ◌∙◌}
 use Prim.Native.Nat.{ℕ, ◌^◌, ◌≤◌, ◌<◌}
 use native.Mathlib.Omega.{arith}
 use mathlib.Core.Bool.{Bool, true}
@@ -12,7 +12,6 @@ use borrow.Author.Tests.{ltb-true}
 use Rattle.table.specs.Table.{row_count}
 use Rattle.table.specs.Rows.{row_at, nth_row}
 use Rattle.table.specs.declared.Row.{Row}
-use Rattle.summaries.specs.Summaries.{Key}
 use Rattle.summary_list.specs.declared.Change.{Change}
 use Rattle.summary_pass.specs.declared.Pass.{Pass}
 use Rattle.summary_pass.specs.PassState.{PassHolds, FromBefore, ChangeFor, change_of, keys_counted}
@@ -30,11 +29,11 @@ module _ {rows buckets : List ℕ} {p : Pass} (h : PassHolds rows buckets p) (on
   small_size = rw (nth_row rows p.row row_in) at (h.small p.row row_in (inl row-before-end)).size
 
   change-for : {sizing : Bool} {row : Row} → p.sizing ≡ sizing → row ≡ row_at rows p.row → (k : Change) → k ≡ change_of sizing row k.from p.used
-      → (((k.action ≡ 0) × (k.from ≤ p.used)) ⊎ FromBefore buckets p k.class k.from) → ChangeFor rows p k
+      → (((k.action ≡ 0) × (k.from ≤ p.used)) ⊎ FromBefore buckets p k.class k.mark k.from) → ChangeFor rows p k
   change-for s r k e c = record {
     is = rw (s, nth_row rows p.row row_in, ← r) e;
     from_in = ⊎_elim (λ z. z.1) (λ f. omega (arith, h.index.used, (f (keys_counted rows p) h.index).0)) c;
-    none_before = λ acts i l q. ⊎_elim (λ z. acts z.0) (λ f. (f (keys_counted rows p) h.index).1 i l (ap (λ (j : Key). j.class) q)) c;
+    none_before = λ acts i l q. ⊎_elim (λ z. acts z.0) (λ f. (f (keys_counted rows p) h.index).1 i l q) c;
   }
 
 row-at-requires : tie.Need-row-at-requires

@@ -185,7 +185,7 @@ module _ {M : Type 1} {𝓤 : Ura M} (𝓛 : Logic 𝓤) (at_mem : Memory → SP
   abbrev after-has : (ν₂ : ℕ) (δ₂ : GName) (buckets : List ℕ) → List (Item 𝓤)
   after-has ν₂ δ₂ buckets = ‵ (flft (ν₂ ∷ []) full_share) ∷ ‵ ((MutSlice (named 0) (ν₂ ∷ []) u64).own_val (at b₂ o₂ δ₂ buckets) (vals b₂ o₂ buckets)) ∷ []
 
-  goes_after : (ν₂ : ℕ) (δ₂ : GName) (buckets : List ℕ) (p : Pass) (k : Change) (i : ℕ) → Is PR p (P'.lowered p ∷ []) → Is KR k (K'.lowered k ∷ []) → i < 2 ^ 64 → (p.row < 2 ^ 32) × (p.used < 2 ^ 32) × (i < 2 ^ 32) → ent 𝓤 (⋆ 𝓛 (after-has ν₂ δ₂ buckets)) ((After 𝓛 at_mem run).pre (to-after ν₂ δ₂ buckets p k i))
+  goes_after : (ν₂ : ℕ) (δ₂ : GName) (buckets : List ℕ) (p : Pass) (k : Change) (i : ℕ) → Is PR p (P'.lowered p ∷ []) → Is KR k (K'.lowered k ∷ []) → i < 2 ^ 64 → (p.row < 2 ^ 32) × (p.used < 2 ^ 32) × (i < 2 ^ 33) × (k.mark < 2) → ent 𝓤 (⋆ 𝓛 (after-has ν₂ δ₂ buckets)) ((After 𝓛 at_mem run).pre (to-after ν₂ δ₂ buckets p k i))
   goes_after ν₂ δ₂ buckets p k i g-p g-k g-i req =
       qed 𝓛 (after-has ν₂ δ₂ buckets) ∵ says ! req $ nothing ! $ move ! (1 ∷ 0 ∷ []) $ join ! $ frame ! $
       nothing ! $ number ! i g-i $ fjoin ! $ owned ! KR (Is KR) (LL.makes K.the_type K'.the_plain 𝓛) k _ g-k $ fjoin ! $ owned ! PR (Is PR) (LL.makes P.the_type P'.the_plain 𝓛) p _ g-p $ fjoin ! $ move ! (1 ∷ 0 ∷ []) $ fjoin ! $ done !

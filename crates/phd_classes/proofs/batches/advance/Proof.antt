@@ -2,7 +2,7 @@
 -- which none is left, or one record that needs none.
 use borrow.Author.Rules.{rules}
 use mathlib.Core.Path.{refl, subst}
-use mathlib.Core.Logic.{inl, inr}
+use mathlib.Core.Logic.{inl, inr, ⊎_elim}
 use Prim.Native.Nat.{◌+◌}
 use native.Mathlib.Omega.{arith}
 use Rattle.phd_classes.specs.ReadState.{EntryNeeded, sizes, full, reads}
@@ -18,14 +18,14 @@ end-requires c κs = search rules
 returns : tie.Need-returns
 returns c = sizes c.before.before.if1.true (rw (c.end.ensures, c.before.size-by-classes.ensures) refl) refl refl
 
-sub-batch-len : tie.Need-overflow-sub-batch-len
-sub-batch-len c = search rules
+sub-min : tie.Need-overflow-sub-min
+sub-min c = search rules
 
-batch-len-requires : tie.Need-batch-len-requires
-batch-len-requires c κs = search rules
+min-requires : tie.Need-min-requires
+min-requires c κs = search rules
 
 add-read-batch : tie.Need-overflow-add-read-batch
-add-read-batch c = omega (arith, c.before.before.before.before.before.before.before.before.before.before.before.before.before.before.before.before.requires.few, c.before.batch-len.ensures.1)
+add-read-batch c = omega (arith, c.before.before.before.before.before.before.before.before.before.before.before.before.before.before.before.before.requires.few, c.before.min.ensures.1)
 
 read-batch-requires : tie.Need-read-batch-requires
 read-batch-requires c κs = c.before.before.before.before.before.before.before.before.before.before.before.before.before.before.before.before.requires.batch c.before.before.before.before.before.before.before.before.before.if1.false
@@ -41,10 +41,10 @@ returns-2 c =
     let d = c.before.before.before.before.before.before in
     let e = d.before.before.before.before.before in
     let s = e.before.before.before.before.before.before.before.before.before.before.args.s in
-    let m = d.batch-len.ensures in
+    let m = d.min.ensures in
     let l = e.if2.true in
-    reads e.before.before.before.if1.false (s.cursor.rows + d.batch-len.result)
-    (let positive = m.2 (omega (arith, l)) in omega arith)
+    reads e.before.before.before.if1.false (s.cursor.rows + d.min.result)
+    (⊎_elim (λ z. omega (arith, l)) (λ z. omega (arith, l)) m.2)
     c.before.before.before.before.read-batch.ensures
     (inl (omega (arith, m.0, l)))
 
@@ -98,8 +98,8 @@ advance-spec =
     size-by-classes-requires
     end-requires
     returns
-    sub-batch-len
-    batch-len-requires
+    sub-min
+    min-requires
     add-read-batch
     read-batch-requires
     same_length
