@@ -1,5 +1,7 @@
 // A hash of addresses, for the tables that find class rows and entries of class summaries. Nothing is believed of it: a hash that gave
 // one number for all addresses would make them slow, and no contract would fail.
+#![tactic(auto)]
+
 ghost use Rattle.std.specs.Prelude.{◌≡◌, ◌<◌};
 ghost use Rattle.address_hash.specs.AddressHash.{hash};
 

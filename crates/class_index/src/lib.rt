@@ -3,6 +3,8 @@
 // address finds it. Only if every class row passes this test, which makes the class index certified, is it searched; otherwise a class
 // is searched for row by row.
 // Defined in specs/ClassIndex.antt; specs/Certified.antt has the theorem that a search by a certified class index is the class search.
+#![tactic(auto)]
+
 ghost use Rattle.std.specs.Prelude.{◌≡◌, ◌⊎◌, true, ◌+◌, ◌-◌, ◌^◌, ◌≤◌, ◌<◌, length};
 ghost use Rattle.table.specs.Table.{row_count};
 ghost use Rattle.table.specs.Rows.{rows_of};

@@ -1,5 +1,7 @@
 // Classic text: the definition of the text (specs/ClassicText.antt), and the functions that find class rows: by address here, by
 // the name of a primitive array's type in primitives.rt. The contract of each function here is an equation with a definition.
+#![tactic(auto)]
+
 ghost use Rattle.std.specs.Prelude.{◌≡◌};
 ghost use Rattle.table.specs.Rows.{rows_of};
 ghost use Rattle.table.specs.RowBytes.{class_at};

@@ -1,5 +1,7 @@
 // Writes addresses and references of the classic text. Each function writes its bytes at an offset of the output, changes nothing
 // else, and returns the offset after them; the bytes are a definition of classic's specs/ClassicText.antt.
+#![tactic(auto)]
+
 ghost use Rattle.std.specs.Prelude.{◌+◌, ◌≤◌, length, take, drop};
 ghost use Rattle.encode.specs.Writes.{Writes, HasCapacity};
 ghost use Rattle.phd.specs.Shapes.{ValidBits};

@@ -1,5 +1,7 @@
 // Writing tables as classic text: the public operations `text_size`, the size query, and `text`.
 // The contract of `text_size` is one equation with the definition; that of `text` is two, for the answer and for the output.
+#![tactic(auto)]
+
 ghost use Rattle.std.specs.Prelude.{◌≡◌, length};
 ghost use Rattle.table.specs.Buffer.{overwrite};
 ghost use Rattle.table.specs.Rows.{rows_of};

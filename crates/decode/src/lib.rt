@@ -1,5 +1,7 @@
 // Decodes the fields of a dump: big-endian numbers, signed gaps, addresses, references, counts and strings.
 // Each contract is an equation with a layout of specs/Fields.antt or a definition of specs/Numbers.antt.
+#![tactic(auto)]
+
 ghost use Rattle.std.specs.Prelude.{◌≡◌, cond, ◌+◌, ◌-◌, ◌^◌, ◌≤◌, ◌<◌, length, take, drop};
 ghost use Rattle.decode.specs.Numbers.{value, signed as signed_of, sign_case, add_gap, to_count, all_within};
 ghost use Rattle.decode.specs.Layout.{run, field as field_of, reply_of, missing_of};

@@ -1,6 +1,8 @@
 // Decodes fields without checking how many bytes are left, where enough are known to follow; and references without a range
 // check, where the address of their record is far enough from both ends of the address range.
 // Each contract is an equation with a definition of decode's specs/Numbers.antt or of specs/RefsInRange.antt.
+#![tactic(auto)]
+
 ghost use Rattle.std.specs.Prelude.{◌≡◌, ◌+◌, ◌^◌, ◌≤◌, ◌<◌, length, take, drop};
 ghost use Rattle.decode.specs.Numbers.{value};
 ghost use Rattle.decode_fast.specs.RefsInRange.{gap_reach, refs_in_range, target};

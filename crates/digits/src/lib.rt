@@ -1,5 +1,7 @@
 // Writes numbers as digits. Each function that writes does so at an offset of the output, changes nothing else, and returns the
 // offset after what it wrote; the bytes are a definition of specs/Digits.antt.
+#![tactic(auto)]
+
 ghost use Rattle.std.specs.Prelude.{◌≡◌, ◌++◌};
 ghost use Rattle.io.specs.Digits.{last_digits};
 ghost use Rattle.encode.specs.Encode.{be};

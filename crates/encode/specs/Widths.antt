@@ -158,4 +158,4 @@ refs_code_fits m a (r ∷ rs) h =
 pub refs_code_least : (k m a : ℕ) (rs : List ℕ) → m ≤ k → AllFit (2 ^ k) a rs → refs_code m a rs ≤ k
 unfolding refs_code
 refs_code_least k m a [] l h = l
-refs_code_least k m a (r ∷ rs) l h = refs_code_least k _ a rs (max_le m _ k l (code_least (gap a r) k h.0)) h.1
+refs_code_least k m a (r ∷ rs) l h = refs_code_least k (max m (width_code (gap a r))) a rs (max_le m _ k l (code_least (gap a r) k h.0)) h.1

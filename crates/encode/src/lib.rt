@@ -1,6 +1,8 @@
 // Encodes byte strings, big-endian numbers, gaps and references, and computes the least width that holds a gap. Each function
 // that writes does so at an offset of the output, changes nothing else, and returns the offset after the bytes written. The bytes
 // are defined in specs/Encode.antt.
+#![tactic(auto)]
+
 ghost use Rattle.std.specs.Prelude.{◌≡◌, ◌+◌, ◌≤◌, [], ◌∷◌, cond, length, take, drop, pos, negsuc, leb};
 ghost use Rattle.encode.specs.Writes.{Writes, HasCapacity};
 ghost use Rattle.encode.specs.Encode.{be, gap, twos_complement, width_code, max, refs_code, encode_ref_list};

@@ -1,5 +1,7 @@
 // The portable heap dump: the types of its header and its records, the class cache, tags, flag bytes and shapes. The format is
 // defined in specs/Phd.antt; the functions here are proved equal to parts of that definition.
+#![tactic(auto)]
+
 use decode::StringSpan;
 
 pub mod cache;

@@ -1,6 +1,8 @@
 // The C boundary: reading, writing, the classic text, and the size queries of the last two, for callers in C or Rust. A slice is
 // a pointer and a length, a number has 64 bits, and nothing is allocated. Each function has the contract of the operation that it
 // calls, with the header and the answer as numbers (specs/Boundary.antt).
+#![tactic(auto)]
+
 ghost use Rattle.std.specs.Prelude.{◌≡◌, length};
 ghost use Rattle.table.specs.Buffer.{overwrite};
 ghost use Rattle.table.specs.Rows.{rows_of};

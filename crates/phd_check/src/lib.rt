@@ -1,5 +1,7 @@
 // Checks of a header and of the rows of a table before they are written (docs/FORMAT.md 6.1).
 // Each contract equates the result with a definition of specs/GoodRows.antt, that of `check` with `checked_input` of table.
+#![tactic(auto)]
+
 ghost use Rattle.std.specs.Prelude.{◌≡◌};
 ghost use Rattle.phd.specs.Shapes.{ValidBits};
 ghost use Rattle.table.specs.Rows.{rows_of};

@@ -3,6 +3,8 @@
 // The rows are read in batches; after each batch its rows are counted in their entries, while they are in the cache. A batch has at
 // most as many rows as entries are left, so that no record is stored without its entry. At the end of the reading the class rows give
 // the objects that wait their bytes.
+#![tactic(auto)]
+
 ghost use Rattle.std.specs.Prelude.{◌≡◌, length, replicate};
 ghost use Rattle.table.specs.Buffer.{overwrite};
 ghost use Rattle.table.specs.Rows.{rows_of};

@@ -1,5 +1,7 @@
 // If a reading has read the header, its header and rows pass every check of the writer and of the text: specs/ReadThenWrite.antt.
 // The function below only calls `read_tables`. Its contract states this for every call.
+#![tactic(auto)]
+
 ghost use Rattle.std.specs.Prelude.{◌≡◌, ◌*◌, take};
 ghost use Rattle.table.specs.Table.{row_width};
 ghost use Rattle.table.specs.Rows.{rows_of};

@@ -1,5 +1,7 @@
 // Counts the rows of a table by kind, their references, and the nulls of object arrays (docs/FORMAT.md 7.4).
 // Each function's contract is an equation with a definition of specs/Counts.antt.
+#![tactic(auto)]
+
 ghost use Rattle.std.specs.Prelude.{◌≡◌};
 ghost use Rattle.phd_counts.specs.Counts.{nulls_of, no_rows, add_row};
 ghost use Rattle.phd_counts.specs.CountLoop.{NoOverflow};

@@ -1,5 +1,7 @@
 // Encodes a record: its tag, its flag byte and its fields in file order (docs/FORMAT.md 3.3). The widths come from `Shape`, as in
 // the reader. The bytes that each function writes are a definition of specs/EncodeRecord.antt.
+#![tactic(auto)]
+
 ghost use Rattle.std.specs.Prelude.{◌≡◌, true, ◌+◌, ◌≤◌, length};
 ghost use Rattle.encode.specs.Writes.{Writes, HasCapacity};
 ghost use Rattle.table.specs.Rows.{refs_of, name_of};

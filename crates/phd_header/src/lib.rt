@@ -1,5 +1,7 @@
 // Reads the header of a portable heap dump (docs/FORMAT.md 2).
 // Each function's contract is an equation with a definition of the format (crates/phd/specs/Phd.antt).
+#![tactic(auto)]
+
 ghost use Rattle.std.specs.Prelude.{◌≡◌, cond, ◌+◌, ◌≤◌, length, take, drop};
 ghost use Rattle.decode.specs.Layout.{run};
 ghost use Rattle.decode.specs.Fields.{outcome, string_outcome};

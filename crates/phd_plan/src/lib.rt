@@ -1,5 +1,7 @@
 // Chooses the form in which a record is written, with its tag and its flag byte (docs/FORMAT.md 6.2).
 // Each function's contract is an equation with a definition of specs/FormChoice.antt.
+#![tactic(auto)]
+
 ghost use Rattle.std.specs.Prelude.{◌≡◌, ◌+◌, ◌≤◌, ◌<◌, length};
 ghost use Rattle.table.specs.Rows.{refs_of};
 ghost use Rattle.phd_plan.specs.FormChoice.{slot_holds, find_slot, plan_input, needs_flag_byte, object_form, form_of, tag_of, hash_flags, class_flags, flags_of, make_plan, Bounded};

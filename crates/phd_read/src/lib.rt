@@ -1,6 +1,8 @@
 // Reads a portable heap dump into the caller's tables: the public operation `read_tables`. The reading that makes class summaries too is
 // in the crate phd_classes.
 // Its contract is three equations with the definition: one for the answer and one for each table.
+#![tactic(auto)]
+
 ghost use Rattle.std.specs.Prelude.{◌≡◌, length};
 ghost use Rattle.phd.specs.Phd.{read_result, no_records};
 ghost use Rattle.table.specs.Buffer.{overwrite};

@@ -1,6 +1,8 @@
 // Reads one record of a dump: checks its fields in file order and returns the row that they make. Nothing is stored here.
 // Each function's contract is an equation with a layout of the format's definition (crates/phd/specs/Phd.antt); for the fast
 // path the equation holds if there is a hit.
+#![tactic(auto)]
+
 ghost use Rattle.std.specs.Prelude.{◌≡◌, ◌≤◌, length};
 ghost use Rattle.decode.specs.Layout.{run};
 ghost use Rattle.phd.specs.Phd.{entry, record_body};

@@ -2,6 +2,8 @@
 // that lie whole within the cut (specs/).
 // The two functions below only call the public operations. Their contracts are the premises of the theorems in
 // specs/InMemory.antt, so those theorems hold for every call of `write` and `read_tables`.
+#![tactic(auto)]
+
 ghost use Rattle.phd_read.specs.ReadContract.{AfterRead};
 ghost use Rattle.phd_write.specs.WriteTerms.{AfterWrite};
 

@@ -1,5 +1,7 @@
 // Writing tables as a portable heap dump (docs/FORMAT.md 6): the public operations `write_size`, the size query, and `write`.
 // The contract of `write_size` is one equation with its definition; that of `write` is one for the answer and one for the output.
+#![tactic(auto)]
+
 ghost use Rattle.std.specs.Prelude.{◌≡◌, length};
 ghost use Rattle.phd_check.specs.GoodRows.{TablesGood};
 ghost use Rattle.encode.specs.Writes.{Writes, HasCapacity};

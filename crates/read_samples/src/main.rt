@@ -12,6 +12,8 @@
 //     rest unchanged|changed                          the tables after what each of these readings stored
 //
 // For a file of 4,096 bytes or more, the size of the buffer, it prints `too large` instead.
+#![tactic(auto)]
+
 ghost use Rattle.std.specs.Prelude.{◌≤◌, length};
 
 use phd_read::ReadAnswer;

@@ -1,4 +1,5 @@
 // The reading of dumps of any format: its definition (specs/Reader.antt) and the theorems that hold for every format.
+#![tactic(auto)]
 
 // The size limit of a dump, in bytes: 2^30 (docs/FORMAT.md 2).
 pub const LIMIT: usize = 0x4000_0000;

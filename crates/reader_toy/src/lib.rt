@@ -4,6 +4,8 @@
 //   theorems of every reading then hold for it (`toy_cuts_prefix`, `toy_row_origins`, `toy_completed_end`);
 // - its reader, as here: fields are read with crates/decode, rows are stored with crates/table. The laws of
 //   crates/reader/specs/TableSteps.antt prove that a step is right, and that the loop over steps gives the result of the reading.
+#![tactic(auto)]
+
 ghost use Rattle.std.specs.Prelude.{◌≡◌, ◌+◌, ◌*◌, ◌≤◌, length, take, drop};
 ghost use Rattle.std.proofs.lemmas.List.Edits.{sets};
 ghost use Rattle.table.specs.Buffer.{overwrite};

@@ -1,5 +1,7 @@
 // The output that the programs over the sample dumps share: numbers with labels, tables in lines, the answer of a reading, and
 // whether an output is unchanged.
+#![tactic(auto)]
+
 ghost use Rattle.std.specs.Prelude.{◌≤◌, ◌<◌, length};
 ghost use Rattle.io.specs.Counts.{IsPrefixLen};
 

@@ -1,5 +1,7 @@
 // Class summaries: one entry for each class and each primitive type that has instances among the rows of a table.
 // Defined in specs/Summaries.antt, as a function of the rows.
+#![tactic(auto)]
+
 
 // An entry: what the rows with one class word, or the arrays of one primitive type, amount to. In C it is `struct phd_class`.
 #[repr(C)]

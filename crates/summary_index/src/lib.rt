@@ -3,6 +3,8 @@
 // empty, else twice the index of the entry plus the key's mark plus one.
 // Nothing is believed of the hash. A key that finds no empty bucket is left out; then the index is not complete, which is reported.
 // Defined in specs/SummaryIndex.antt.
+#![tactic(auto)]
+
 ghost use Rattle.std.specs.Prelude.{◌≡◌, ◌+◌, ◌-◌, ◌*◌, ◌/◌, ◌^◌, ◌<◌, length, get_or};
 ghost use Rattle.summary_index.specs.SummaryIndex.{make_key, bucket_has, first_bucket, find};
 ghost use Rattle.summary_index.specs.EnterKey.{EntersKey};

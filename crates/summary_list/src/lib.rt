@@ -1,4 +1,6 @@
 // The list of class summaries in the caller's memory: a change of one entry, for one row.
+#![tactic(auto)]
+
 ghost use Rattle.std.specs.Prelude.{◌≡◌, ◌-◌, ◌<◌, ◌≤◌, length, slice_index_or, slice_set};
 ghost use Rattle.summary_list.specs.EntryList.{blank, entry_has, product, changed_entry, find_entry};
 

@@ -1,6 +1,8 @@
 // Passes over the rows of a table that change the list of class summaries: one counts rows in their entries, and after it another, over
 // the class rows, gives the objects that wait their bytes. Together they make the class summaries of the rows, since class rows may be
 // summed up last (`class_rows_last` in crates/summaries/specs/ClassRowsLast.antt).
+#![tactic(auto)]
+
 ghost use Rattle.std.specs.Prelude.{◌≡◌, ◌⊎◌, true, false, cond, eqb, ◌+◌, ◌*◌, ◌^◌, ◌≤◌, ◌<◌};
 ghost use Rattle.table.specs.Rows.{is_kind, rows_of};
 ghost use Rattle.summary_pass.specs.PassState.{PassHolds, ListHolds, IndexState, FromBefore, ChangeFor, change_of, AfterChange, PassDone};

@@ -1,6 +1,8 @@
 // The table of records: rows of thirteen numbers, one after another in a slice. Reading fills it; writing, the text, counts and
 // searches are functions of its rows.
 // Defined in specs/Table.antt (how a slice is split into rows) and specs/Rows.antt (a row by its numbers).
+#![tactic(auto)]
+
 ghost use Rattle.std.specs.Prelude.{◌≡◌, ◌+◌, ◌≤◌, ◌<◌, length};
 ghost use Rattle.std.proofs.lemmas.List.Edits.{sets};
 ghost use Rattle.table.specs.Table.{row_width, row_count};

@@ -11,6 +11,8 @@
 //     capacity N reply R place P unchanged|changed      with a byte less, or with 0 if it was refused: all of the output
 //
 // Bytes after a dump may change the tables before the text is written: changes.rt.
+#![tactic(auto)]
+
 mod changes;
 
 ghost use Rattle.std.specs.Prelude.{◌≡◌, length};

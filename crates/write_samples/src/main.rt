@@ -13,6 +13,8 @@
 //     refs N N ..                                          the references, up to eight in a line
 //
 // tables.rt describes how a file encodes its tables.
+#![tactic(auto)]
+
 mod tables;
 
 ghost use Rattle.std.specs.Prelude.{◌≤◌, ◌<◌, ◌≡◌, length};

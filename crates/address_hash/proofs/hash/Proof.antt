@@ -6,15 +6,15 @@ use Rattle.address_hash.specs.AddressHash.{hash}
 use Rattle.address_hash.proofs.hash.Statement.{statement}
 use Rattle.address_hash.proofs.hash.Tie as tie
 
-add-folded : tie.Need-overflow-add-folded
-add-folded c = search rules
+overflow_add-folded : tie.Need-overflow_add-folded
+overflow_add-folded c = search rules
 
-mul-result : tie.Need-overflow-mul-result
-mul-result c = search rules
+overflow_mul-result : tie.Need-overflow_mul-result
+overflow_mul-result c = search rules
 
 returns : tie.Need-returns
 unfolding hash
 returns c = (refl, omega arith)
 
-pub hash-spec : {M : Type 1} → statement M
-hash-spec = tie.close (tie.spec add-folded mul-result returns)
+pub hash_spec : {M : Type 1} → statement M
+hash_spec = tie.close (tie.spec overflow_add-folded overflow_mul-result returns)

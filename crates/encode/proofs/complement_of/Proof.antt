@@ -5,16 +5,16 @@ use Rattle.encode.specs.Encode.{twos_complement}
 use Rattle.encode.proofs.complement_of.Statement.{statement}
 use Rattle.encode.proofs.complement_of.Tie as tie
 
+returns-then-up : tie.Need-returns-then-up
+unfolding twos_complement
+returns-then-up c = rw c.if-up.true
+
+overflow_sub-result : tie.Need-overflow_sub-result
+overflow_sub-result c = search rules
+
 returns : tie.Need-returns
 unfolding twos_complement
-returns c = rw c.if1.true
+returns c = rw c.if-up.false (omega arith)
 
-sub-result : tie.Need-overflow-sub-result
-sub-result c = search rules
-
-returns-2 : tie.Need-returns-2
-unfolding twos_complement
-returns-2 c = rw c.if1.false (omega arith)
-
-pub complement-of-spec : {M : Type 1} → statement M
-complement-of-spec = tie.close (tie.spec returns sub-result returns-2)
+pub complement_of_spec : {M : Type 1} → statement M
+complement_of_spec = tie.close (tie.spec returns-then-up overflow_sub-result returns)

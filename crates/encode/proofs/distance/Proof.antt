@@ -5,19 +5,19 @@ use Rattle.encode.specs.Encode.{gap}
 use Rattle.encode.proofs.distance.Statement.{statement}
 use Rattle.encode.proofs.distance.Tie as tie
 
+returns-then-from-to : tie.Need-returns-then-from-to
+unfolding gap
+returns-then-from-to c = rw (le-leb _ _ c.if-from-to.true)
+
+overflow_sub-result-2 : tie.Need-overflow_sub-result-2
+overflow_sub-result-2 c = search rules
+
+overflow_sub-result-3 : tie.Need-overflow_sub-result-3
+overflow_sub-result-3 c = search rules
+
 returns : tie.Need-returns
 unfolding gap
-returns c = rw (le-leb _ _ c.if1.true)
+returns c = rw (lt-leb _ _ c.if-from-to.false)
 
-sub-result : tie.Need-overflow-sub-result
-sub-result c = search rules
-
-sub-result-2 : tie.Need-overflow-sub-result-2
-sub-result-2 c = search rules
-
-returns-2 : tie.Need-returns-2
-unfolding gap
-returns-2 c = rw (lt-leb _ _ c.if1.false)
-
-pub distance-spec : {M : Type 1} → statement M
-distance-spec = tie.close (tie.spec returns sub-result sub-result-2 returns-2)
+pub distance_spec : {M : Type 1} → statement M
+distance_spec = tie.close (tie.spec returns-then-from-to overflow_sub-result-2 overflow_sub-result-3 returns)

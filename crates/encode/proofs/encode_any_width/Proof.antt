@@ -12,66 +12,66 @@ use Rattle.encode.proofs.EncodeLaws.{be_step}
 use Rattle.encode.proofs.encode_any_width.Statement.{statement}
 use Rattle.encode.proofs.encode_any_width.Tie as tie
 
-abbrev invariant-loop : tie.invariant-loop
-invariant-loop out₀ at n value rest₀ k₀ out rest k =
+abbrev invariant-loop-k : tie.invariant-loop-k
+invariant-loop-k out₀ at n value rest₀ k₀ out rest k =
     (k ≤ n) × (at + n ≤ length out) × (length out ≡ length out₀) × (sets out at (be k rest) ≡ sets out₀ at (be n value))
 
-abbrev decreases-loop : tie.decreases-loop
-decreases-loop out₀ at n value rest₀ k₀ out rest k = k
+abbrev decreases-loop-k : tie.decreases-loop-k
+decreases-loop-k out₀ at n value rest₀ k₀ out rest k = k
 
-loop-holds : tie.Need-loop-init invariant-loop decreases-loop
-loop-holds c = (omega arith, rw length_be at c.requires, refl, refl)
+loop-k-init : tie.Need-loop-k-init invariant-loop-k decreases-loop-k
+loop-k-init c = (omega arith, rw length_be at c.requires, refl, refl)
 
-sub-k : tie.Need-overflow-sub-k invariant-loop decreases-loop
-sub-k c = search rules
+overflow_sub-k : tie.Need-overflow_sub-k invariant-loop-k decreases-loop-k
+overflow_sub-k c = search rules
 
-cast-out : tie.Need-overflow-cast-out invariant-loop decreases-loop
-cast-out c = search rules
+overflow_cast-out : tie.Need-overflow_cast-out invariant-loop-k decreases-loop-k
+overflow_cast-out c = search rules
 
-add-out : tie.Need-overflow-add-out invariant-loop decreases-loop
-add-out c = search rules
+overflow_add-out : tie.Need-overflow_add-out invariant-loop-k decreases-loop-k
+overflow_add-out c = search rules
 
-slice-write-out : tie.Need-slice-write-out invariant-loop decreases-loop
-slice-write-out c = search rules
+bounds-out-at : tie.Need-bounds-out-at invariant-loop-k decreases-loop-k
+bounds-out-at c = search rules
 
-loop-less : tie.Need-loop-smaller invariant-loop decreases-loop
-loop-less c = search rules
+loop-k-smaller : tie.Need-loop-k-smaller invariant-loop-k decreases-loop-k
+loop-k-smaller c = search rules
 
-loop-again : tie.Need-loop-preserved invariant-loop decreases-loop
-loop-again c =
+loop-k-preserved : tie.Need-loop-k-preserved invariant-loop-k decreases-loop-k
+loop-k-preserved c =
     let l = c.before in (
       omega arith,
-      simp length-set l.loop.invariant.1,
-      simp length-set l.loop.invariant.2,
-      sym (be_step l.loop.out _ l.loop.k l.loop.rest (omega arith)) ∙ l.loop.invariant.3,
+      simp length-set l.loop-k.invariant.1,
+      simp length-set l.loop-k.invariant.2,
+      sym (be_step l.loop-k.out _ l.loop-k.k l.loop-k.rest (omega arith)) ∙ l.loop-k.invariant.3,
     )
 
-add-result : tie.Need-overflow-add-result invariant-loop decreases-loop
-add-result c = search rules
+overflow_add-result : tie.Need-overflow_add-result invariant-loop-k decreases-loop-k
+overflow_add-result c = search rules
 
-same_length : tie.Need-same-length invariant-loop decreases-loop
-same_length c = search rules
+shape_of-out : tie.Need-shape_of-out invariant-loop-k decreases-loop-k
+shape_of-out c = search rules
 
-returns : tie.Need-returns invariant-loop decreases-loop
+returns : tie.Need-returns invariant-loop-k decreases-loop-k
 unfolding be
 returns c =
     let l = c.before in
-    let e : l.loop.k ≡ 0 = omega arith in
-    record { out = rw e at l.loop.invariant.3; place = rw length_be }
+    let e : l.loop-k.k ≡ 0 = omega arith in
+    record { out = rw e at l.loop-k.invariant.3; place = rw length_be }
 
-pub encode-any-width-spec : {M : Type 1} → statement M
-encode-any-width-spec =
+pub encode_any_width_spec : {M : Type 1} → statement M
+encode_any_width_spec =
     tie.close
     (tie.spec
-    invariant-loop
-    decreases-loop
-    loop-holds
-    sub-k
-    cast-out
-    add-out
-    slice-write-out
-    loop-less
-    loop-again
-    add-result
-    same_length
+    invariant-loop-k
+    decreases-loop-k
+    loop-k-init
+    overflow_sub-k
+    overflow_cast-out
+    overflow_add-out
+    bounds-out-at
+    loop-k-smaller
+    loop-k-preserved
+    overflow_add-result
+    shape_of-out
     returns)

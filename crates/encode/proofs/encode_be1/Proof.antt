@@ -5,22 +5,22 @@ use Rattle.encode.specs.Encode.{be}
 use Rattle.encode.proofs.encode_be1.Statement.{statement}
 use Rattle.encode.proofs.encode_be1.Tie as tie
 
-cast-out : tie.Need-overflow-cast-out
-cast-out c = search rules
+overflow_cast-out : tie.Need-overflow_cast-out
+overflow_cast-out c = search rules
 
-slice-write-out : tie.Need-slice-write-out
+bounds-out-at : tie.Need-bounds-out-at
 unfolding be
-slice-write-out c = search rules
+bounds-out-at c = search rules
 
-add-result : tie.Need-overflow-add-result
-add-result c = search rules
+overflow_add-result : tie.Need-overflow_add-result
+overflow_add-result c = search rules
 
-same_length : tie.Need-same-length
-same_length c = search rules
+shape_of-out : tie.Need-shape_of-out
+shape_of-out c = search rules
 
 returns : tie.Need-returns
 unfolding be
 returns c = record { out = refl; place = refl }
 
-pub encode-be1-spec : {M : Type 1} → statement M
-encode-be1-spec = tie.close (tie.spec cast-out slice-write-out add-result same_length returns)
+pub encode_be1_spec : {M : Type 1} → statement M
+encode_be1_spec = tie.close (tie.spec overflow_cast-out bounds-out-at overflow_add-result shape_of-out returns)

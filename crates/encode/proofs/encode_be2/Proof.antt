@@ -12,20 +12,20 @@ use Rattle.encode.proofs.encode_be2.Tie as tie
 abbrev none : tie.Start → WriteProgress
 none c = let a = c.args in progress_start a.out.now a.at (be 1 (a.value / 256) ∷ be 1 a.value ∷ []) (be_parts 1 1 a.value) c.requires
 
-abbrev high : tie.After-encode-be1 → WriteProgress
-high c = progress_next (none c.before.before.before) c.encode-be1.ensures
+abbrev high : tie.After-encode_be1-low → WriteProgress
+high c = progress_next (none c.before.before.before) c.encode_be1-low.ensures
 
-encode-be1-requires : tie.Need-encode-be1-requires
-encode-be1-requires c κs = next_part_fits (none c.before.before)
+encode_be1-low-requires : tie.Need-encode_be1-low-requires
+encode_be1-low-requires c κs = next_part_fits (none c.before.before)
 
-encode-be1-requires-2 : tie.Need-encode-be1-requires-2
-encode-be1-requires-2 c κs = next_part_fits (high c.before.before.before)
+encode_be1-requires : tie.Need-encode_be1-requires
+encode_be1-requires c κs = next_part_fits (high c.before.before.before)
 
-same_length : tie.Need-same-length
-same_length c = search rules
+shape_of-out : tie.Need-shape_of-out
+shape_of-out c = search rules
 
 returns : tie.Need-returns
-returns c = let p = c.before.before in progress_done (progress_next (high p.before.before.before.before) p.encode-be12.ensures) refl
+returns c = let p = c.before.before in progress_done (progress_next (high p.before.before.before.before) p.encode_be1.ensures) refl
 
-pub encode-be2-spec : {M : Type 1} → statement M
-encode-be2-spec = tie.close (tie.spec encode-be1-requires encode-be1-requires-2 same_length returns)
+pub encode_be2_spec : {M : Type 1} → statement M
+encode_be2_spec = tie.close (tie.spec encode_be1-low-requires encode_be1-requires shape_of-out returns)

@@ -8,11 +8,11 @@ use Rattle.encode.proofs.gap_code.Tie as tie
 distance-requires : tie.Need-distance-requires
 distance-requires c κs = search rules
 
-number-code-requires : tie.Need-number-code-requires
-number-code-requires c κs = search rules
+number_code-requires : tie.Need-number_code-requires
+number_code-requires c κs = search rules
 
 returns : tie.Need-returns
-returns c = c.number-code.ensures ∙ sym (code_gap _ _ _ c.before.distance.ensures)
+returns c = c.number_code.ensures ∙ sym (code_gap _ _ _ c.distance.ensures)
 
-pub gap-code-spec : {M : Type 1} → statement M
-gap-code-spec = tie.close (tie.spec distance-requires number-code-requires returns)
+pub gap_code_spec : {M : Type 1} → statement M
+gap_code_spec = tie.close (tie.spec distance-requires number_code-requires returns)

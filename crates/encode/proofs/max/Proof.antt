@@ -3,11 +3,11 @@ use borrow.Author.Tests.{le-leb, lt-leb}
 use Rattle.encode.proofs.max.Statement.{statement}
 use Rattle.encode.proofs.max.Tie as tie
 
+returns-then-a-b : tie.Need-returns-then-a-b
+returns-then-a-b c = rw (le-leb _ _ c.if-a-b.true)
+
 returns : tie.Need-returns
-returns c = rw (le-leb _ _ c.if1.true)
+returns c = rw (lt-leb _ _ c.if-a-b.false)
 
-returns-2 : tie.Need-returns-2
-returns-2 c = rw (lt-leb _ _ c.if1.false)
-
-pub max-spec : {M : Type 1} → statement M
-max-spec = tie.close (tie.spec returns returns-2)
+pub max_spec : {M : Type 1} → statement M
+max_spec = tie.close (tie.spec returns-then-a-b returns)

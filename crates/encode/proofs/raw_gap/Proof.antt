@@ -6,11 +6,11 @@ use Rattle.encode.proofs.raw_gap.Tie as tie
 distance-requires : tie.Need-distance-requires
 distance-requires c κs = search rules
 
-complement-of-requires : tie.Need-complement-of-requires
-complement-of-requires c κs = search rules
+complement_of-requires : tie.Need-complement_of-requires
+complement_of-requires c κs = search rules
 
 returns : tie.Need-returns
-returns c = rw c.before.distance.ensures c.complement-of.ensures
+returns c = rw c.distance.ensures c.complement_of.ensures
 
-pub raw-gap-spec : {M : Type 1} → statement M
-raw-gap-spec = tie.close (tie.spec distance-requires complement-of-requires returns)
+pub raw_gap_spec : {M : Type 1} → statement M
+raw_gap_spec = tie.close (tie.spec distance-requires complement_of-requires returns)

@@ -8,87 +8,87 @@ use Rattle.table.proofs.TableLaws.{row_in_bounds, number_at}
 use Rattle.table.proofs.row_at.Statement.{statement}
 use Rattle.table.proofs.row_at.Tie as tie
 
-mul_at : tie.Need-overflow-mul-at
-mul_at c = omega (arith, row_in_bounds c.args.rows.now c.args.i c.requires)
+overflow_mul-at : tie.Need-overflow_mul-at
+overflow_mul-at c = omega (arith, row_in_bounds c.args.rows.now c.args.i c.requires)
 
-add_row : tie.Need-overflow-add-row
-add_row c = omega (arith, row_in_bounds c.args.rows.now c.args.i c.requires)
+overflow_add-row : tie.Need-overflow_add-row
+overflow_add-row c = omega (arith, row_in_bounds c.args.rows.now c.args.i c.requires)
 
-mul-row : tie.Need-overflow-mul-row
-mul-row c = omega (arith, row_in_bounds c.args.rows.now c.args.i c.requires)
+offset_bounds-rows-at : tie.Need-offset_bounds-rows-at
+offset_bounds-rows-at c = omega (arith, row_in_bounds c.args.rows.now c.args.i c.requires)
 
-sub_row : tie.Need-overflow-sub-row
-sub_row c = search rules
+slice_bounds-row-count : tie.Need-slice_bounds-row-count
+slice_bounds-row-count c = search rules
 
-part-row-start : tie.Need-slice-bounds-row-start
-part-row-start c = search rules
+slice_bounds-row-start : tie.Need-slice_bounds-row-start
+slice_bounds-row-start c = search rules
 
-part-row-end : tie.Need-slice-bounds-row-end
-part-row-end c = omega (arith, row_in_bounds c.args.rows.now c.args.i c.requires)
+slice_bounds-row-end : tie.Need-slice_bounds-row-end
+slice_bounds-row-end c = omega (arith, row_in_bounds c.args.rows.now c.args.i c.requires)
 
-shared-slice-read-t11 : tie.Need-shared-slice-read-t11
-shared-slice-read-t11 c = search rules
+bounds-row-0 : tie.Need-bounds-row-0
+bounds-row-0 c = search rules
 
-shared-slice-read-t13 : tie.Need-shared-slice-read-t13
-shared-slice-read-t13 c = search rules
+bounds-row-1 : tie.Need-bounds-row-1
+bounds-row-1 c = search rules
 
-shared-slice-read-t15 : tie.Need-shared-slice-read-t15
-shared-slice-read-t15 c = search rules
+bounds-row-2 : tie.Need-bounds-row-2
+bounds-row-2 c = search rules
 
-shared-slice-read-t17 : tie.Need-shared-slice-read-t17
-shared-slice-read-t17 c = search rules
+bounds-row-3 : tie.Need-bounds-row-3
+bounds-row-3 c = search rules
 
-shared-slice-read-t19 : tie.Need-shared-slice-read-t19
-shared-slice-read-t19 c = search rules
+bounds-row-4 : tie.Need-bounds-row-4
+bounds-row-4 c = search rules
 
-shared-slice-read-t21 : tie.Need-shared-slice-read-t21
-shared-slice-read-t21 c = search rules
+bounds-row-5 : tie.Need-bounds-row-5
+bounds-row-5 c = search rules
 
-shared-slice-read-t23 : tie.Need-shared-slice-read-t23
-shared-slice-read-t23 c = search rules
+bounds-row-6 : tie.Need-bounds-row-6
+bounds-row-6 c = search rules
 
-shared-slice-read-t25 : tie.Need-shared-slice-read-t25
-shared-slice-read-t25 c = search rules
+bounds-row-7 : tie.Need-bounds-row-7
+bounds-row-7 c = search rules
 
-shared-slice-read-t27 : tie.Need-shared-slice-read-t27
-shared-slice-read-t27 c = search rules
+bounds-row-8 : tie.Need-bounds-row-8
+bounds-row-8 c = search rules
 
-shared-slice-read-t29 : tie.Need-shared-slice-read-t29
-shared-slice-read-t29 c = search rules
+bounds-row-9 : tie.Need-bounds-row-9
+bounds-row-9 c = search rules
 
-shared-slice-read-t31 : tie.Need-shared-slice-read-t31
-shared-slice-read-t31 c = search rules
+bounds-row-10 : tie.Need-bounds-row-10
+bounds-row-10 c = search rules
 
-shared-slice-read-t33 : tie.Need-shared-slice-read-t33
-shared-slice-read-t33 c = search rules
+bounds-row-11 : tie.Need-bounds-row-11
+bounds-row-11 c = search rules
 
 returns : tie.Need-returns
 unfolding row_at
 returns c =
-    let a = c.before.before.before.before.before.before.before.before.before.before.before.before.before.args in
+    let a = c.args in
     let n = number_at a.rows.now (a.i * row_width) in
     simp (n 0 tt, n 1 tt, n 2 tt, n 3 tt, n 4 tt, n 5 tt, n 6 tt, n 7 tt, n 8 tt, n 9 tt, n 10 tt, n 11 tt)
 
-pub row-at-spec : {M : Type 1} → statement M
-row-at-spec =
+pub row_at_spec : {M : Type 1} → statement M
+row_at_spec =
     tie.close
     (tie.spec
-    mul_at
-    add_row
-    mul-row
-    sub_row
-    part-row-start
-    part-row-end
-    shared-slice-read-t11
-    shared-slice-read-t13
-    shared-slice-read-t15
-    shared-slice-read-t17
-    shared-slice-read-t19
-    shared-slice-read-t21
-    shared-slice-read-t23
-    shared-slice-read-t25
-    shared-slice-read-t27
-    shared-slice-read-t29
-    shared-slice-read-t31
-    shared-slice-read-t33
+    overflow_mul-at
+    overflow_add-row
+    offset_bounds-rows-at
+    slice_bounds-row-count
+    slice_bounds-row-start
+    slice_bounds-row-end
+    bounds-row-0
+    bounds-row-1
+    bounds-row-2
+    bounds-row-3
+    bounds-row-4
+    bounds-row-5
+    bounds-row-6
+    bounds-row-7
+    bounds-row-8
+    bounds-row-9
+    bounds-row-10
+    bounds-row-11
     returns)

@@ -12,66 +12,66 @@ use Rattle.table.proofs.TableLaws.{sets_next}
 use Rattle.table.proofs.store_row.Statement.{statement}
 use Rattle.table.proofs.store_row.Tie as tie
 
-abbrev invariant-loop : tie.invariant-loop
-invariant-loop table₀ at row i₀ table i =
+abbrev invariant-loop-i : tie.invariant-loop-i
+invariant-loop-i table₀ at row i₀ table i =
     (i ≤ row_width) × (length table ≡ length table₀) × (sets table (at + i) (drop i row) ≡ sets table₀ at row)
 
-abbrev decreases-loop : tie.decreases-loop
-decreases-loop table₀ at row i₀ table i = row_width - i
+abbrev decreases-loop-i : tie.decreases-loop-i
+decreases-loop-i table₀ at row i₀ table i = row_width - i
 
-loop-holds : tie.Need-loop-init invariant-loop decreases-loop
-loop-holds c = (omega arith, refl, simp add-zero)
+loop-i-init : tie.Need-loop-i-init invariant-loop-i decreases-loop-i
+loop-i-init c = (omega arith, refl, simp add-zero)
 
-mul-table : tie.Need-overflow-mul-table invariant-loop decreases-loop
-mul-table c = search rules
+offset_bounds-row-i : tie.Need-offset_bounds-row-i invariant-loop-i decreases-loop-i
+offset_bounds-row-i c = search rules
 
-array-read-table : tie.Need-array-read-table invariant-loop decreases-loop
-array-read-table c = search rules
+bounds-row-i : tie.Need-bounds-row-i invariant-loop-i decreases-loop-i
+bounds-row-i c = search rules
 
-add-table : tie.Need-overflow-add-table invariant-loop decreases-loop
-add-table c = search rules
+overflow_add-table : tie.Need-overflow_add-table invariant-loop-i decreases-loop-i
+overflow_add-table c = search rules
 
-mul-table-2 : tie.Need-overflow-mul-table-2 invariant-loop decreases-loop
-mul-table-2 c = search rules
+offset_bounds-table-at : tie.Need-offset_bounds-table-at invariant-loop-i decreases-loop-i
+offset_bounds-table-at c = search rules
 
-slice-write-table : tie.Need-slice-write-table invariant-loop decreases-loop
-slice-write-table c = search rules
+bounds-table-at : tie.Need-bounds-table-at invariant-loop-i decreases-loop-i
+bounds-table-at c = search rules
 
-add-i : tie.Need-overflow-add-i invariant-loop decreases-loop
-add-i c = search rules
+overflow_add-i : tie.Need-overflow_add-i invariant-loop-i decreases-loop-i
+overflow_add-i c = search rules
 
-loop-less : tie.Need-loop-smaller invariant-loop decreases-loop
-loop-less c = search rules
+loop-i-smaller : tie.Need-loop-i-smaller invariant-loop-i decreases-loop-i
+loop-i-smaller c = search rules
 
-loop-again : tie.Need-loop-preserved invariant-loop decreases-loop
-loop-again c =
+loop-i-preserved : tie.Need-loop-i-preserved invariant-loop-i decreases-loop-i
+loop-i-preserved c =
     let l = c.before in
-    let a = l.before.args in
-    (omega arith, simp length-set l.loop.invariant.1, sym (sets_next l.loop.table a.t3 a.at l.loop.i (omega arith)) ∙ l.loop.invariant.2)
+    let a = l.args in
+    (omega arith, simp length-set l.loop-i.invariant.1, sym (sets_next l.loop-i.table a.row a.at l.loop-i.i (omega arith)) ∙ l.loop-i.invariant.2)
 
-same_length : tie.Need-same-length invariant-loop decreases-loop
-same_length c = search rules
+shape_of-table : tie.Need-shape_of-table invariant-loop-i decreases-loop-i
+shape_of-table c = search rules
 
-returns : tie.Need-returns invariant-loop decreases-loop
+returns : tie.Need-returns invariant-loop-i decreases-loop-i
 returns c =
     let l = c.before in
-    let h : length l.before.args.t3 ≤ l.loop.i = omega arith in
-    rw (drop_of_length-le l.before.args.t3 h) at l.loop.invariant.2
+    let h : length l.args.row ≤ l.loop-i.i = omega arith in
+    rw (drop_of_length-le l.args.row h) at l.loop-i.invariant.2
 
-pub store-row-spec : {M : Type 1} → statement M
-store-row-spec =
+pub store_row_spec : {M : Type 1} → statement M
+store_row_spec =
     tie.close
     (tie.spec
-    invariant-loop
-    decreases-loop
-    loop-holds
-    mul-table
-    array-read-table
-    add-table
-    mul-table-2
-    slice-write-table
-    add-i
-    loop-less
-    loop-again
-    same_length
+    invariant-loop-i
+    decreases-loop-i
+    loop-i-init
+    offset_bounds-row-i
+    bounds-row-i
+    overflow_add-table
+    offset_bounds-table-at
+    bounds-table-at
+    overflow_add-i
+    loop-i-smaller
+    loop-i-preserved
+    shape_of-table
     returns)

@@ -6,20 +6,20 @@ use Rattle.encode.proofs.OverlapLaws.{writes_overlap}
 use Rattle.encode.proofs.slices.encode_block16.Statement.{statement}
 use Rattle.encode.proofs.slices.encode_block16.Tie as tie
 
-encode-block8-requires : tie.Need-encode-block8-requires
-encode-block8-requires c κs = search rules
+encode_block8-requires : tie.Need-encode_block8-requires
+encode_block8-requires c κs = search rules
 
-add-encode-block8 : tie.Need-overflow-add-encode-block8
-add-encode-block8 c = search rules
+overflow_add-at : tie.Need-overflow_add-at
+overflow_add-at c = search rules
 
-add-encode-block8-2 : tie.Need-overflow-add-encode-block8-2
-add-encode-block8-2 c = search rules
+overflow_add-place : tie.Need-overflow_add-place
+overflow_add-place c = search rules
 
-encode-block8-requires-2 : tie.Need-encode-block8-requires-2
-encode-block8-requires-2 c κs = search rules
+encode_block8-requires-2 : tie.Need-encode_block8-requires-2
+encode_block8-requires-2 c κs = search rules
 
-same_length : tie.Need-same-length
-same_length c = search rules
+shape_of-out : tie.Need-shape_of-out
+shape_of-out c = search rules
 
 returns : tie.Need-returns
 returns c =
@@ -27,15 +27,15 @@ returns c =
     let q = p.before.before.before.before in
     let s = q.before.before.before.before in
     let a = s.args in
-    writes_overlap a.bytes.now a.place a.at 8 8 8 16 (omega arith) (omega arith) refl s.requires.0 q.encode-block8.ensures p.encode-block82.ensures
+    writes_overlap a.bytes.now a.place a.at 8 8 8 16 (omega arith) (omega arith) refl s.requires.0 q.encode_block8.ensures p.encode_block8-2.ensures
 
-pub encode-block16-spec : {M : Type 1} → statement M
-encode-block16-spec =
+pub encode_block16_spec : {M : Type 1} → statement M
+encode_block16_spec =
     tie.close
     (tie.spec
-    encode-block8-requires
-    add-encode-block8
-    add-encode-block8-2
-    encode-block8-requires-2
-    same_length
+    encode_block8-requires
+    overflow_add-at
+    overflow_add-place
+    encode_block8-requires-2
+    shape_of-out
     returns)

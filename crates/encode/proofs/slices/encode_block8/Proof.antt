@@ -6,105 +6,105 @@ use Rattle.encode.proofs.OverlapLaws.{writes_one, writes_one_more}
 use Rattle.encode.proofs.slices.encode_block8.Statement.{statement}
 use Rattle.encode.proofs.slices.encode_block8.Tie as tie
 
-shared-slice-read-b0 : tie.Need-shared-slice-read-b0
-shared-slice-read-b0 c = search rules
+bounds-bytes-place : tie.Need-bounds-bytes-place
+bounds-bytes-place c = search rules
 
-add-b1 : tie.Need-overflow-add-b1
-add-b1 c = search rules
+overflow_add-b1 : tie.Need-overflow_add-b1
+overflow_add-b1 c = search rules
 
-shared-slice-read-b1 : tie.Need-shared-slice-read-b1
-shared-slice-read-b1 c = search rules
+bounds-bytes-place-2 : tie.Need-bounds-bytes-place-2
+bounds-bytes-place-2 c = search rules
 
-add-b2 : tie.Need-overflow-add-b2
-add-b2 c = search rules
+overflow_add-b2 : tie.Need-overflow_add-b2
+overflow_add-b2 c = search rules
 
-shared-slice-read-b2 : tie.Need-shared-slice-read-b2
-shared-slice-read-b2 c = search rules
+bounds-bytes-place-3 : tie.Need-bounds-bytes-place-3
+bounds-bytes-place-3 c = search rules
 
-add-b3 : tie.Need-overflow-add-b3
-add-b3 c = search rules
+overflow_add-b3 : tie.Need-overflow_add-b3
+overflow_add-b3 c = search rules
 
-shared-slice-read-b3 : tie.Need-shared-slice-read-b3
-shared-slice-read-b3 c = search rules
+bounds-bytes-place-4 : tie.Need-bounds-bytes-place-4
+bounds-bytes-place-4 c = search rules
 
-add-b4 : tie.Need-overflow-add-b4
-add-b4 c = search rules
+overflow_add-b4 : tie.Need-overflow_add-b4
+overflow_add-b4 c = search rules
 
-shared-slice-read-b4 : tie.Need-shared-slice-read-b4
-shared-slice-read-b4 c = search rules
+bounds-bytes-place-5 : tie.Need-bounds-bytes-place-5
+bounds-bytes-place-5 c = search rules
 
-add-b5 : tie.Need-overflow-add-b5
-add-b5 c = search rules
+overflow_add-b5 : tie.Need-overflow_add-b5
+overflow_add-b5 c = search rules
 
-shared-slice-read-b5 : tie.Need-shared-slice-read-b5
-shared-slice-read-b5 c = search rules
+bounds-bytes-place-6 : tie.Need-bounds-bytes-place-6
+bounds-bytes-place-6 c = search rules
 
-add-b6 : tie.Need-overflow-add-b6
-add-b6 c = search rules
+overflow_add-b6 : tie.Need-overflow_add-b6
+overflow_add-b6 c = search rules
 
-shared-slice-read-b6 : tie.Need-shared-slice-read-b6
-shared-slice-read-b6 c = search rules
+bounds-bytes-place-7 : tie.Need-bounds-bytes-place-7
+bounds-bytes-place-7 c = search rules
 
-add-b7 : tie.Need-overflow-add-b7
-add-b7 c = search rules
+overflow_add-b7 : tie.Need-overflow_add-b7
+overflow_add-b7 c = search rules
 
-shared-slice-read-b7 : tie.Need-shared-slice-read-b7
-shared-slice-read-b7 c = search rules
+bounds-bytes-place-8 : tie.Need-bounds-bytes-place-8
+bounds-bytes-place-8 c = search rules
 
-slice-write-out : tie.Need-slice-write-out
-slice-write-out c = search rules
+bounds-out-at : tie.Need-bounds-out-at
+bounds-out-at c = search rules
 
-add-out : tie.Need-overflow-add-out
-add-out c = search rules
+overflow_add-out : tie.Need-overflow_add-out
+overflow_add-out c = search rules
 
-slice-write-out-2 : tie.Need-slice-write-out-2
-slice-write-out-2 c = simp length-set (omega arith)
+bounds-out-at-2 : tie.Need-bounds-out-at-2
+bounds-out-at-2 c = simp length-set (omega arith)
 
-add-out-2 : tie.Need-overflow-add-out-2
-add-out-2 c = search rules
+overflow_add-out-2 : tie.Need-overflow_add-out-2
+overflow_add-out-2 c = search rules
 
-slice-write-out-3 : tie.Need-slice-write-out-3
-slice-write-out-3 c = simp length-set (omega arith)
+bounds-out-at-3 : tie.Need-bounds-out-at-3
+bounds-out-at-3 c = simp length-set (omega arith)
 
-add-out-3 : tie.Need-overflow-add-out-3
-add-out-3 c = search rules
+overflow_add-out-3 : tie.Need-overflow_add-out-3
+overflow_add-out-3 c = search rules
 
-slice-write-out-4 : tie.Need-slice-write-out-4
-slice-write-out-4 c = simp length-set (omega arith)
+bounds-out-at-4 : tie.Need-bounds-out-at-4
+bounds-out-at-4 c = simp length-set (omega arith)
 
-add-out-4 : tie.Need-overflow-add-out-4
-add-out-4 c = search rules
+overflow_add-out-4 : tie.Need-overflow_add-out-4
+overflow_add-out-4 c = search rules
 
-slice-write-out-5 : tie.Need-slice-write-out-5
-slice-write-out-5 c = simp length-set (omega arith)
+bounds-out-at-5 : tie.Need-bounds-out-at-5
+bounds-out-at-5 c = simp length-set (omega arith)
 
-add-out-5 : tie.Need-overflow-add-out-5
-add-out-5 c = search rules
+overflow_add-out-5 : tie.Need-overflow_add-out-5
+overflow_add-out-5 c = search rules
 
-slice-write-out-6 : tie.Need-slice-write-out-6
-slice-write-out-6 c = simp length-set (omega arith)
+bounds-out-at-6 : tie.Need-bounds-out-at-6
+bounds-out-at-6 c = simp length-set (omega arith)
 
-add-out-6 : tie.Need-overflow-add-out-6
-add-out-6 c = search rules
+overflow_add-out-6 : tie.Need-overflow_add-out-6
+overflow_add-out-6 c = search rules
 
-slice-write-out-7 : tie.Need-slice-write-out-7
-slice-write-out-7 c = simp length-set (omega arith)
+bounds-out-at-7 : tie.Need-bounds-out-at-7
+bounds-out-at-7 c = simp length-set (omega arith)
 
-add-out-7 : tie.Need-overflow-add-out-7
-add-out-7 c = search rules
+overflow_add-out-7 : tie.Need-overflow_add-out-7
+overflow_add-out-7 c = search rules
 
-slice-write-out-8 : tie.Need-slice-write-out-8
-slice-write-out-8 c = simp length-set (omega arith)
+bounds-out-at-8 : tie.Need-bounds-out-at-8
+bounds-out-at-8 c = simp length-set (omega arith)
 
-add-result : tie.Need-overflow-add-result
-add-result c = search rules
+overflow_add-result : tie.Need-overflow_add-result
+overflow_add-result c = search rules
 
-same_length : tie.Need-same-length
-same_length c = simp length-set
+shape_of-out : tie.Need-shape_of-out
+shape_of-out c = simp length-set
 
 returns : tie.Need-returns
 returns c =
-    let a = c.before.before.before.before.before.before.before.before.args in
+    let a = c.args in
     let one = writes_one a.bytes.now a.place a.at a.out.now (omega arith) in
     let two = writes_one_more a.bytes.now a.place a.at 1 (omega arith) one in
     let three = writes_one_more a.bytes.now a.place a.at 2 (omega arith) two in
@@ -115,40 +115,40 @@ returns c =
     let eight = writes_one_more a.bytes.now a.place a.at 7 (omega arith) seven in
     record { out = eight.out; place = omega (arith, eight.place) }
 
-pub encode-block8-spec : {M : Type 1} → statement M
-encode-block8-spec =
+pub encode_block8_spec : {M : Type 1} → statement M
+encode_block8_spec =
     tie.close
     (tie.spec
-    shared-slice-read-b0
-    add-b1
-    shared-slice-read-b1
-    add-b2
-    shared-slice-read-b2
-    add-b3
-    shared-slice-read-b3
-    add-b4
-    shared-slice-read-b4
-    add-b5
-    shared-slice-read-b5
-    add-b6
-    shared-slice-read-b6
-    add-b7
-    shared-slice-read-b7
-    slice-write-out
-    add-out
-    slice-write-out-2
-    add-out-2
-    slice-write-out-3
-    add-out-3
-    slice-write-out-4
-    add-out-4
-    slice-write-out-5
-    add-out-5
-    slice-write-out-6
-    add-out-6
-    slice-write-out-7
-    add-out-7
-    slice-write-out-8
-    add-result
-    same_length
+    bounds-bytes-place
+    overflow_add-b1
+    bounds-bytes-place-2
+    overflow_add-b2
+    bounds-bytes-place-3
+    overflow_add-b3
+    bounds-bytes-place-4
+    overflow_add-b4
+    bounds-bytes-place-5
+    overflow_add-b5
+    bounds-bytes-place-6
+    overflow_add-b6
+    bounds-bytes-place-7
+    overflow_add-b7
+    bounds-bytes-place-8
+    bounds-out-at
+    overflow_add-out
+    bounds-out-at-2
+    overflow_add-out-2
+    bounds-out-at-3
+    overflow_add-out-3
+    bounds-out-at-4
+    overflow_add-out-4
+    bounds-out-at-5
+    overflow_add-out-5
+    bounds-out-at-6
+    overflow_add-out-6
+    bounds-out-at-7
+    overflow_add-out-7
+    bounds-out-at-8
+    overflow_add-result
+    shape_of-out
     returns)

@@ -6,23 +6,23 @@ use Rattle.encode.proofs.OverlapLaws.{writes_overlap}
 use Rattle.encode.proofs.slices.encode_ends8.Statement.{statement}
 use Rattle.encode.proofs.slices.encode_ends8.Tie as tie
 
-sub-last : tie.Need-overflow-sub-last
-sub-last c = search rules
+overflow_sub-last : tie.Need-overflow_sub-last
+overflow_sub-last c = search rules
 
-encode-block8-requires : tie.Need-encode-block8-requires
-encode-block8-requires c κs = search rules
+encode_block8-requires : tie.Need-encode_block8-requires
+encode_block8-requires c κs = search rules
 
-add-encode-block8 : tie.Need-overflow-add-encode-block8
-add-encode-block8 c = search rules
+overflow_add-at : tie.Need-overflow_add-at
+overflow_add-at c = search rules
 
-add-encode-block8-2 : tie.Need-overflow-add-encode-block8-2
-add-encode-block8-2 c = search rules
+overflow_add-place : tie.Need-overflow_add-place
+overflow_add-place c = search rules
 
-encode-block8-requires-2 : tie.Need-encode-block8-requires-2
-encode-block8-requires-2 c κs = search rules
+encode_block8-requires-2 : tie.Need-encode_block8-requires-2
+encode_block8-requires-2 c κs = search rules
 
-same_length : tie.Need-same-length
-same_length c = search rules
+shape_of-out : tie.Need-shape_of-out
+shape_of-out c = search rules
 
 returns : tie.Need-returns
 returns c =
@@ -30,16 +30,16 @@ returns c =
     let q = p.before.before.before.before in
     let s = q.before.before.before.before in
     let a = s.args in
-    writes_overlap a.bytes.now a.place a.at (a.n - 8) 8 8 a.n (omega arith) (omega arith) (omega arith) (omega arith) q.encode-block8.ensures p.encode-block82.ensures
+    writes_overlap a.bytes.now a.place a.at (a.n - 8) 8 8 a.n (omega arith) (omega arith) (omega arith) (omega arith) q.encode_block8.ensures p.encode_block8-2.ensures
 
-pub encode-ends8-spec : {M : Type 1} → statement M
-encode-ends8-spec =
+pub encode_ends8_spec : {M : Type 1} → statement M
+encode_ends8_spec =
     tie.close
     (tie.spec
-    sub-last
-    encode-block8-requires
-    add-encode-block8
-    add-encode-block8-2
-    encode-block8-requires-2
-    same_length
+    overflow_sub-last
+    encode_block8-requires
+    overflow_add-at
+    overflow_add-place
+    encode_block8-requires-2
+    shape_of-out
     returns)

@@ -4,17 +4,17 @@ use Rattle.phd.specs.Phd.{hash_bytes}
 use Rattle.phd.proofs.forms.hash_bytes_of.Statement.{statement}
 use Rattle.phd.proofs.forms.hash_bytes_of.Tie as tie
 
+returns-then-kind-eq2 : tie.Need-returns-then-kind-eq2
+unfolding hash_bytes
+returns-then-kind-eq2 c = rw (eq-eqb _ _ c.if-kind-eq2.true)
+
+returns-then-kind-eq3 : tie.Need-returns-then-kind-eq3
+unfolding hash_bytes
+returns-then-kind-eq3 c = rw (ne_eqb _ _ c.if-kind-eq2.false, eq-eqb _ _ c.if-kind-eq3.true)
+
 returns : tie.Need-returns
 unfolding hash_bytes
-returns c = rw (eq-eqb _ _ c.if1.true)
+returns c = rw (ne_eqb _ _ c.if-kind-eq2.false, ne_eqb _ _ c.if-kind-eq3.false)
 
-returns-2 : tie.Need-returns-2
-unfolding hash_bytes
-returns-2 c = rw (ne_eqb _ _ c.before.if1.false, eq-eqb _ _ c.if2.true)
-
-returns-3 : tie.Need-returns-3
-unfolding hash_bytes
-returns-3 c = rw (ne_eqb _ _ c.before.if1.false, ne_eqb _ _ c.if2.false)
-
-pub hash-bytes-of-spec : {M : Type 1} → statement M
-hash-bytes-of-spec = tie.close (tie.spec returns returns-2 returns-3)
+pub hash_bytes_of_spec : {M : Type 1} → statement M
+hash_bytes_of_spec = tie.close (tie.spec returns-then-kind-eq2 returns-then-kind-eq3 returns)

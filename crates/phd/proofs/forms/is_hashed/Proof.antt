@@ -5,16 +5,16 @@ use Rattle.phd.specs.Phd.{hashed_bit}
 use Rattle.phd.proofs.forms.is_hashed.Statement.{statement}
 use Rattle.phd.proofs.forms.is_hashed.Tie as tie
 
-returns : tie.Need-returns
+returns-then-tag-eq6 : tie.Need-returns-then-tag-eq6
 unfolding hashed_bit
-returns c = rw (eq-eqb _ _ c.if1.true)
+returns-then-tag-eq6 c = rw (eq-eqb _ _ c.if-tag-eq6.true)
 
 bit-requires : tie.Need-bit-requires
 bit-requires c κs = search rules
 
-returns-2 : tie.Need-returns-2
+returns : tie.Need-returns
 unfolding hashed_bit
-returns-2 c = rw (ne_eqb _ _ c.before.if1.false) c.bit.ensures
+returns c = rw (ne_eqb _ _ c.if-tag-eq6.false) c.bit.ensures
 
-pub is-hashed-spec : {M : Type 1} → statement M
-is-hashed-spec = tie.close (tie.spec returns bit-requires returns-2)
+pub is_hashed_spec : {M : Type 1} → statement M
+is_hashed_spec = tie.close (tie.spec returns-then-tag-eq6 bit-requires returns)

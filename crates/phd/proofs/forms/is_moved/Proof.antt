@@ -8,16 +8,16 @@ use Rattle.phd.proofs.forms.is_moved.Tie as tie
 bit-requires : tie.Need-bit-requires
 bit-requires c κs = search rules
 
-returns : tie.Need-returns
+returns-then-tag-eq6 : tie.Need-returns-then-tag-eq6
 unfolding moved_bit
-returns c = rw (eq-eqb _ _ c.before.if1.true) c.bit.ensures
+returns-then-tag-eq6 c = rw (eq-eqb _ _ c.if-tag-eq6.true) c.bit.ensures
 
 bit-requires-2 : tie.Need-bit-requires-2
 bit-requires-2 c κs = search rules
 
-returns-2 : tie.Need-returns-2
+returns : tie.Need-returns
 unfolding moved_bit
-returns-2 c = rw (ne_eqb _ _ c.before.if1.false) c.bit2.ensures
+returns c = rw (ne_eqb _ _ c.if-tag-eq6.false) c.bit-2.ensures
 
-pub is-moved-spec : {M : Type 1} → statement M
-is-moved-spec = tie.close (tie.spec bit-requires returns bit-requires-2 returns-2)
+pub is_moved_spec : {M : Type 1} → statement M
+is_moved_spec = tie.close (tie.spec bit-requires returns-then-tag-eq6 bit-requires-2 returns)

@@ -7,11 +7,11 @@ use Rattle.phd.proofs.forms.long_width.Tie as tie
 bit-requires : tie.Need-bit-requires
 bit-requires c κs = search rules
 
+returns-then-bit : tie.Need-returns-then-bit
+returns-then-bit c = rw (sym c.bit.ensures ∙ c.if-bit.true)
+
 returns : tie.Need-returns
-returns c = rw (sym c.before.bit.ensures ∙ c.if1.true)
+returns c = rw (sym c.bit.ensures ∙ c.if-bit.false)
 
-returns-2 : tie.Need-returns-2
-returns-2 c = rw (sym c.before.bit.ensures ∙ c.if1.false)
-
-pub long-width-spec : {M : Type 1} → statement M
-long-width-spec = tie.close (tie.spec bit-requires returns returns-2)
+pub long_width_spec : {M : Type 1} → statement M
+long_width_spec = tie.close (tie.spec bit-requires returns-then-bit returns)

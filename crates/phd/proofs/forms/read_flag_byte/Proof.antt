@@ -13,76 +13,76 @@ use Rattle.phd.proofs.forms.read_flag_byte.Statement.{statement}
 use Rattle.phd.proofs.forms.read_flag_byte.Tie as tie
 
 -- After the flag byte is read, only the check of its hash bits is left.
-module _ (c : tie.After-f) where
-  got : let a = c.before.before.before.before.before.args in
-      run (field 1) a.s.now a.at ≡ whole c.f.given.0.0 c.f.given.0.1.0
-  got = sym c.before.before.field.ensures.0 ∙ ap outcome c.f.given.1
+module _ (c : tie.In-Is) where
+  got : let a = c.args in
+      run (field 1) a.s.now a.at ≡ whole c.in-Is.f c.in-Is.next
+  got = sym c.field.ensures.0 ∙ ap outcome c.in-Is.is
 
-  tested : (b : Bool) → let a = c.before.before.before.before.before.args in let f = c.f.given.0.0 in
+  tested : (b : Bool) → let a = c.args in let f = c.in-Is.f in
       not (a.header.hashed && (moved_bit a.tag f || hashed_bit a.tag f)) ≡ b
-      → run (flag_byte a.header a.tag) a.s.now a.at ≡ cond b (whole f c.f.given.0.1.0) (stops (Refused 11))
+      → run (flag_byte a.header a.tag) a.s.now a.at ≡ cond b (whole f c.in-Is.next) (stops (Refused 11))
   unfolding flag_byte
-  tested true e = rw (lt-ltb _ _ c.before.before.before.if1.false, run_then, got, run_then, run_check, e, run_yield)
-  tested false e = rw (lt-ltb _ _ c.before.before.before.if1.false, run_then, got, run_then, run_check, e)
+  tested true e = rw (lt-ltb _ _ c.if-tag-ge32.false, run_then, got, run_then, run_check, e, run_yield)
+  tested false e = rw (lt-ltb _ _ c.if-tag-ge32.false, run_then, got, run_then, run_check, e)
 
-returns : tie.Need-returns
-returns c =
-    let a = c.before.before.args in
-    sym (no_flag_byte a.header a.tag a.s.now a.at c.if1.true (omega arith))
+returns-then-tag-ge32 : tie.Need-returns-then-tag-ge32
+returns-then-tag-ge32 c =
+    let a = c.args in
+    sym (no_flag_byte a.header a.tag a.s.now a.at c.if-tag-ge32.true (omega arith))
 
 field-requires : tie.Need-field-requires
 field-requires c κs = search rules
 
-enum-known-f : tie.Need-enum-known-f
-enum-known-f c = search rules
+enum_known-f : tie.Need-enum_known-f
+enum_known-f c = search rules
 
-is-moved-requires : tie.Need-is-moved-requires
-is-moved-requires c κs = search rules
+is_moved-requires : tie.Need-is_moved-requires
+is_moved-requires c κs = search rules
 
-returns-2 : tie.Need-returns-2
-returns-2 c =
-    let w = c.before.before.before.before in
-    sym (tested w false (rw (c.before.before.if2.true, sym c.before.is-moved.ensures ∙ c.if3.true)))
+returns-then-is_moved : tie.Need-returns-then-is_moved
+returns-then-is_moved c =
+    let w = c.before.before.before in
+    sym (tested w false (rw (c.if-header.true, sym c.is_moved.ensures ∙ c.if-is_moved.true)))
 
-is-hashed-requires : tie.Need-is-hashed-requires
-is-hashed-requires c κs = search rules
+is_hashed-requires : tie.Need-is_hashed-requires
+is_hashed-requires c κs = search rules
 
-returns-3 : tie.Need-returns-3
-returns-3 c =
+returns-then-is_hashed : tie.Need-returns-then-is_hashed
+returns-then-is_hashed c =
     let m = c.before.before in
-    let w = m.before.before.before.before in
-    sym (tested w false (rw (m.before.before.if2.true, sym m.before.is-moved.ensures ∙ m.if3.false, sym c.before.is-hashed.ensures ∙ c.if4.true)))
+    let w = m.before.before.before in
+    sym (tested w false (rw (m.if-header.true, sym m.is_moved.ensures ∙ m.if-is_moved.false, sym c.is_hashed.ensures ∙ c.if-is_hashed.true)))
 
-enum-known-w : tie.Need-enum-known-w
-enum-known-w c = search rules
+enum_known-w : tie.Need-enum_known-w
+enum_known-w c = search rules
 
-returns-4 : tie.Need-returns-4
-returns-4 c =
+returns-else-is_hashed : tie.Need-returns-else-is_hashed
+returns-else-is_hashed c =
     let m = c.before.before in
-    let w = m.before.before.before.before in
-    sym (tested w true (rw (m.before.before.if2.true, sym m.before.is-moved.ensures ∙ m.if3.false, sym c.before.is-hashed.ensures ∙ c.if4.false)))
+    let w = m.before.before.before in
+    sym (tested w true (rw (m.if-header.true, sym m.is_moved.ensures ∙ m.if-is_moved.false, sym c.is_hashed.ensures ∙ c.if-is_hashed.false)))
 
-returns-5 : tie.Need-returns-5
-returns-5 c = sym (tested c.before.before true (rw c.if2.false))
+returns-else-header : tie.Need-returns-else-header
+returns-else-header c = sym (tested c.before true (rw c.if-header.false))
 
-returns-6 : tie.Need-returns-6
+returns-in-Stops : tie.Need-returns-in-Stops
 unfolding flag_byte
-returns-6 c =
-    let d = c.before.before.before in
-    rw (lt-ltb _ _ d.before.if1.false, run_then, ← d.field.ensures.0, c.before.w.given.1)
+returns-in-Stops c =
+    let d = c.before in
+    rw (lt-ltb _ _ d.if-tag-ge32.false, run_then, ← d.field.ensures.0, c.in-Stops.is)
 
-pub read-flag-byte-spec : {M : Type 1} → statement M
-read-flag-byte-spec =
+pub read_flag_byte_spec : {M : Type 1} → statement M
+read_flag_byte_spec =
     tie.close
     (tie.spec
-    returns
+    returns-then-tag-ge32
     field-requires
-    enum-known-f
-    is-moved-requires
-    returns-2
-    is-hashed-requires
-    returns-3
-    enum-known-w
-    returns-4
-    returns-5
-    returns-6)
+    enum_known-f
+    is_moved-requires
+    returns-then-is_moved
+    is_hashed-requires
+    returns-then-is_hashed
+    enum_known-w
+    returns-else-is_hashed
+    returns-else-header
+    returns-in-Stops)

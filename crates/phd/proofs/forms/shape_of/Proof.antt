@@ -4,118 +4,118 @@ use Rattle.phd.specs.Phd.{shape}
 use Rattle.phd.proofs.forms.shape_of.Statement.{statement}
 use Rattle.phd.proofs.forms.shape_of.Tie as tie
 
-width-of-requires : tie.Need-width-of-requires
-width-of-requires c κs = search rules
+width_of-gap-requires : tie.Need-width_of-gap-requires
+width_of-gap-requires c κs = search rules
 
-width-of-requires-2 : tie.Need-width-of-requires-2
-width-of-requires-2 c κs = search rules
+width_of-refwidth-requires : tie.Need-width_of-refwidth-requires
+width_of-refwidth-requires c κs = search rules
 
-width-of-requires-3 : tie.Need-width-of-requires-3
-width-of-requires-3 c κs = search rules
+width_of-low-requires : tie.Need-width_of-low-requires
+width_of-low-requires c κs = search rules
 
-width-of-requires-4 : tie.Need-width-of-requires-4
-width-of-requires-4 c κs = search rules
+width_of-near-requires : tie.Need-width_of-near-requires
+width_of-near-requires c κs = search rules
 
-enum_told : tie.Need-enum-told
-enum_told c = search rules
+enum_told-1 : tie.Need-enum_told-1
+enum_told-1 c = search rules
 
-make-shape-requires : tie.Need-make-shape-requires
-make-shape-requires c κs = search rules
+make_shape-requires : tie.Need-make_shape-requires
+make_shape-requires c κs = search rules
 
-enum-told-2 : tie.Need-enum-told-2
-enum-told-2 c = search rules
+enum_told-in-Medium : tie.Need-enum_told-in-Medium
+enum_told-in-Medium c = search rules
 
-make-shape-requires-2 : tie.Need-make-shape-requires-2
-make-shape-requires-2 c κs = search rules
+make_shape-requires-in-Medium : tie.Need-make_shape-requires-in-Medium
+make_shape-requires-in-Medium c κs = search rules
 
-enum-told-3 : tie.Need-enum-told-3
-enum-told-3 c = search rules
+enum_told-in-Long : tie.Need-enum_told-in-Long
+enum_told-in-Long c = search rules
 
-make-shape-requires-3 : tie.Need-make-shape-requires-3
-make-shape-requires-3 c κs = search rules
+make_shape-requires-in-Long : tie.Need-make_shape-requires-in-Long
+make_shape-requires-in-Long c κs = search rules
 
-enum-told-4 : tie.Need-enum-told-4
-enum-told-4 c = search rules
+enum_told-in-Class : tie.Need-enum_told-in-Class
+enum_told-in-Class c = search rules
 
-make-shape-requires-4 : tie.Need-make-shape-requires-4
-make-shape-requires-4 c κs = search rules
+make_shape-requires-in-Class : tie.Need-make_shape-requires-in-Class
+make_shape-requires-in-Class c κs = search rules
 
-enum-told-5 : tie.Need-enum-told-5
-enum-told-5 c = search rules
+enum_told-in-ObjectArray : tie.Need-enum_told-in-ObjectArray
+enum_told-in-ObjectArray c = search rules
 
-make-shape-requires-5 : tie.Need-make-shape-requires-5
-make-shape-requires-5 c κs = search rules
+make_shape-requires-in-ObjectArray : tie.Need-make_shape-requires-in-ObjectArray
+make_shape-requires-in-ObjectArray c κs = search rules
 
-enum-told-6 : tie.Need-enum-told-6
-enum-told-6 c = search rules
+enum_told-in-Primitive : tie.Need-enum_told-in-Primitive
+enum_told-in-Primitive c = search rules
 
-make-shape-requires-6 : tie.Need-make-shape-requires-6
-make-shape-requires-6 c κs = search rules
+make_shape-requires-in-Primitive : tie.Need-make_shape-requires-in-Primitive
+make_shape-requires-in-Primitive c κs = search rules
 
-enum-told-7 : tie.Need-enum-told-7
-enum-told-7 c = search rules
+enum_told-in-LongPrimitive : tie.Need-enum_told-in-LongPrimitive
+enum_told-in-LongPrimitive c = search rules
 
-long-width-requires : tie.Need-long-width-requires
-long-width-requires c κs = search rules
+long_width-w-requires : tie.Need-long_width-w-requires
+long_width-w-requires c κs = search rules
 
-make-shape-requires-7 : tie.Need-make-shape-requires-7
-make-shape-requires-7 c κs = search rules
+make_shape-requires-in-LongPrimitive : tie.Need-make_shape-requires-in-LongPrimitive
+make_shape-requires-in-LongPrimitive c κs = search rules
 
-returns : tie.Need-returns
+returns-in-Short : tie.Need-returns-in-Short
 unfolding shape
-returns c = rw (c.make_shape.ensures, c.before.enum_told.given.1, c.before.before.before.width-of4.ensures, c.before.before.before.before.width-of3.ensures)
+returns-in-Short c = rw (c.make_shape.ensures, c.in-Short.is, c.width_of-near.ensures, c.width_of-low.ensures)
 
-returns-2 : tie.Need-returns-2
+returns-in-Medium : tie.Need-returns-in-Medium
 unfolding shape
-returns-2 c = rw (c.make-shape2.ensures, c.before.enum-told2.given.1, c.before.before.before.width-of4.ensures, c.before.before.before.before.width-of3.ensures)
+returns-in-Medium c = rw (c.make_shape-in-Medium.ensures, c.in-Medium.is, c.width_of-near.ensures, c.width_of-low.ensures)
 
-returns-3 : tie.Need-returns-3
+returns-in-Long : tie.Need-returns-in-Long
 unfolding shape
-returns-3 c = rw (c.make-shape3.ensures, c.before.enum-told3.given.1, c.before.before.before.before.before.before.width_of_lem.ensures, c.before.before.before.before.before.width-of2.ensures)
+returns-in-Long c = rw (c.make_shape-in-Long.ensures, c.in-Long.is, c.width_of-gap.ensures, c.width_of-refwidth.ensures)
 
-returns-4 : tie.Need-returns-4
+returns-in-Class : tie.Need-returns-in-Class
 unfolding shape
-returns-4 c = rw (c.make-shape4.ensures, c.before.enum-told4.given.1, c.before.before.before.before.before.before.width_of_lem.ensures, c.before.before.before.before.before.width-of2.ensures)
+returns-in-Class c = rw (c.make_shape-in-Class.ensures, c.in-Class.is, c.width_of-gap.ensures, c.width_of-refwidth.ensures)
 
-returns-5 : tie.Need-returns-5
+returns-in-ObjectArray : tie.Need-returns-in-ObjectArray
 unfolding shape
-returns-5 c = rw (c.make-shape5.ensures, c.before.enum-told5.given.1, c.before.before.before.before.before.before.width_of_lem.ensures, c.before.before.before.before.before.width-of2.ensures)
+returns-in-ObjectArray c = rw (c.make_shape-in-ObjectArray.ensures, c.in-ObjectArray.is, c.width_of-gap.ensures, c.width_of-refwidth.ensures)
 
-returns-6 : tie.Need-returns-6
+returns-in-Primitive : tie.Need-returns-in-Primitive
 unfolding shape
-returns-6 c = rw (c.make-shape6.ensures, c.before.enum-told6.given.1, c.before.before.before.before.width-of3.ensures)
+returns-in-Primitive c = rw (c.make_shape-in-Primitive.ensures, c.in-Primitive.is, c.width_of-low.ensures)
 
-returns-7 : tie.Need-returns-7
+returns-in-LongPrimitive : tie.Need-returns-in-LongPrimitive
 unfolding shape
-returns-7 c = rw (c.make-shape7.ensures, c.before.long-width.ensures, c.before.before.enum-told7.given.1)
+returns-in-LongPrimitive c = rw (c.make_shape-in-LongPrimitive.ensures, c.long_width-w.ensures, c.in-LongPrimitive.is)
 
-pub shape-of-spec : {M : Type 1} → statement M
-shape-of-spec =
+pub shape_of_spec : {M : Type 1} → statement M
+shape_of_spec =
     tie.close
     (tie.spec
-    width-of-requires
-    width-of-requires-2
-    width-of-requires-3
-    width-of-requires-4
-    enum_told
-    make-shape-requires
-    enum-told-2
-    make-shape-requires-2
-    enum-told-3
-    make-shape-requires-3
-    enum-told-4
-    make-shape-requires-4
-    enum-told-5
-    make-shape-requires-5
-    enum-told-6
-    make-shape-requires-6
-    enum-told-7
-    long-width-requires
-    make-shape-requires-7
-    returns
-    returns-2
-    returns-3
-    returns-4
-    returns-5
-    returns-6
-    returns-7)
+    width_of-gap-requires
+    width_of-refwidth-requires
+    width_of-low-requires
+    width_of-near-requires
+    enum_told-1
+    make_shape-requires
+    enum_told-in-Medium
+    make_shape-requires-in-Medium
+    enum_told-in-Long
+    make_shape-requires-in-Long
+    enum_told-in-Class
+    make_shape-requires-in-Class
+    enum_told-in-ObjectArray
+    make_shape-requires-in-ObjectArray
+    enum_told-in-Primitive
+    make_shape-requires-in-Primitive
+    enum_told-in-LongPrimitive
+    long_width-w-requires
+    make_shape-requires-in-LongPrimitive
+    returns-in-Short
+    returns-in-Medium
+    returns-in-Long
+    returns-in-Class
+    returns-in-ObjectArray
+    returns-in-Primitive
+    returns-in-LongPrimitive)

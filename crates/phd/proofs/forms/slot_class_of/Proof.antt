@@ -8,13 +8,13 @@ use Rattle.phd.proofs.forms.slot_class_of.Tie as tie
 slot-requires : tie.Need-slot-requires
 slot-requires c κs = search rules
 
+returns-then-tag-ge128 : tie.Need-returns-then-tag-ge128
+unfolding slot_class
+returns-then-tag-ge128 c = rw (le-leb _ _ c.if-tag-ge128.true) c.slot.ensures
+
 returns : tie.Need-returns
 unfolding slot_class
-returns c = rw (le-leb _ _ c.before.if1.true) c.slot.ensures
+returns c = rw (lt-leb _ _ c.if-tag-ge128.false)
 
-returns-2 : tie.Need-returns-2
-unfolding slot_class
-returns-2 c = rw (lt-leb _ _ c.if1.false)
-
-pub slot-class-of-spec : {M : Type 1} → statement M
-slot-class-of-spec = tie.close (tie.spec slot-requires returns returns-2)
+pub slot_class_of_spec : {M : Type 1} → statement M
+slot_class_of_spec = tie.close (tie.spec slot-requires returns-then-tag-ge128 returns)

@@ -4,39 +4,39 @@ use Rattle.phd.specs.Phd.{tag_form}
 use Rattle.phd.proofs.forms.tag_form.Statement.{statement}
 use Rattle.phd.proofs.forms.tag_form.Tie as tie
 
+returns-then-tag-ge128 : tie.Need-returns-then-tag-ge128
+unfolding tag_form
+returns-then-tag-ge128 c = rw (le-leb _ _ c.if-tag-ge128.true)
+
+returns-then-tag-ge64 : tie.Need-returns-then-tag-ge64
+unfolding tag_form
+returns-then-tag-ge64 c = rw (lt-leb _ _ c.if-tag-ge128.false, le-leb _ _ c.if-tag-ge64.true)
+
+returns-then-tag-ge32 : tie.Need-returns-then-tag-ge32
+unfolding tag_form
+returns-then-tag-ge32 c = rw (lt-leb _ _ c.if-tag-ge128.false, lt-leb _ _ c.if-tag-ge64.false, le-leb _ _ c.if-tag-ge32.true)
+
+returns-then-tag-eq4 : tie.Need-returns-then-tag-eq4
+unfolding tag_form
+returns-then-tag-eq4 c = rw (lt-leb _ _ c.if-tag-ge128.false, lt-leb _ _ c.if-tag-ge64.false, lt-leb _ _ c.if-tag-ge32.false, eq-eqb _ _ c.if-tag-eq4.true)
+
+returns-then-tag-eq6 : tie.Need-returns-then-tag-eq6
+unfolding tag_form
+returns-then-tag-eq6 c = rw (lt-leb _ _ c.if-tag-ge128.false, lt-leb _ _ c.if-tag-ge64.false, lt-leb _ _ c.if-tag-ge32.false, ne_eqb _ _ c.if-tag-eq4.false, eq-eqb _ _ c.if-tag-eq6.true)
+
+returns-then-tag-eq7 : tie.Need-returns-then-tag-eq7
+unfolding tag_form
+returns-then-tag-eq7 c = rw (lt-leb _ _ c.if-tag-ge128.false, lt-leb _ _ c.if-tag-ge64.false, lt-leb _ _ c.if-tag-ge32.false, ne_eqb _ _ c.if-tag-eq4.false, ne_eqb _ _ c.if-tag-eq6.false, eq-eqb _ _ c.if-tag-eq7.true)
+
+returns-then-tag-eq8 : tie.Need-returns-then-tag-eq8
+unfolding tag_form
+returns-then-tag-eq8 c = rw (lt-leb _ _ c.if-tag-ge128.false, lt-leb _ _ c.if-tag-ge64.false, lt-leb _ _ c.if-tag-ge32.false, ne_eqb _ _ c.if-tag-eq4.false, ne_eqb _ _ c.if-tag-eq6.false, ne_eqb _ _ c.if-tag-eq7.false, eq-eqb _ _ c.if-tag-eq8.true)
+
 returns : tie.Need-returns
 unfolding tag_form
-returns c = rw (le-leb _ _ c.if1.true)
+returns c = rw (lt-leb _ _ c.if-tag-ge128.false, lt-leb _ _ c.if-tag-ge64.false, lt-leb _ _ c.if-tag-ge32.false, ne_eqb _ _ c.if-tag-eq4.false, ne_eqb _ _ c.if-tag-eq6.false, ne_eqb _ _ c.if-tag-eq7.false, ne_eqb _ _ c.if-tag-eq8.false)
 
-returns-2 : tie.Need-returns-2
-unfolding tag_form
-returns-2 c = rw (lt-leb _ _ c.before.if1.false, le-leb _ _ c.if2.true)
-
-returns-3 : tie.Need-returns-3
-unfolding tag_form
-returns-3 c = rw (lt-leb _ _ c.before.before.if1.false, lt-leb _ _ c.before.if2.false, le-leb _ _ c.if3.true)
-
-returns-4 : tie.Need-returns-4
-unfolding tag_form
-returns-4 c = rw (lt-leb _ _ c.before.before.before.if1.false, lt-leb _ _ c.before.before.if2.false, lt-leb _ _ c.before.if3.false, eq-eqb _ _ c.if4.true)
-
-returns-5 : tie.Need-returns-5
-unfolding tag_form
-returns-5 c = rw (lt-leb _ _ c.before.before.before.before.if1.false, lt-leb _ _ c.before.before.before.if2.false, lt-leb _ _ c.before.before.if3.false, ne_eqb _ _ c.before.if4.false, eq-eqb _ _ c.if5.true)
-
-returns-6 : tie.Need-returns-6
-unfolding tag_form
-returns-6 c = rw (lt-leb _ _ c.before.before.before.before.before.if1.false, lt-leb _ _ c.before.before.before.before.if2.false, lt-leb _ _ c.before.before.before.if3.false, ne_eqb _ _ c.before.before.if4.false, ne_eqb _ _ c.before.if5.false, eq-eqb _ _ c.if6.true)
-
-returns-7 : tie.Need-returns-7
-unfolding tag_form
-returns-7 c = rw (lt-leb _ _ c.before.before.before.before.before.before.if1.false, lt-leb _ _ c.before.before.before.before.before.if2.false, lt-leb _ _ c.before.before.before.before.if3.false, ne_eqb _ _ c.before.before.before.if4.false, ne_eqb _ _ c.before.before.if5.false, ne_eqb _ _ c.before.if6.false, eq-eqb _ _ c.if7.true)
-
-returns-8 : tie.Need-returns-8
-unfolding tag_form
-returns-8 c = rw (lt-leb _ _ c.before.before.before.before.before.before.if1.false, lt-leb _ _ c.before.before.before.before.before.if2.false, lt-leb _ _ c.before.before.before.before.if3.false, ne_eqb _ _ c.before.before.before.if4.false, ne_eqb _ _ c.before.before.if5.false, ne_eqb _ _ c.before.if6.false, ne_eqb _ _ c.if7.false)
-
-pub tag-form-spec : {M : Type 1} → statement M
-tag-form-spec =
+pub tag_form_spec : {M : Type 1} → statement M
+tag_form_spec =
     tie.close
-    (tie.spec returns returns-2 returns-3 returns-4 returns-5 returns-6 returns-7 returns-8)
+    (tie.spec returns-then-tag-ge128 returns-then-tag-ge64 returns-then-tag-ge32 returns-then-tag-eq4 returns-then-tag-eq6 returns-then-tag-eq7 returns-then-tag-eq8 returns)

@@ -8,8 +8,8 @@ use lib.Pow.{pow-lt}
 use Rattle.phd.proofs.forms.width_of.Statement.{statement}
 use Rattle.phd.proofs.forms.width_of.Tie as tie
 
-shl-result : tie.Need-overflow-shl-result
-shl-result c = search rules
+overflow_shl-result : tie.Need-overflow_shl-result
+overflow_shl-result c = search rules
 
 returns : tie.Need-returns
 unfolding width
@@ -18,5 +18,5 @@ returns c =
     let h : 2 ^ k < 2 ^ 64 = pow-lt {i = k} {j = 64} (omega arith) in
     simp (one-mul, mod-eq_of_lt h)
 
-pub width-of-spec : {M : Type 1} → statement M
-width-of-spec = tie.close (tie.spec shl-result returns)
+pub width_of_spec : {M : Type 1} → statement M
+width_of_spec = tie.close (tie.spec overflow_shl-result returns)

@@ -5,12 +5,12 @@ use Rattle.phd.specs.Phd.{magic}
 use Rattle.phd.proofs.magic.magic_byte.Statement.{statement}
 use Rattle.phd.proofs.magic.magic_byte.Tie as tie
 
-array-read-result : tie.Need-array-read-result
-array-read-result c = search rules
+bounds-i : tie.Need-bounds-i
+bounds-i c = search rules
 
 returns : tie.Need-returns
 unfolding magic
 returns c = refl
 
-pub magic-byte-spec : {M : Type 1} → statement M
-magic-byte-spec = tie.close (tie.spec array-read-result returns)
+pub magic_byte_spec : {M : Type 1} → statement M
+magic_byte_spec = tie.close (tie.spec bounds-i returns)

@@ -6,11 +6,11 @@ use Rattle.phd.proofs.cache.Cache.push_if.Tie as tie
 push-requires : tie.Need-push-requires
 push-requires c κs = search rules
 
+returns-then-cached : tie.Need-returns-then-cached
+returns-then-cached c = rw c.if-cached.true c.push.ensures
+
 returns : tie.Need-returns
-returns c = rw c.before.if1.true c.push.ensures
+returns c = rw c.if-cached.false
 
-returns-2 : tie.Need-returns-2
-returns-2 c = rw c.if1.false
-
-pub push-if-spec : {M : Type 1} → statement M
-push-if-spec = tie.close (tie.spec push-requires returns returns-2)
+pub push_if_spec : {M : Type 1} → statement M
+push_if_spec = tie.close (tie.spec push-requires returns-then-cached returns)

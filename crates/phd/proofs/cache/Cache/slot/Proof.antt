@@ -6,49 +6,49 @@ use Rattle.phd.proofs.CacheSlots.{slot_chosen}
 use Rattle.phd.proofs.cache.Cache.slot.Statement.{statement}
 use Rattle.phd.proofs.cache.Cache.slot.Tie as tie
 
-array-read-choice : tie.Need-array-read-choice
-array-read-choice c = search rules
+bounds-classes-0 : tie.Need-bounds-classes-0
+bounds-classes-0 c = search rules
 
-array-read-choice-2 : tie.Need-array-read-choice-2
-array-read-choice-2 c = search rules
+bounds-classes-1 : tie.Need-bounds-classes-1
+bounds-classes-1 c = search rules
+
+choice-low-requires : tie.Need-choice-low-requires
+choice-low-requires c κs = search rules
+
+bounds-classes-2 : tie.Need-bounds-classes-2
+bounds-classes-2 c = search rules
+
+bounds-classes-3 : tie.Need-bounds-classes-3
+bounds-classes-3 c = search rules
+
+choice-high-requires : tie.Need-choice-high-requires
+choice-high-requires c κs = search rules
 
 choice-requires : tie.Need-choice-requires
 choice-requires c κs = search rules
 
-array-read-choice-3 : tie.Need-array-read-choice-3
-array-read-choice-3 c = search rules
-
-array-read-choice-4 : tie.Need-array-read-choice-4
-array-read-choice-4 c = search rules
-
-choice-requires-2 : tie.Need-choice-requires-2
-choice-requires-2 c κs = search rules
-
-choice-requires-3 : tie.Need-choice-requires-3
-choice-requires-3 c κs = search rules
-
-returns : tie.Need-returns
+returns-then-i-self : tie.Need-returns-then-i-self
 unfolding slot
-returns c =
+returns-then-i-self c =
     let d = c.before in
     let t = d.before.before.before in
     let s = t.before.before in
-    rw (c.choice3.ensures, d.choice2.ensures, d.before.choice.ensures, lt-ltb _ _ t.if1.true, slot_chosen s.args.self.classes s.args.i s.requires)
+    rw (c.choice.ensures, d.choice-high.ensures, d.choice-low.ensures, lt-ltb _ _ t.if-i-self.true, slot_chosen s.args.self.classes s.args.i s.requires)
 
-returns-2 : tie.Need-returns-2
+returns-else-i-self : tie.Need-returns-else-i-self
 unfolding slot
-returns-2 c = simp (le-ltb _ _ c.if1.false)
+returns-else-i-self c = simp (le-ltb _ _ c.if-i-self.false)
 
-pub slot-spec : {M : Type 1} → statement M
-slot-spec =
+pub slot_spec : {M : Type 1} → statement M
+slot_spec =
     tie.close
     (tie.spec
-    array-read-choice
-    array-read-choice-2
+    bounds-classes-0
+    bounds-classes-1
+    choice-low-requires
+    bounds-classes-2
+    bounds-classes-3
+    choice-high-requires
     choice-requires
-    array-read-choice-3
-    array-read-choice-4
-    choice-requires-2
-    choice-requires-3
-    returns
-    returns-2)
+    returns-then-i-self
+    returns-else-i-self)
