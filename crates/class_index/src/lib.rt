@@ -28,14 +28,14 @@ pub const LARGE: usize = 0x2_0000 + PROBES;
 
 // What the passes of a text know of the class rows, beside the buckets: whether these are certified, and the class words of primitive
 // arrays, by type.
-#[derive(Drop)]
+#[derive(Clone, Copy)]
 pub struct Classes {
     pub certified: bool,
     pub primitives: [u64; 8],
 }
 
 // The last class search of a pass over the rows: the class word that was searched for, and the result.
-#[derive(Drop)]
+#[derive(Clone, Copy)]
 pub struct LastSearch {
     pub class: u64,
     pub found: Search,

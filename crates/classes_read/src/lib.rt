@@ -5,7 +5,7 @@
 use phd_read::ReadAnswer;
 
 // The answer of a reading with class summaries: that of the reading of the tables, and how many entries are in use.
-#[derive(Drop)]
+#[derive(Clone, Copy)]
 pub struct ClassesAnswer {
     pub read: ReadAnswer,
     pub entries: usize,

@@ -16,7 +16,7 @@ use table::{Row, Search};
 mod parts;
 
 // The label of a row, for its first line: the bytes to show, and the place and length in the name bytes of the name in its type.
-#[derive(Drop)]
+#[derive(Clone, Copy)]
 pub struct TypeLabel {
     pub bytes: u64,
     pub place: usize,
@@ -24,14 +24,14 @@ pub struct TypeLabel {
 }
 
 // The label of a row, or reply 18 if its class row is missing.
-#[derive(Drop)]
+#[derive(Clone, Copy)]
 pub enum LabelResult {
     Found(TypeLabel),
     Reply(u64),
 }
 
 // The size of a row's two lines in bytes, or reply 18 if its class row is missing.
-#[derive(Drop)]
+#[derive(Clone, Copy)]
 pub enum RowSize {
     Bytes(usize),
     Reply(u64),

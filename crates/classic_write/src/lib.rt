@@ -25,7 +25,7 @@ mod version;
 const FEW_ROWS: usize = 64;
 
 // The result of sizing a text before any byte of it is written: a refusal, or the size and the counts of the rows.
-#[derive(Drop)]
+#[derive(Clone, Copy)]
 enum SizedText {
     Refused(Answer),
     Sized(usize, Tally),

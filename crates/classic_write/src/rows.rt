@@ -19,7 +19,7 @@ use table::Answer;
 
 // The size in bytes of the version line and the lines of the rows, and the counts of the rows; or the refusal of a row whose class row
 // is missing.
-#[derive(Drop)]
+#[derive(Clone, Copy)]
 pub enum LinesSize {
     Bytes(usize, Tally),
     Refused(Answer),

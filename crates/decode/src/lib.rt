@@ -19,7 +19,7 @@ pub fn choice(test: bool, x: u64, y: u64) -> u64
 
 // Why decoding stops: the dump is cut and a field lacks this many bytes, or a field is refused with this reply.
 // "Cut", "missing bytes" and "reply" are the scope paper's terms.
-#[derive(Drop)]
+#[derive(Clone, Copy)]
 pub enum Stop {
     Cut(usize),
     Refused(u64),
@@ -46,28 +46,28 @@ pub fn missing_of(w: Stop) -> usize
 }
 
 // A decoded number and the offset after it, or why decoding stops.
-#[derive(Drop)]
+#[derive(Clone, Copy)]
 pub enum NumberRead {
     Is(u64, usize),
     Stops(Stop),
 }
 
 // A number, or none.
-#[derive(Drop)]
+#[derive(Clone, Copy)]
 pub enum Maybe {
     Just(u64),
     Nothing,
 }
 
 // A signed number, split by its sign: `NonNeg(n)` is n, `NegSuc(n)` is -1 - n.
-#[derive(Drop)]
+#[derive(Clone, Copy)]
 pub enum SignCase {
     NonNeg(u64),
     NegSuc(u64),
 }
 
 // A string of the dump, if `present`: the offset of its first byte, and its length.
-#[derive(Drop)]
+#[derive(Clone, Copy)]
 pub struct StringSpan {
     pub present: bool,
     pub place: usize,
@@ -75,7 +75,7 @@ pub struct StringSpan {
 }
 
 // A decoded string and the offset after it, or why decoding stops.
-#[derive(Drop)]
+#[derive(Clone, Copy)]
 pub enum StringRead {
     Is(StringSpan, usize),
     Stops(Stop),

@@ -7,7 +7,7 @@ use decode::Maybe;
 // The class cache (the scope paper's term; docs/FORMAT.md 3.5): the class words in its four slots, and the count of pushes,
 // 0 to 7, where each of 4 to 7 represents all counts from 4 on that are equal to it modulo 4. The slots are chosen by constant indexes, so
 // that they can be kept in registers.
-#[derive(Drop)]
+#[derive(Clone, Copy)]
 pub struct Cache {
     pub classes: [u64; 4],
     pub pushes: usize,

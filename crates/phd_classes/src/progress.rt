@@ -10,7 +10,7 @@ use summary_pass::Pass;
 
 // `ended` is whether the reading of records has ended; then reply, place and missing bytes are its own. After that the class rows are
 // gone over once, and `on` is false. `len` is how many entries the list has.
-#[derive(Drop)]
+#[derive(Clone, Copy)]
 pub struct Progress {
     pub on: bool,
     pub ended: bool,

@@ -10,7 +10,7 @@ use decode::choice;
 use table::Row;
 
 // The numbers of rows of each kind, of all rows, and of their references and nulls.
-#[derive(Drop)]
+#[derive(Clone, Copy)]
 pub struct Tally {
     pub classes: u64,
     pub objects: u64,

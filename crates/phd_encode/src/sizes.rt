@@ -10,7 +10,7 @@ use phd::Cache;
 use table::Row;
 
 // The size of a record in bytes, and whether its class word is pushed into the cache.
-#[derive(Drop)]
+#[derive(Clone, Copy)]
 pub struct EncodedSize {
     pub size: usize,
     pub cached: bool,

@@ -14,15 +14,15 @@ use phd::forms::bit;
 use phd::magic::magic_byte;
 
 // The answer of `read_header`: the header and the offset after it, or why reading stops in it.
-#[derive(Drop)]
+#[derive(Clone, Copy)]
 pub enum HeaderRead {
     Is(Header, usize),
     Stops(Stop),
 }
 
 // The answer for a part of the header that has no value: the offset after it, or why reading stops in it.
-#[derive(Drop)]
-enum UnitRead {
+#[derive(Clone, Copy)]
+pub enum UnitRead {
     Is(usize),
     Stops(Stop),
 }

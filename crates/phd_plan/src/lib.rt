@@ -11,7 +11,7 @@ use phd::{Cache, Form, Shape};
 use table::Row;
 
 // Everything that determines the form, the tag and the flag byte of a record.
-#[derive(Drop)]
+#[derive(Clone, Copy)]
 pub struct PlanInput {
     pub kind: u64,
     pub hashkind: u64,
@@ -27,7 +27,7 @@ pub struct PlanInput {
 }
 
 // How a record is written: its tag, its flag byte (0 if it has none), and its shape, the widths of its fields.
-#[derive(Drop)]
+#[derive(Clone, Copy)]
 pub struct Plan {
     pub tag: u64,
     pub flags: u64,

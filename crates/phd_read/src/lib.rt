@@ -17,7 +17,7 @@ mod tables;
 
 // The answer of a reading: the reply and its place, the missing bytes of a cut dump, how many rows and references were stored,
 // and the header. Reply, place and missing bytes are the scope paper's terms (docs/FORMAT.md 8 and 5.2).
-#[derive(Drop)]
+#[derive(Clone, Copy)]
 pub struct ReadAnswer {
     pub reply: u64,
     pub place: usize,

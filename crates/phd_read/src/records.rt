@@ -17,7 +17,7 @@ use reader::StepResult;
 
 // The state of a reading between two records: the offset of the next tag, the address of the record before, the cache, and how
 // many rows and references are stored.
-#[derive(Drop)]
+#[derive(Clone, Copy)]
 pub struct Cursor {
     pub at: usize,
     pub address: u64,
@@ -27,7 +27,7 @@ pub struct Cursor {
 }
 
 // The answer of a step: its result, and the cursor after it.
-#[derive(Drop)]
+#[derive(Clone, Copy)]
 pub struct Stepped {
     pub result: StepResult,
     pub cursor: Cursor,

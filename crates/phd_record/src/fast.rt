@@ -18,7 +18,7 @@ use decode::{Maybe, NumberRead, Stop, StringSpan};
 use phd::{Cache, Form, Front, Header, Middle, Origin, Shape, Tail};
 
 // The answer of the fast path: a record if there was a hit; else `found` has no meaning.
-#[derive(Drop)]
+#[derive(Clone, Copy)]
 pub struct FastRead {
     pub hit: bool,
     pub found: RecordRead,

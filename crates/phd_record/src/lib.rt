@@ -18,7 +18,7 @@ mod parts;
 mod refs;
 
 // What is at a tag: the end or a record, each with the offset after it, or why reading stops there.
-#[derive(Drop)]
+#[derive(Clone, Copy)]
 pub enum Next {
     Over(usize),
     Record(usize),
@@ -27,7 +27,7 @@ pub enum Next {
 
 // The answer of `read_record`: what is at the tag and, for a record, its row, the span of its references, its address and the
 // cache after it.
-#[derive(Drop)]
+#[derive(Clone, Copy)]
 pub struct RecordRead {
     pub next: Next,
     pub row: [u64; table::ROW_WIDTH],

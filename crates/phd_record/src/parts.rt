@@ -10,19 +10,19 @@ use decode::{NumberRead, Stop, StringRead, StringSpan};
 use phd::{Front, Middle, Origin, Shape, Tail};
 
 // The answers for the three parts: the part and the offset after it, or why reading stops in it.
-#[derive(Drop)]
+#[derive(Clone, Copy)]
 pub enum FrontRead {
     Is(Front, usize),
     Stops(Stop),
 }
 
-#[derive(Drop)]
+#[derive(Clone, Copy)]
 pub enum MiddleRead {
     Is(Middle, usize),
     Stops(Stop),
 }
 
-#[derive(Drop)]
+#[derive(Clone, Copy)]
 pub enum TailRead {
     Is(Tail, usize),
     Stops(Stop),

@@ -7,7 +7,7 @@ ghost use Rattle.phd_record.specs.RecordOutcomes.{refs_read_of};
 use decode::{NumberRead, Stop};
 
 // The answer of `check_refs`: the offset after the references, or why reading stops in them.
-#[derive(Drop)]
+#[derive(Clone, Copy)]
 pub enum RefsRead {
     Is(usize),
     Stops(Stop),

@@ -29,7 +29,7 @@ const REFS: usize = 70;
 const UNTOUCHED: u64 = 0x5EED_5EED_5EED_5EED;
 
 // The answer of a reading, and whether the tables after what it stored are unchanged.
-#[derive(Drop)]
+#[derive(Clone, Copy)]
 struct CheckedRead {
     answer: ReadAnswer,
     unchanged: bool,

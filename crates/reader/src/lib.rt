@@ -6,7 +6,7 @@ pub const LIMIT: usize = 0x4000_0000;
 
 // The result of one step of a reading. `Continue`: a record was stored. `End`: the reading ended with this reply, place and
 // number of missing bytes, which is 0 unless the dump is cut.
-#[derive(Drop)]
+#[derive(Clone, Copy)]
 pub enum StepResult {
     Continue,
     End(u64, usize, usize),

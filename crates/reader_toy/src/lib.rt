@@ -23,7 +23,7 @@ pub const LETTER: u64 = 0x54;
 
 // The answer of a reading: reply and place, the missing bytes, how many rows and references were stored, and the header's letter,
 // or 0 if the header was not read.
-#[derive(Drop)]
+#[derive(Clone, Copy)]
 pub struct ReadAnswer {
     pub reply: u64,
     pub place: usize,
@@ -34,7 +34,7 @@ pub struct ReadAnswer {
 }
 
 // A cursor, between records: the offset of the next one, how many there were, and how many rows and references are stored.
-#[derive(Drop)]
+#[derive(Clone, Copy)]
 struct Cursor {
     at: usize,
     count: u64,
@@ -43,7 +43,7 @@ struct Cursor {
 }
 
 // The answer of a step: its result, and the cursor after it.
-#[derive(Drop)]
+#[derive(Clone, Copy)]
 struct Stepped {
     result: StepResult,
     cursor: Cursor,

@@ -2,10 +2,9 @@
 // Defined in specs/Summaries.antt, as a function of the rows.
 #![tactic(auto)]
 
-
 // An entry: what the rows with one class word, or the arrays of one primitive type, amount to. In C it is `struct phd_class`.
 #[repr(C)]
-#[derive(Drop)]
+#[derive(Clone, Copy)]
 pub struct Summary {
     // The class word (the scope paper's term), or the primitive type.
     pub class: u64,

@@ -7,7 +7,7 @@ ghost use Rattle.summary_list.specs.EntryList.{blank, entry_has, product, change
 use summaries::Summary;
 
 // A change of one entry: of which key, and how.
-#[derive(Drop)]
+#[derive(Clone, Copy)]
 pub struct Change {
     // No entry before this one has the key.
     pub from: usize,

@@ -12,7 +12,7 @@ use summary_list::Change;
 use table::{Row, Search};
 
 // The state of a pass.
-#[derive(Drop)]
+#[derive(Clone, Copy)]
 pub struct Pass {
     // Whether a row is left.
     pub on: bool,

@@ -13,7 +13,7 @@ pub const ROW_WIDTH: usize = 13;
 
 // A row (the scope paper's term): the numbers that represent a record, docs/FORMAT.md 4.1, except the last one, the record's
 // offset, which writing and the text ignore.
-#[derive(Drop)]
+#[derive(Clone, Copy)]
 pub struct Row {
     // 1 class, 2 object, 3 object array, 4 primitive array.
     pub kind: u64,
@@ -38,7 +38,7 @@ pub struct Row {
 }
 
 // The result of a search over rows: the index of the row found, or none.
-#[derive(Drop)]
+#[derive(Clone, Copy)]
 pub enum Search {
     At(usize),
     NotFound,
@@ -46,7 +46,7 @@ pub enum Search {
 
 // The answer of a write, a check or a size query: the reply and its place, both the scope paper's terms (docs/FORMAT.md 8). With
 // reply 0 the place is a number of bytes.
-#[derive(Drop)]
+#[derive(Clone, Copy)]
 pub struct Answer {
     pub reply: u64,
     pub place: usize,

@@ -8,120 +8,120 @@ use Rattle.decode_fast.proofs.be_u64.Tie as tie
 
 -- The value of the bytes so far, and its bound.
 abbrev sum : tie.After-wide → ℕ
-sum c = c.before.before.be-u32.result * 256 + c.wide.result
+sum c = c.be_u32.result * 256 + c.wide.result
 
-abbrev sum2 : tie.After-wide2 → ℕ
-sum2 c = sum c.before.before * 256 + c.wide2.result
+abbrev sum2 : tie.After-wide-2 → ℕ
+sum2 c = sum c.before.before * 256 + c.wide-2.result
 
-abbrev sum3 : tie.After-wide3 → ℕ
-sum3 c = sum2 c.before.before * 256 + c.wide3.result
+abbrev sum3 : tie.After-wide-3 → ℕ
+sum3 c = sum2 c.before.before * 256 + c.wide-3.result
 
-abbrev sum4 : tie.After-wide4 → ℕ
-sum4 c = sum3 c.before.before * 256 + c.wide4.result
+abbrev sum4 : tie.After-wide-4 → ℕ
+sum4 c = sum3 c.before.before * 256 + c.wide-4.result
 
 small : (c : tie.After-wide) → sum c < 256 ^ 5
-small c = let k = c.before in omega (arith, k.before.be-u32.ensures.1, k.shared-slice-known2.given (k.before.before.before.args.at + 4))
+small c = let k = c.before in omega (arith, k.be_u32.ensures.1, k.shared_slice_known-2-1.given (k.args.at + 4))
 
-small2 : (c : tie.After-wide2) → sum2 c < 256 ^ 6
-small2 c = let k = c.before in omega (arith, small k.before, k.shared-slice-known3.given (k.before.before.before.before.before.args.at + 5))
+small2 : (c : tie.After-wide-2) → sum2 c < 256 ^ 6
+small2 c = let k = c.before in omega (arith, small k.before, k.shared_slice_known-3-1.given (k.args.at + 5))
 
-small3 : (c : tie.After-wide3) → sum3 c < 256 ^ 7
-small3 c = let k = c.before in omega (arith, small2 k.before, k.shared-slice-known4.given (k.before.before.before.before.before.before.before.args.at + 6))
+small3 : (c : tie.After-wide-3) → sum3 c < 256 ^ 7
+small3 c = let k = c.before in omega (arith, small2 k.before, k.shared_slice_known-4-1.given (k.args.at + 6))
 
-small4 : (c : tie.After-wide4) → sum4 c < 256 ^ 8
-small4 c = let k = c.before in omega (arith, small3 k.before, k.shared-slice-known5.given (k.before.before.before.before.before.before.before.before.before.args.at + 7))
+small4 : (c : tie.After-wide-4) → sum4 c < 256 ^ 8
+small4 c = let k = c.before in omega (arith, small3 k.before, k.shared_slice_known-5-1.given (k.args.at + 7))
 
-be-u32-requires : tie.Need-be-u32-requires
-be-u32-requires c κs = search rules
+be_u32-requires : tie.Need-be_u32-requires
+be_u32-requires c κs = search rules
 
-mul-fifth : tie.Need-overflow-mul-fifth
-mul-fifth c = search rules
+overflow_mul-fifth : tie.Need-overflow_mul-fifth
+overflow_mul-fifth c = search rules
 
-add_wide : tie.Need-overflow-add-wide
-add_wide c = search rules
+overflow_add-at : tie.Need-overflow_add-at
+overflow_add-at c = search rules
 
-shared-slice-read-wide : tie.Need-shared-slice-read-wide
-shared-slice-read-wide c = search rules
+bounds-s-at : tie.Need-bounds-s-at
+bounds-s-at c = search rules
 
 wide-requires : tie.Need-wide-requires
 wide-requires c κs = search rules
 
-add-fifth : tie.Need-overflow-add-fifth
-add-fifth c = omega (arith, small c)
+overflow_add-fifth : tie.Need-overflow_add-fifth
+overflow_add-fifth c = omega (arith, small c)
 
-mul-result : tie.Need-overflow-mul-result
-mul-result c = omega (arith, small c)
+overflow_mul-result : tie.Need-overflow_mul-result
+overflow_mul-result c = omega (arith, small c)
 
-add-wide-2 : tie.Need-overflow-add-wide-2
-add-wide-2 c = search rules
+overflow_add-at-2 : tie.Need-overflow_add-at-2
+overflow_add-at-2 c = search rules
 
-shared-slice-read-wide-2 : tie.Need-shared-slice-read-wide-2
-shared-slice-read-wide-2 c = search rules
+bounds-s-at-2 : tie.Need-bounds-s-at-2
+bounds-s-at-2 c = search rules
 
 wide-requires-2 : tie.Need-wide-requires-2
 wide-requires-2 c κs = search rules
 
-add-result : tie.Need-overflow-add-result
-add-result c = omega (arith, small2 c)
+overflow_add-result : tie.Need-overflow_add-result
+overflow_add-result c = omega (arith, small2 c)
 
-mul-result-2 : tie.Need-overflow-mul-result-2
-mul-result-2 c = omega (arith, small2 c)
+overflow_mul-result-2 : tie.Need-overflow_mul-result-2
+overflow_mul-result-2 c = omega (arith, small2 c)
 
-add-wide-3 : tie.Need-overflow-add-wide-3
-add-wide-3 c = search rules
+overflow_add-at-3 : tie.Need-overflow_add-at-3
+overflow_add-at-3 c = search rules
 
-shared-slice-read-wide-3 : tie.Need-shared-slice-read-wide-3
-shared-slice-read-wide-3 c = search rules
+bounds-s-at-3 : tie.Need-bounds-s-at-3
+bounds-s-at-3 c = search rules
 
 wide-requires-3 : tie.Need-wide-requires-3
 wide-requires-3 c κs = search rules
 
-add-result-2 : tie.Need-overflow-add-result-2
-add-result-2 c = omega (arith, small3 c)
+overflow_add-result-2 : tie.Need-overflow_add-result-2
+overflow_add-result-2 c = omega (arith, small3 c)
 
-mul-result-3 : tie.Need-overflow-mul-result-3
-mul-result-3 c = omega (arith, small3 c)
+overflow_mul-result-3 : tie.Need-overflow_mul-result-3
+overflow_mul-result-3 c = omega (arith, small3 c)
 
-add-wide-4 : tie.Need-overflow-add-wide-4
-add-wide-4 c = search rules
+overflow_add-at-4 : tie.Need-overflow_add-at-4
+overflow_add-at-4 c = search rules
 
-shared-slice-read-wide-4 : tie.Need-shared-slice-read-wide-4
-shared-slice-read-wide-4 c = search rules
+bounds-s-at-4 : tie.Need-bounds-s-at-4
+bounds-s-at-4 c = search rules
 
 wide-requires-4 : tie.Need-wide-requires-4
 wide-requires-4 c κs = search rules
 
-add-result-3 : tie.Need-overflow-add-result-3
-add-result-3 c = omega (arith, small4 c)
+overflow_add-result-3 : tie.Need-overflow_add-result-3
+overflow_add-result-3 c = omega (arith, small4 c)
 
 returns : tie.Need-returns
 returns c =
     let z = c.before.before.before.before.before.before.before.before.before.before in
-    omega (arith, c.before.before.before.before.before.before.before.before.be-u32.ensures.0, value_eight_bytes z.args.s.now z.args.at z.requires)
+    omega (arith, c.be_u32.ensures.0, value_eight_bytes z.args.s.now z.args.at z.requires)
 
-pub be-u64-spec : {M : Type 1} → statement M
-be-u64-spec =
+pub be_u64_spec : {M : Type 1} → statement M
+be_u64_spec =
     tie.close
     (tie.spec
-    be-u32-requires
-    mul-fifth
-    add_wide
-    shared-slice-read-wide
+    be_u32-requires
+    overflow_mul-fifth
+    overflow_add-at
+    bounds-s-at
     wide-requires
-    add-fifth
-    mul-result
-    add-wide-2
-    shared-slice-read-wide-2
+    overflow_add-fifth
+    overflow_mul-result
+    overflow_add-at-2
+    bounds-s-at-2
     wide-requires-2
-    add-result
-    mul-result-2
-    add-wide-3
-    shared-slice-read-wide-3
+    overflow_add-result
+    overflow_mul-result-2
+    overflow_add-at-3
+    bounds-s-at-3
     wide-requires-3
-    add-result-2
-    mul-result-3
-    add-wide-4
-    shared-slice-read-wide-4
+    overflow_add-result-2
+    overflow_mul-result-3
+    overflow_add-at-4
+    bounds-s-at-4
     wide-requires-4
-    add-result-3
+    overflow_add-result-3
     returns)

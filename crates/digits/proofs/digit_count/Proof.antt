@@ -8,26 +8,26 @@ use Rattle.digits.specs.DigitLengths.{digit_count_small, digit_count_step, digit
 use Rattle.digits.proofs.digit_count.Statement.{statement}
 use Rattle.digits.proofs.digit_count.Tie as tie
 
-abbrev invariant-loop : tie.invariant-loop
-invariant-loop n rest₀ k₀ rest k = k + digit_count rest ≡ 1 + digit_count n
+abbrev invariant-loop-rest : tie.invariant-loop-rest
+invariant-loop-rest n rest₀ k₀ rest k = k + digit_count rest ≡ 1 + digit_count n
 
-abbrev decreases-loop : tie.decreases-loop
-decreases-loop n rest₀ k₀ rest k = rest
+abbrev decreases-loop-rest : tie.decreases-loop-rest
+decreases-loop-rest n rest₀ k₀ rest k = rest
 
-loop-holds : tie.Need-loop-init invariant-loop decreases-loop
-loop-holds c = search rules
+loop-rest-init : tie.Need-loop-rest-init invariant-loop-rest decreases-loop-rest
+loop-rest-init c = search rules
 
-add-k : tie.Need-overflow-add-k invariant-loop decreases-loop
-add-k c = omega (arith, digit_count_le_20 c.before.before.args.n (omega arith))
+overflow_add-k : tie.Need-overflow_add-k invariant-loop-rest decreases-loop-rest
+overflow_add-k c = omega (arith, digit_count_le_20 c.args.n (omega arith))
 
-loop-less : tie.Need-loop-smaller invariant-loop decreases-loop
-loop-less c = search rules
+loop-rest-smaller : tie.Need-loop-rest-smaller invariant-loop-rest decreases-loop-rest
+loop-rest-smaller c = search rules
 
-loop-again : tie.Need-loop-preserved invariant-loop decreases-loop
-loop-again c = omega (arith, digit_count_step c.before.loop.rest (omega arith))
+loop-rest-preserved : tie.Need-loop-rest-preserved invariant-loop-rest decreases-loop-rest
+loop-rest-preserved c = omega (arith, digit_count_step c.loop-rest.rest (omega arith))
 
-returns : tie.Need-returns invariant-loop decreases-loop
-returns c = omega (arith, digit_count_small c.before.loop.rest (omega arith))
+returns : tie.Need-returns invariant-loop-rest decreases-loop-rest
+returns c = omega (arith, digit_count_small c.loop-rest.rest (omega arith))
 
-pub digit-count-spec : {M : Type 1} → statement M
-digit-count-spec = tie.close (tie.spec invariant-loop decreases-loop loop-holds add-k loop-less loop-again returns)
+pub digit_count_spec : {M : Type 1} → statement M
+digit_count_spec = tie.close (tie.spec invariant-loop-rest decreases-loop-rest loop-rest-init overflow_add-k loop-rest-smaller loop-rest-preserved returns)

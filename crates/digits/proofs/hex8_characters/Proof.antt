@@ -48,52 +48,52 @@ high-digits-le n = and_le_r (quarters n / 0x10) 0xF000F000F000F
 letters-le : (n : ℕ) → letters n ≤ 0x0101010101010101
 letters-le n = and_le_r ((bytes n + 0x0606060606060606) / 0x10) 0x0101010101010101
 
-mul-halves : tie.Need-overflow-mul-halves
-mul-halves c = search rules
+overflow_mul-halves : tie.Need-overflow_mul-halves
+overflow_mul-halves c = search rules
 
-add-halves : tie.Need-overflow-add-halves
-add-halves c = search rules
+overflow_add-halves : tie.Need-overflow_add-halves
+overflow_add-halves c = search rules
 
-mul-quarters : tie.Need-overflow-mul-quarters
-mul-quarters c = omega (arith, high-bytes-le c.args.n)
+overflow_mul-quarters : tie.Need-overflow_mul-quarters
+overflow_mul-quarters c = omega (arith, high-bytes-le c.args.n)
 
-add-quarters : tie.Need-overflow-add-quarters
-add-quarters c = omega (arith, high-bytes-le c.args.n)
+overflow_add-quarters : tie.Need-overflow_add-quarters
+overflow_add-quarters c = omega (arith, high-bytes-le c.args.n)
 
-mul-bytes : tie.Need-overflow-mul-bytes
-mul-bytes c = omega (arith, high-digits-le c.args.n)
+overflow_mul-bytes : tie.Need-overflow_mul-bytes
+overflow_mul-bytes c = omega (arith, high-digits-le c.args.n)
 
-add-bytes : tie.Need-overflow-add-bytes
-add-bytes c = omega (arith, high-bytes-le c.args.n, high-digits-le c.args.n)
+overflow_add-bytes : tie.Need-overflow_add-bytes
+overflow_add-bytes c = omega (arith, high-bytes-le c.args.n, high-digits-le c.args.n)
 
-add-letters : tie.Need-overflow-add-letters
-add-letters c = omega (arith, high-bytes-le c.args.n, high-digits-le c.args.n)
+overflow_add-letters : tie.Need-overflow_add-letters
+overflow_add-letters c = omega (arith, high-bytes-le c.args.n, high-digits-le c.args.n)
 
-add-result : tie.Need-overflow-add-result
-add-result c = omega (arith, high-bytes-le c.args.n, high-digits-le c.args.n)
+overflow_add-result : tie.Need-overflow_add-result
+overflow_add-result c = omega (arith, high-bytes-le c.args.n, high-digits-le c.args.n)
 
-mul-result : tie.Need-overflow-mul-result
-mul-result c = omega (arith, letters-le c.args.n)
+overflow_mul-result : tie.Need-overflow_mul-result
+overflow_mul-result c = omega (arith, letters-le c.args.n)
 
-add-result-2 : tie.Need-overflow-add-result-2
-add-result-2 c = omega (arith, high-bytes-le c.args.n, high-digits-le c.args.n, letters-le c.args.n)
+overflow_add-result-2 : tie.Need-overflow_add-result-2
+overflow_add-result-2 c = omega (arith, high-bytes-le c.args.n, high-digits-le c.args.n, letters-le c.args.n)
 
 returns : tie.Need-returns
 unfolding fields
 returns c = ap (λ (x : ℕ). be 8 (characters 8 x)) (bytes_spread c.args.n) ∙ characters_digits 8 c.args.n
 
-pub hex8-characters-spec : {M : Type 1} → statement M
-hex8-characters-spec =
+pub hex8_characters_spec : {M : Type 1} → statement M
+hex8_characters_spec =
     tie.close
     (tie.spec
-    mul-halves
-    add-halves
-    mul-quarters
-    add-quarters
-    mul-bytes
-    add-bytes
-    add-letters
-    add-result
-    mul-result
-    add-result-2
+    overflow_mul-halves
+    overflow_add-halves
+    overflow_mul-quarters
+    overflow_add-quarters
+    overflow_mul-bytes
+    overflow_add-bytes
+    overflow_add-letters
+    overflow_add-result
+    overflow_mul-result
+    overflow_add-result-2
     returns)

@@ -4,22 +4,22 @@ use Rattle.digits.specs.Digits.{decimal}
 use Rattle.digits.proofs.write_decimal.Statement.{statement}
 use Rattle.digits.proofs.write_decimal.Tie as tie
 
-digit-count-requires : tie.Need-digit-count-requires
-digit-count-requires c κs = search rules
+digit_count-k-requires : tie.Need-digit_count-k-requires
+digit_count-k-requires c κs = search rules
 
-write-decimal-digits-requires : tie.Need-write-decimal-digits-requires
+write_decimal_digits-requires : tie.Need-write_decimal_digits-requires
 unfolding decimal
-write-decimal-digits-requires c κs = rw c.before.digit_count.ensures c.before.before.before.requires
+write_decimal_digits-requires c κs = rw c.digit_count-k.ensures c.requires
 
-same_length : tie.Need-same-length
-same_length c = search rules
+shape_of-out : tie.Need-shape_of-out
+shape_of-out c = search rules
 
 returns : tie.Need-returns
 unfolding decimal
 returns c =
     let p = c.before.before in
-    rw p.before.before.digit_count.ensures at p.write-decimal-digits.ensures
+    rw p.digit_count-k.ensures at p.write_decimal_digits.ensures
 
-pub write-decimal-spec : {M : Type 1} → statement M
-write-decimal-spec =
-    tie.close (tie.spec digit-count-requires write-decimal-digits-requires same_length returns)
+pub write_decimal_spec : {M : Type 1} → statement M
+write_decimal_spec =
+    tie.close (tie.spec digit_count-k-requires write_decimal_digits-requires shape_of-out returns)

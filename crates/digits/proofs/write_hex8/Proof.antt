@@ -3,18 +3,18 @@ use borrow.Author.Rules.{rules}
 use Rattle.digits.proofs.write_hex8.Statement.{statement}
 use Rattle.digits.proofs.write_hex8.Tie as tie
 
-hex8-characters-requires : tie.Need-hex8-characters-requires
-hex8-characters-requires c κs = search rules
+hex8_characters-requires : tie.Need-hex8_characters-requires
+hex8_characters-requires c κs = search rules
 
-encode-be-requires : tie.Need-encode-be-requires
-encode-be-requires c κs = rw c.hex8-characters.ensures c.before.before.before.requires
+encode_be-requires : tie.Need-encode_be-requires
+encode_be-requires c κs = rw c.hex8_characters.ensures c.requires
 
-same_length : tie.Need-same-length
-same_length c = search rules
+shape_of-out : tie.Need-shape_of-out
+shape_of-out c = search rules
 
 returns : tie.Need-returns
-returns c = let p = c.before.before in rw p.before.hex8-characters.ensures at p.encode-be.ensures
+returns c = let p = c.before.before in rw p.hex8_characters.ensures at p.encode_be.ensures
 
-pub write-hex8-spec : {M : Type 1} → statement M
-write-hex8-spec =
-    tie.close (tie.spec hex8-characters-requires encode-be-requires same_length returns)
+pub write_hex8_spec : {M : Type 1} → statement M
+write_hex8_spec =
+    tie.close (tie.spec hex8_characters-requires encode_be-requires shape_of-out returns)

@@ -5,25 +5,25 @@ use Rattle.digits.specs.Digits.{decimal}
 use Rattle.digits.proofs.write_text_decimal.Statement.{statement}
 use Rattle.digits.proofs.write_text_decimal.Tie as tie
 
-encode-bytes-requires : tie.Need-encode-bytes-requires
-encode-bytes-requires c κs =
+encode_bytes-digits-requires : tie.Need-encode_bytes-digits-requires
+encode_bytes-digits-requires c κs =
     let s = c.before.before.before in
     capacity_first s.args.out.now s.args.at s.args.text.now (decimal s.args.n) s.requires
 
-write-decimal-requires : tie.Need-write-decimal-requires
-write-decimal-requires c κs =
+write_decimal-requires : tie.Need-write_decimal-requires
+write_decimal-requires c κs =
     let p = c.before.before.before in
     let s = p.before.before.before.before in
-    capacity_after p.encode-bytes.ensures (decimal s.args.n) s.requires
+    capacity_after p.encode_bytes-digits.ensures (decimal s.args.n) s.requires
 
-same_length : tie.Need-same-length
-same_length c = search rules
+shape_of-out : tie.Need-shape_of-out
+shape_of-out c = search rules
 
 returns : tie.Need-returns
 returns c =
     let q = c.before.before in
     let p = q.before.before.before.before in
-    writes_then p.encode-bytes.ensures q.write-decimal.ensures
+    writes_then p.encode_bytes-digits.ensures q.write_decimal.ensures
 
-pub write-text-decimal-spec : {M : Type 1} → statement M
-write-text-decimal-spec = tie.close (tie.spec encode-bytes-requires write-decimal-requires same_length returns)
+pub write_text_decimal_spec : {M : Type 1} → statement M
+write_text_decimal_spec = tie.close (tie.spec encode_bytes-digits-requires write_decimal-requires shape_of-out returns)

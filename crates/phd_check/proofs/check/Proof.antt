@@ -10,34 +10,34 @@ use Rattle.phd_check.proofs.check.Statement.{statement}
 use Rattle.phd_check.proofs.check.Tie as tie
 
 -- The header is good.
-good : (c : tie.Then1) → let a = c.before.before.before.before.before.args in good_header a.header a.names.now (rows_of a.rows.now) a.refs.now ≡ true
-good c = sym c.before.header_good.ensures ∙ c.if1.true
+good : (c : tie.Then-header_good) → let a = c.args in good_header a.header a.names.now (rows_of a.rows.now) a.refs.now ≡ true
+good c = sym c.header_good.ensures ∙ c.if-header_good.true
 
-header-good-requires : tie.Need-header-good-requires
-header-good-requires c κs = search rules
+header_good-requires : tie.Need-header_good-requires
+header_good-requires c κs = search rules
 
-find-bad-requires : tie.Need-find-bad-requires
-find-bad-requires c κs = header_bits_good _ _ _ _ (good c)
+find_bad-bad-requires : tie.Need-find_bad-bad-requires
+find_bad-bad-requires c κs = header_bits_good _ _ _ _ (good c)
 
-enum-known-bad : tie.Need-enum-known-bad
-enum-known-bad c = search rules
+enum_known-bad : tie.Need-enum_known-bad
+enum_known-bad c = search rules
 
-enum_told : tie.Need-enum-told
-enum_told c = search rules
+enum_told-1 : tie.Need-enum_told-1
+enum_told-1 c = search rules
+
+returns-in_default : tie.Need-returns-in_default
+unfolding checked_input checked_write done
+returns-in_default c = rw (good c.before.before, sym c.find_bad-bad.ensures ∙ c.in_default.is)
+
+returns-then-header_good : tie.Need-returns-then-header_good
+unfolding checked_input checked_write refused
+returns-then-header_good c = rw (good c.before.before, sym c.find_bad-bad.ensures ∙ c.in-At.is)
 
 returns : tie.Need-returns
-unfolding checked_input checked_write done
-returns c = rw (good c.before.before.before, sym c.before.before.find-bad.ensures ∙ c.enum_told.given.1)
-
-returns-2 : tie.Need-returns-2
 unfolding checked_input checked_write refused
-returns-2 c = rw (good c.before.before.before.before, sym c.before.before.before.find-bad.ensures ∙ c.before.bad.given.1)
+returns c = rw (sym c.header_good.ensures ∙ c.if-header_good.false)
 
-returns-3 : tie.Need-returns-3
-unfolding checked_input checked_write refused
-returns-3 c = rw (sym c.before.header_good.ensures ∙ c.if1.false)
-
-pub check-spec : {M : Type 1} → statement M
-check-spec =
+pub check_spec : {M : Type 1} → statement M
+check_spec =
     tie.close
-    (tie.spec header-good-requires find-bad-requires enum-known-bad enum_told returns returns-2 returns-3)
+    (tie.spec header_good-requires find_bad-bad-requires enum_known-bad enum_told-1 returns-in_default returns-then-header_good returns)

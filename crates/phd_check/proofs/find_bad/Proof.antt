@@ -18,19 +18,19 @@ use Rattle.phd_check.proofs.CheckLaws.{all_true_false, good_refs_of, good_refs_f
 use Rattle.phd_check.proofs.find_bad.Statement.{statement}
 use Rattle.phd_check.proofs.find_bad.Tie as tie
 
-abbrev invariant-loop : tie.invariant-loop
-invariant-loop header names refs rows n top clean index i row last j₀ j =
+abbrev invariant-loop-j : tie.invariant-loop-j
+invariant-loop-j header names refs rows n top clean index i row last j₀ j =
     (j ≤ last) × (last ≤ length refs) × (good_refs top (take (last - j) (drop j refs)) ≡ good_refs top (refs_of refs row))
 
-abbrev decreases-loop : tie.decreases-loop
-decreases-loop header names refs rows n top clean index i row last j₀ j = last - j
+abbrev decreases-loop-j : tie.decreases-loop-j
+decreases-loop-j header names refs rows n top clean index i row last j₀ j = last - j
 
-abbrev invariant-loop2 : tie.invariant-loop2
-invariant-loop2 header names refs rows n top clean index i row end k₀ k =
+abbrev invariant-loop-k : tie.invariant-loop-k
+invariant-loop-k header names refs rows n top clean index i row end k₀ k =
     (k ≤ end) × (end ≤ length names) × (all_within 0x21 0x7E (take (end - k) (drop k names)) ≡ all_within 0x21 0x7E (name_of names row))
 
-abbrev decreases-loop2 : tie.decreases-loop2
-decreases-loop2 header names refs rows n top clean index i row end k₀ k = end - k
+abbrev decreases-loop-k : tie.decreases-loop-k
+decreases-loop-k header names refs rows n top clean index i row end k₀ k = end - k
 
 abbrev invariant-rows : tie.invariant-rows
 invariant-rows header names refs rows n top clean index₀ i₀ index i =
@@ -40,126 +40,126 @@ abbrev decreases-rows : tie.decreases-rows
 decreases-rows header names refs rows n top clean index₀ i₀ index i = n - i
 
 -- The head of the outer loop.
-abbrev head : tie.Else1 invariant-loop decreases-loop invariant-loop2 decreases-loop2 invariant-rows decreases-rows → tie.At-rows invariant-loop decreases-loop invariant-loop2 decreases-loop2 invariant-rows decreases-rows
+abbrev head : tie.Else-not-numbers_good invariant-loop-j decreases-loop-j invariant-loop-k decreases-loop-k invariant-rows decreases-rows → tie.At-rows invariant-loop-j decreases-loop-j invariant-loop-k decreases-loop-k invariant-rows decreases-rows
 head c = c.before.before.before.before
 
 -- The function's entry.
-abbrev start : tie.At-rows invariant-loop decreases-loop invariant-loop2 decreases-loop2 invariant-rows decreases-rows → tie.Start invariant-loop decreases-loop invariant-loop2 decreases-loop2 invariant-rows decreases-rows
+abbrev start : tie.At-rows invariant-loop-j decreases-loop-j invariant-loop-k decreases-loop-k invariant-rows decreases-rows → tie.Start invariant-loop-j decreases-loop-j invariant-loop-k decreases-loop-k invariant-rows decreases-rows
 start w = w.before.before.before.before.before.before
 
 -- After the first test, the numbers of the row are good.
-numbers-good : (c : tie.Else1 invariant-loop decreases-loop invariant-loop2 decreases-loop2 invariant-rows decreases-rows)
+numbers-good : (c : tie.Else-not-numbers_good invariant-loop-j decreases-loop-j invariant-loop-k decreases-loop-k invariant-rows decreases-rows)
     → let a = (start (head c)).args in
-    good_numbers a.header (head c).rows.index (length a.refs.now) (length a.names.now) c.before.before.row_at.result ≡ true
-numbers-good c = sym c.before.numbers-good.ensures ∙ not-false _ c.if1.false
+    good_numbers a.header (head c).rows.index (length a.refs.now) (length a.names.now) c.row_at-row.result ≡ true
+numbers-good c = sym c.numbers_good.ensures ∙ not-false _ c.if-not-numbers_good.false
 
 -- The references and the name of the row lie within their tables.
-name-bound : (c : tie.Else1 invariant-loop decreases-loop invariant-loop2 decreases-loop2 invariant-rows decreases-rows)
-    → let a = (start (head c)).args in SpansInBounds a.names.now a.refs.now c.before.before.row_at.result
+name-bound : (c : tie.Else-not-numbers_good invariant-loop-j decreases-loop-j invariant-loop-k decreases-loop-k invariant-rows decreases-rows)
+    → let a = (start (head c)).args in SpansInBounds a.names.now a.refs.now c.row_at-row.result
 name-bound c =
     let a = (start (head c)).args in
-    numbers_in_bounds a.header a.names.now a.refs.now (head c).rows.index c.before.before.row_at.result (numbers-good c)
+    numbers_in_bounds a.header a.names.now a.refs.now (head c).rows.index c.row_at-row.result (numbers-good c)
 
-max-address-of-requires : tie.Need-max-address-of-requires invariant-loop decreases-loop invariant-loop2 decreases-loop2 invariant-rows decreases-rows
-max-address-of-requires c κs = search rules
+max_address_of-top-requires : tie.Need-max_address_of-top-requires invariant-loop-j decreases-loop-j invariant-loop-k decreases-loop-k invariant-rows decreases-rows
+max_address_of-top-requires c κs = search rules
 
-refs-good-requires : tie.Need-refs-good-requires invariant-loop decreases-loop invariant-loop2 decreases-loop2 invariant-rows decreases-rows
-refs-good-requires c κs = search rules
+refs_good-clean-requires : tie.Need-refs_good-clean-requires invariant-loop-j decreases-loop-j invariant-loop-k decreases-loop-k invariant-rows decreases-rows
+refs_good-clean-requires c κs = search rules
 
-rows-holds : tie.Need-rows-init invariant-loop decreases-loop invariant-loop2 decreases-loop2 invariant-rows decreases-rows
-rows-holds c = search rules
+rows-init : tie.Need-rows-init invariant-loop-j decreases-loop-j invariant-loop-k decreases-loop-k invariant-rows decreases-rows
+rows-init c = search rules
 
-row-at-requires : tie.Need-row-at-requires invariant-loop decreases-loop invariant-loop2 decreases-loop2 invariant-rows decreases-rows
+row_at-row-requires : tie.Need-row_at-row-requires invariant-loop-j decreases-loop-j invariant-loop-k decreases-loop-k invariant-rows decreases-rows
 unfolding row_count
-row-at-requires c κs = search rules
+row_at-row-requires c κs = search rules
 
-numbers-good-requires : tie.Need-numbers-good-requires invariant-loop decreases-loop invariant-loop2 decreases-loop2 invariant-rows decreases-rows
-numbers-good-requires c κs = search rules
+numbers_good-requires : tie.Need-numbers_good-requires invariant-loop-j decreases-loop-j invariant-loop-k decreases-loop-k invariant-rows decreases-rows
+numbers_good-requires c κs = search rules
 
-add-last : tie.Need-overflow-add-last invariant-loop decreases-loop invariant-loop2 decreases-loop2 invariant-rows decreases-rows
-add-last c = omega (arith, name-bound c.before.before)
+overflow_add-last : tie.Need-overflow_add-last invariant-loop-j decreases-loop-j invariant-loop-k decreases-loop-k invariant-rows decreases-rows
+overflow_add-last c = omega (arith, name-bound c.before.before)
 
-loop-holds : tie.Need-loop-init invariant-loop decreases-loop invariant-loop2 decreases-loop2 invariant-rows decreases-rows
-loop-holds c =
+loop-j-init : tie.Need-loop-j-init invariant-loop-j decreases-loop-j invariant-loop-k decreases-loop-k invariant-rows decreases-rows
+loop-j-init c =
     let d = c.before.before in
-    (omega arith, omega (arith, name-bound d), ap (good_refs _) (refs_of_slice _ d.before.before.row_at.result))
+    (omega arith, omega (arith, name-bound d), ap (good_refs _) (refs_of_slice _ d.row_at-row.result))
 
-mul-ref-good : tie.Need-overflow-mul-ref-good invariant-loop decreases-loop invariant-loop2 decreases-loop2 invariant-rows decreases-rows
-mul-ref-good c = search rules
+offset_bounds-refs-j : tie.Need-offset_bounds-refs-j invariant-loop-j decreases-loop-j invariant-loop-k decreases-loop-k invariant-rows decreases-rows
+offset_bounds-refs-j c = search rules
 
-shared-slice-read-ref-good : tie.Need-shared-slice-read-ref-good invariant-loop decreases-loop invariant-loop2 decreases-loop2 invariant-rows decreases-rows
-shared-slice-read-ref-good c = search rules
+bounds-refs-j : tie.Need-bounds-refs-j invariant-loop-j decreases-loop-j invariant-loop-k decreases-loop-k invariant-rows decreases-rows
+bounds-refs-j c = search rules
 
-ref-good-requires : tie.Need-ref-good-requires invariant-loop decreases-loop invariant-loop2 decreases-loop2 invariant-rows decreases-rows
-ref-good-requires c κs = search rules
+ref_good-requires : tie.Need-ref_good-requires invariant-loop-j decreases-loop-j invariant-loop-k decreases-loop-k invariant-rows decreases-rows
+ref_good-requires c κs = search rules
 
-add-j : tie.Need-overflow-add-j invariant-loop decreases-loop invariant-loop2 decreases-loop2 invariant-rows decreases-rows
-add-j c = let d = c.before.before.before.before.before.before.before in omega (arith, (start (head d)).good.1.1.0)
+overflow_add-j : tie.Need-overflow_add-j invariant-loop-j decreases-loop-j invariant-loop-k decreases-loop-k invariant-rows decreases-rows
+overflow_add-j c = let d = c.before.before.before.before.before.before.before in omega (arith, (start (head d)).good.1.1.0)
 
-loop-less : tie.Need-loop-smaller invariant-loop decreases-loop invariant-loop2 decreases-loop2 invariant-rows decreases-rows
-loop-less c = search rules
+loop-j-smaller : tie.Need-loop-j-smaller invariant-loop-j decreases-loop-j invariant-loop-k decreases-loop-k invariant-rows decreases-rows
+loop-j-smaller c = search rules
 
-loop-again : tie.Need-loop-preserved invariant-loop decreases-loop invariant-loop2 decreases-loop2 invariant-rows decreases-rows
-loop-again c =
+loop-j-preserved : tie.Need-loop-j-preserved invariant-loop-j decreases-loop-j invariant-loop-k decreases-loop-k invariant-rows decreases-rows
+loop-j-preserved c =
     let l = c.before.before.before.before in
-    let e = sym c.before.ref-good.ensures ∙ not-false _ c.if3.false in
-    (omega arith, omega arith, sym (good_refs_next _ _ l.loop.j _ (omega arith) (omega arith) e) ∙ l.loop.invariant.2)
+    let e = sym c.ref_good.ensures ∙ not-false _ c.if-not-ref_good.false in
+    (omega arith, omega arith, sym (good_refs_next _ _ l.loop-j.j _ (omega arith) (omega arith) e) ∙ l.loop-j.invariant.2)
 
-add_end : tie.Need-overflow-add-end invariant-loop decreases-loop invariant-loop2 decreases-loop2 invariant-rows decreases-rows
-add_end c = let d = c.before.before in omega (arith, name-bound d, (start (head d)).good.1.0)
+overflow_add-end : tie.Need-overflow_add-end invariant-loop-j decreases-loop-j invariant-loop-k decreases-loop-k invariant-rows decreases-rows
+overflow_add-end c = let d = c.before.before in omega (arith, name-bound d, (start (head d)).good.1.0)
 
-loop2-holds : tie.Need-loop2-init invariant-loop decreases-loop invariant-loop2 decreases-loop2 invariant-rows decreases-rows
-loop2-holds c =
+loop-k-init : tie.Need-loop-k-init invariant-loop-j decreases-loop-j invariant-loop-k decreases-loop-k invariant-rows decreases-rows
+loop-k-init c =
     let d = c.before.before in
-    (omega arith, omega (arith, name-bound d), ap (all_within 0x21 0x7E) (name_of_slice _ d.before.before.row_at.result))
+    (omega arith, omega (arith, name-bound d), ap (all_within 0x21 0x7E) (name_of_slice _ d.row_at-row.result))
 
-shared-slice-read-if4 : tie.Need-shared-slice-read-if4 invariant-loop decreases-loop invariant-loop2 decreases-loop2 invariant-rows decreases-rows
-shared-slice-read-if4 c = search rules
+bounds-names-k : tie.Need-bounds-names-k invariant-loop-j decreases-loop-j invariant-loop-k decreases-loop-k invariant-rows decreases-rows
+bounds-names-k c = search rules
 
-shared-slice-read-if4-2 : tie.Need-shared-slice-read-if4-2 invariant-loop decreases-loop invariant-loop2 decreases-loop2 invariant-rows decreases-rows
-shared-slice-read-if4-2 c = search rules
+bounds-names-k-in-loop-k : tie.Need-bounds-names-k-in-loop-k invariant-loop-j decreases-loop-j invariant-loop-k decreases-loop-k invariant-rows decreases-rows
+bounds-names-k-in-loop-k c = search rules
 
-add-k : tie.Need-overflow-add-k invariant-loop decreases-loop invariant-loop2 decreases-loop2 invariant-rows decreases-rows
-add-k c = let d = c.before.before.before.before.before.before.before in omega (arith, (start (head d)).good.1.0)
+overflow_add-k : tie.Need-overflow_add-k invariant-loop-j decreases-loop-j invariant-loop-k decreases-loop-k invariant-rows decreases-rows
+overflow_add-k c = let d = c.before.before.before.before.before.before.before in omega (arith, (start (head d)).good.1.0)
 
-loop2-less : tie.Need-loop2-smaller invariant-loop decreases-loop invariant-loop2 decreases-loop2 invariant-rows decreases-rows
-loop2-less c = search rules
+loop-k-smaller : tie.Need-loop-k-smaller invariant-loop-j decreases-loop-j invariant-loop-k decreases-loop-k invariant-rows decreases-rows
+loop-k-smaller c = search rules
 
-loop2-again : tie.Need-loop2-preserved invariant-loop decreases-loop invariant-loop2 decreases-loop2 invariant-rows decreases-rows
-loop2-again c =
+loop-k-preserved : tie.Need-loop-k-preserved invariant-loop-j decreases-loop-j invariant-loop-k decreases-loop-k invariant-rows decreases-rows
+loop-k-preserved c =
     let l = c.before.before.before.before in
-    (omega arith, omega arith, sym (name_bytes_next _ l.loop2.k _ (omega arith) (omega arith) c.if4.false) ∙ l.loop2.invariant.2)
+    (omega arith, omega arith, sym (name_bytes_next _ l.loop-k.k _ (omega arith) (omega arith) c.if-names-k.false) ∙ l.loop-k.invariant.2)
 
 -- The point after the test of the row's numbers, from the end of its checks.
-abbrev good-from : tie.After-struct-known3 invariant-loop decreases-loop invariant-loop2 decreases-loop2 invariant-rows decreases-rows → tie.Else1 invariant-loop decreases-loop invariant-loop2 decreases-loop2 invariant-rows decreases-rows
+abbrev good-from : tie.After-struct_known-in-rows-2-1 invariant-loop-j decreases-loop-j invariant-loop-k decreases-loop-k invariant-rows decreases-rows → tie.Else-not-numbers_good invariant-loop-j decreases-loop-j invariant-loop-k decreases-loop-k invariant-rows decreases-rows
 good-from c = c.before.before.before.before.before
 
-add-index : tie.Need-overflow-add-index invariant-loop decreases-loop invariant-loop2 decreases-loop2 invariant-rows decreases-rows
-add-index c =
+overflow_add-index : tie.Need-overflow_add-index invariant-loop-j decreases-loop-j invariant-loop-k decreases-loop-k invariant-rows decreases-rows
+overflow_add-index c =
     let d = good-from c in
     let a = (start (head d)).args in
     omega (arith, name-bound d, row_first a.header a.names.now a.refs.now (head d).rows.index _ (numbers-good d), (start (head d)).good.1.1.0)
 
-add-i : tie.Need-overflow-add-i invariant-loop decreases-loop invariant-loop2 decreases-loop2 invariant-rows decreases-rows
-add-i c = omega (arith, (start (head (good-from c))).good.1.1.1.0)
+overflow_add-i : tie.Need-overflow_add-i invariant-loop-j decreases-loop-j invariant-loop-k decreases-loop-k invariant-rows decreases-rows
+overflow_add-i c = omega (arith, (start (head (good-from c))).good.1.1.1.0)
 
-rows-less : tie.Need-rows-smaller invariant-loop decreases-loop invariant-loop2 decreases-loop2 invariant-rows decreases-rows
-rows-less c = search rules
+rows-smaller : tie.Need-rows-smaller invariant-loop-j decreases-loop-j invariant-loop-k decreases-loop-k invariant-rows decreases-rows
+rows-smaller c = search rules
 
 -- After the second test the references of the row are good: the loop passed them all, or all of the table are good.
-refs-checked : (c : tie.Joined2 invariant-loop decreases-loop invariant-loop2 decreases-loop2 invariant-rows decreases-rows)
+refs-checked : (c : tie.Joined-not-clean invariant-loop-j decreases-loop-j invariant-loop-k decreases-loop-k invariant-rows decreases-rows)
     → let w = head c.before in
-    good_refs w.before.before.max-address-of.result (refs_of (start w).args.refs.now c.before.before.before.row_at.result) ≡ true
+    good_refs w.max_address_of-top.result (refs_of (start w).args.refs.now c.row_at-row.result) ≡ true
 unfolding good_refs
 refs-checked c =
     let w = head c.before in
-    let r = c.before.before.before.row_at.result in
+    let r = c.row_at-row.result in
     ⊎_elim (λ o. let e : r.first + r.count - o.2.j ≡ 0 = omega arith in sym (rw e at o.2.inv.2))
-    (λ o. good_refs_of _ _ r (sym w.before.refs_good.ensures ∙ not-false _ o.left))
-    c.if2.branch
+    (λ o. good_refs_of _ _ r (sym w.refs_good-clean.ensures ∙ not-false _ o.left))
+    c.if-not-clean.branch
 
 -- A row that passed all checks is good.
-row-checked : (c : tie.After-struct-known3 invariant-loop decreases-loop invariant-loop2 decreases-loop2 invariant-rows decreases-rows)
+row-checked : (c : tie.After-struct_known-in-rows-2-1 invariant-loop-j decreases-loop-j invariant-loop-k decreases-loop-k invariant-rows decreases-rows)
     → let w = head (good-from c) in
     let a = (start w).args in
     good_row a.header a.names.now a.refs.now w.rows.index (row_at a.rows.now w.rows.i) ≡ true
@@ -169,23 +169,23 @@ row-checked c =
     let w = head d in
     let a = (start w).args in
     let m = c.before.before in
-    let r = d.before.before.row_at.result in
-    let f : r.place + r.namelen - m.loop2.k ≡ 0 = omega arith in
-    rw (← d.before.before.row_at.ensures)
-    (good_row_by_parts a.header a.names.now a.refs.now w.rows.index r (numbers-good d) (rw (← w.before.before.max-address-of.ensures) (refs-checked m.before.before))
-    (sym (rw f at m.loop2.invariant.2)))
+    let r = d.row_at-row.result in
+    let f : r.place + r.namelen - m.loop-k.k ≡ 0 = omega arith in
+    rw (← d.row_at-row.ensures)
+    (good_row_by_parts a.header a.names.now a.refs.now w.rows.index r (numbers-good d) (rw (← w.max_address_of-top.ensures) (refs-checked m.before.before))
+    (sym (rw f at m.loop-k.invariant.2)))
 
-rows-again : tie.Need-rows-preserved invariant-loop decreases-loop invariant-loop2 decreases-loop2 invariant-rows decreases-rows
+rows-preserved : tie.Need-rows-preserved invariant-loop-j decreases-loop-j invariant-loop-k decreases-loop-k invariant-rows decreases-rows
 unfolding row_count
-rows-again c =
+rows-preserved c =
     let d = good-from c in
     let w = head d in
     let a = (start w).args in
     let l = first_bad_later a.header a.names.now a.refs.now a.rows.now w.rows.i w.rows.index (omega arith) (row-checked c) in
-    (omega arith, rw d.before.before.row_at.ensures (sym l ∙ w.rows.inv.1))
+    (omega arith, rw d.row_at-row.ensures (sym l ∙ w.rows.inv.1))
 
 -- If the loop ended early, the row at which it ended is bad: by its numbers, a reference or a name byte.
-left_at : (c : tie.Left-rows invariant-loop decreases-loop invariant-loop2 decreases-loop2 invariant-rows decreases-rows)
+left_at : (c : tie.Left-rows invariant-loop-j decreases-loop-j invariant-loop-k decreases-loop-k invariant-rows decreases-rows)
     → let w = c.before in
     let a = (start w).args in
     w.rows.i < row_count a.rows.now
@@ -196,61 +196,61 @@ left_at c more =
     let a = (start w).args in
     ⊎_elim (λ o. absurd (omega arith))
     (⊎_elim (λ o. rw (← o.1.ensures) (all_true_false _ 0 (sym o.2.ensures ∙ not-true _ o.3.taken)))
-    (⊎_elim (λ o. rw (← o.1.ensures, ← w.before.before.max-address-of.ensures)
+    (⊎_elim (λ o. rw (← o.1.ensures, ← w.max_address_of-top.ensures)
     (all_true_false _ 1 (sym o.6.inv.2 ∙ good_refs_false _ _ o.6.j _ (omega arith) (omega arith) (sym o.9.ensures ∙ not-true _ o.10.taken))))
     (λ o. rw (← o.1.ensures) (all_true_false _ 2 (sym o.6.inv.2 ∙ name_bytes_false _ o.6.k _ (omega arith) (omega arith) o.10.taken)))))
     c.rows-test.branch
 
 -- The row returned is the one at which the loop ended.
-returns : tie.Need-returns invariant-loop decreases-loop invariant-loop2 decreases-loop2 invariant-rows decreases-rows
+returns-then-i-n : tie.Need-returns-then-i-n invariant-loop-j decreases-loop-j invariant-loop-k decreases-loop-k invariant-rows decreases-rows
 unfolding row_count
-returns c =
+returns-then-i-n c =
     let w = c.before.before in
     let a = (start w).args in
     ap At (omega arith)
     ∙ sym (first_bad_here a.header a.names.now a.refs.now a.rows.now w.rows.i w.rows.index (omega arith) (left_at c.before (omega arith)))
     ∙ w.rows.invariant.1
 
-returns-2 : tie.Need-returns-2 invariant-loop decreases-loop invariant-loop2 decreases-loop2 invariant-rows decreases-rows
+returns : tie.Need-returns invariant-loop-j decreases-loop-j invariant-loop-k decreases-loop-k invariant-rows decreases-rows
 unfolding row_count
-returns-2 c =
+returns c =
     let w = c.before.before in
     let a = (start w).args in
     sym (first_bad_end a.header a.names.now a.refs.now a.rows.now w.rows.i w.rows.index (omega arith)) ∙ w.rows.invariant.1
 
-pub find-bad-spec : {M : Type 1} → statement M
-find-bad-spec =
+pub find_bad_spec : {M : Type 1} → statement M
+find_bad_spec =
     tie.close
     (tie.spec
-    invariant-loop
-    decreases-loop
-    invariant-loop2
-    decreases-loop2
+    invariant-loop-j
+    decreases-loop-j
+    invariant-loop-k
+    decreases-loop-k
     invariant-rows
     decreases-rows
-    max-address-of-requires
-    refs-good-requires
-    rows-holds
-    row-at-requires
-    numbers-good-requires
-    add-last
-    loop-holds
-    mul-ref-good
-    shared-slice-read-ref-good
-    ref-good-requires
-    add-j
-    loop-less
-    loop-again
-    add_end
-    loop2-holds
-    shared-slice-read-if4
-    shared-slice-read-if4-2
-    add-k
-    loop2-less
-    loop2-again
-    add-index
-    add-i
-    rows-less
-    rows-again
-    returns
-    returns-2)
+    max_address_of-top-requires
+    refs_good-clean-requires
+    rows-init
+    row_at-row-requires
+    numbers_good-requires
+    overflow_add-last
+    loop-j-init
+    offset_bounds-refs-j
+    bounds-refs-j
+    ref_good-requires
+    overflow_add-j
+    loop-j-smaller
+    loop-j-preserved
+    overflow_add-end
+    loop-k-init
+    bounds-names-k
+    bounds-names-k-in-loop-k
+    overflow_add-k
+    loop-k-smaller
+    loop-k-preserved
+    overflow_add-index
+    overflow_add-i
+    rows-smaller
+    rows-preserved
+    returns-then-i-n
+    returns)

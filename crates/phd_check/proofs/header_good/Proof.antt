@@ -7,12 +7,12 @@ use Rattle.phd_check.proofs.CheckLaws.{all_of_all_true}
 use Rattle.phd_check.proofs.header_good.Statement.{statement}
 use Rattle.phd_check.proofs.header_good.Tie as tie
 
-vm-good-requires : tie.Need-vm-good-requires
-vm-good-requires c κs = search rules
+vm_good-requires : tie.Need-vm_good-requires
+vm_good-requires c κs = search rules
 
 returns : tie.Need-returns
 unfolding good_header row_count
 returns c = rw (length_rows, c.vm_good.ensures) (all_of_all_true _ _)
 
-pub header-good-spec : {M : Type 1} → statement M
-header-good-spec = tie.close (tie.spec vm-good-requires returns)
+pub header_good_spec : {M : Type 1} → statement M
+header_good_spec = tie.close (tie.spec vm_good-requires returns)

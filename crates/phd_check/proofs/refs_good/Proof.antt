@@ -10,53 +10,53 @@ use Rattle.phd_check.proofs.CheckLaws.{good_refs_from}
 use Rattle.phd_check.proofs.refs_good.Statement.{statement}
 use Rattle.phd_check.proofs.refs_good.Tie as tie
 
-abbrev invariant-loop : tie.invariant-loop
-invariant-loop top refs good₀ i₀ good i = (i ≤ length refs) × (good && good_refs top (drop i refs) ≡ good_refs top refs)
+abbrev invariant-loop-i : tie.invariant-loop-i
+invariant-loop-i top refs good₀ i₀ good i = (i ≤ length refs) × (good && good_refs top (drop i refs) ≡ good_refs top refs)
 
-abbrev decreases-loop : tie.decreases-loop
-decreases-loop top refs good₀ i₀ good i = length refs - i
+abbrev decreases-loop-i : tie.decreases-loop-i
+decreases-loop-i top refs good₀ i₀ good i = length refs - i
 
-loop-holds : tie.Need-loop-init invariant-loop decreases-loop
-loop-holds c = search rules
+loop-i-init : tie.Need-loop-i-init invariant-loop-i decreases-loop-i
+loop-i-init c = search rules
 
-mul-ref-good : tie.Need-overflow-mul-ref-good invariant-loop decreases-loop
-mul-ref-good c = search rules
+offset_bounds-refs-i : tie.Need-offset_bounds-refs-i invariant-loop-i decreases-loop-i
+offset_bounds-refs-i c = search rules
 
-shared-slice-read-ref-good : tie.Need-shared-slice-read-ref-good invariant-loop decreases-loop
-shared-slice-read-ref-good c = search rules
+bounds-refs-i : tie.Need-bounds-refs-i invariant-loop-i decreases-loop-i
+bounds-refs-i c = search rules
 
-ref-good-requires : tie.Need-ref-good-requires invariant-loop decreases-loop
-ref-good-requires c κs = search rules
+ref_good-good-requires : tie.Need-ref_good-good-requires invariant-loop-i decreases-loop-i
+ref_good-good-requires c κs = search rules
 
-add-i : tie.Need-overflow-add-i invariant-loop decreases-loop
-add-i c = search rules
+overflow_add-i : tie.Need-overflow_add-i invariant-loop-i decreases-loop-i
+overflow_add-i c = search rules
 
-loop-less : tie.Need-loop-smaller invariant-loop decreases-loop
-loop-less c = search rules
+loop-i-smaller : tie.Need-loop-i-smaller invariant-loop-i decreases-loop-i
+loop-i-smaller c = search rules
 
-loop-again : tie.Need-loop-preserved invariant-loop decreases-loop
-loop-again c =
+loop-i-preserved : tie.Need-loop-i-preserved invariant-loop-i decreases-loop-i
+loop-i-preserved c =
     let l = c.before.before.before in
-    (omega arith, rw c.ref-good.ensures (sym (good_refs_from _ _ l.loop.i l.loop.good (omega arith)) ∙ l.loop.invariant.1))
+    (omega arith, rw c.ref_good-good.ensures (sym (good_refs_from _ _ l.loop-i.i l.loop-i.good (omega arith)) ∙ l.loop-i.invariant.1))
 
-returns : tie.Need-returns invariant-loop decreases-loop
+returns : tie.Need-returns invariant-loop-i decreases-loop-i
 unfolding good_refs
 returns c =
     let l = c.before in
-    let a = l.before.before.args in
-    rw (drop_of_length-le a.refs.now {i = l.loop.i} (omega arith), and-true) at l.loop.invariant.1
+    let a = l.args in
+    rw (drop_of_length-le a.refs.now {i = l.loop-i.i} (omega arith), and-true) at l.loop-i.invariant.1
 
-pub refs-good-spec : {M : Type 1} → statement M
-refs-good-spec =
+pub refs_good_spec : {M : Type 1} → statement M
+refs_good_spec =
     tie.close
     (tie.spec
-    invariant-loop
-    decreases-loop
-    loop-holds
-    mul-ref-good
-    shared-slice-read-ref-good
-    ref-good-requires
-    add-i
-    loop-less
-    loop-again
+    invariant-loop-i
+    decreases-loop-i
+    loop-i-init
+    offset_bounds-refs-i
+    bounds-refs-i
+    ref_good-good-requires
+    overflow_add-i
+    loop-i-smaller
+    loop-i-preserved
     returns)

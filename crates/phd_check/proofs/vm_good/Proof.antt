@@ -6,39 +6,39 @@ use Rattle.phd_check.proofs.CheckLaws.{vm_too_long, vm_out_of_bounds, vm_by_byte
 use Rattle.phd_check.proofs.vm_good.Statement.{statement}
 use Rattle.phd_check.proofs.vm_good.Tie as tie
 
-returns : tie.Need-returns
-returns c =
+returns-then-vm-gt65535 : tie.Need-returns-then-vm-gt65535
+returns-then-vm-gt65535 c =
     let d = c.before.before in
-    let a = d.before.before.args in
-    vm_too_long a.names.now a.vm d.if1.true (omega arith)
+    let a = d.args in
+    vm_too_long a.names.now a.vm d.if-vm.true (omega arith)
 
-returns-2 : tie.Need-returns-2
-returns-2 c =
+returns-then-names-vm : tie.Need-returns-then-names-vm
+returns-then-names-vm c =
     let d = c.before.before.before.before in
-    let a = d.before.before.args in
-    vm_out_of_bounds a.names.now a.vm d.if1.true (omega arith)
+    let a = d.args in
+    vm_out_of_bounds a.names.now a.vm d.if-vm.true (omega arith)
 
-sub-if4 : tie.Need-overflow-sub-if4
-sub-if4 c = search rules
+overflow_sub-names : tie.Need-overflow_sub-names
+overflow_sub-names c = search rules
 
-returns-3 : tie.Need-returns-3
-returns-3 c =
+returns-then-names-vm-2 : tie.Need-returns-then-names-vm-2
+returns-then-names-vm-2 c =
     let d = c.before.before.before.before.before.before.before in
-    let a = d.before.before.args in
-    vm_out_of_bounds a.names.now a.vm d.if1.true (omega arith)
+    let a = d.args in
+    vm_out_of_bounds a.names.now a.vm d.if-vm.true (omega arith)
 
-all-within-requires : tie.Need-all-within-requires
-all-within-requires c κs = search rules
+all_within-requires : tie.Need-all_within-requires
+all_within-requires c κs = search rules
 
-returns-4 : tie.Need-returns-4
-returns-4 c =
+returns-then-vm : tie.Need-returns-then-vm
+returns-then-vm c =
     let d = c.before.before.before.before.before.before.before.before in
-    let a = d.before.before.args in
-    rw c.all_within.ensures (vm_by_bytes a.names.now a.vm d.if1.true (omega arith) (omega arith))
+    let a = d.args in
+    rw c.all_within.ensures (vm_by_bytes a.names.now a.vm d.if-vm.true (omega arith) (omega arith))
 
-returns-5 : tie.Need-returns-5
+returns : tie.Need-returns
 unfolding good_vm
-returns-5 c = rw c.if1.false
+returns c = rw c.if-vm.false
 
-pub vm-good-spec : {M : Type 1} → statement M
-vm-good-spec = tie.close (tie.spec returns returns-2 sub-if4 returns-3 all-within-requires returns-4 returns-5)
+pub vm_good_spec : {M : Type 1} → statement M
+vm_good_spec = tie.close (tie.spec returns-then-vm-gt65535 returns-then-names-vm overflow_sub-names returns-then-names-vm-2 all_within-requires returns-then-vm returns)

@@ -8,5 +8,5 @@ returns : tie.Need-returns
 unfolding good_addresses
 returns c = all_of_all_true _ _
 
-pub addresses-good-spec : {M : Type 1} → statement M
-addresses-good-spec = tie.close (tie.spec returns)
+pub addresses_good_spec : {M : Type 1} → statement M
+addresses_good_spec = tie.close (tie.spec returns)

@@ -8,17 +8,17 @@ use Rattle.phd_check.proofs.CheckLaws.{all_of_all_true, all_true_false, leb_sum}
 use Rattle.phd_check.proofs.numbers.class_good.Statement.{statement}
 use Rattle.phd_check.proofs.numbers.class_good.Tie as tie
 
+returns-then-n-r : tie.Need-returns-then-n-r
+unfolding good_class
+returns-then-n-r c =
+    let a = c.args in
+    sym (all_true_false _ 5 (lt-leb (a.r.place + a.r.namelen) a.available (omega arith)))
+
 returns : tie.Need-returns
 unfolding good_class
 returns c =
-    let a = c.before.before.args in
-    sym (all_true_false _ 5 (lt-leb (a.r.place + a.r.namelen) a.available (omega arith)))
-
-returns-2 : tie.Need-returns-2
-unfolding good_class
-returns-2 c =
-    let a = c.before.before.before.before.before.before.before.before.before.before.args in
+    let a = c.args in
     rw (leb_sum a.r.place a.r.namelen a.available (omega arith)) (all_of_all_true _ _)
 
-pub class-good-spec : {M : Type 1} → statement M
-class-good-spec = tie.close (tie.spec returns returns-2)
+pub class_good_spec : {M : Type 1} → statement M
+class_good_spec = tie.close (tie.spec returns-then-n-r returns)

@@ -4,21 +4,21 @@ use Rattle.phd_check.proofs.CheckLaws.{hash_3, hash_2, hash_none}
 use Rattle.phd_check.proofs.numbers.hash_good.Statement.{statement}
 use Rattle.phd_check.proofs.numbers.hash_good.Tie as tie
 
+returns-then-hashed : tie.Need-returns-then-hashed
+unfolding good_hash
+returns-then-hashed c = let r = c.args.r in rw c.if-hashed.true (hash_3 r.hashkind r.hash)
+
+returns-then-r-eq2 : tie.Need-returns-then-r-eq2
+unfolding good_hash
+returns-then-r-eq2 c =
+    let r = c.args.r in
+    rw c.if-hashed.false (hash_2 r.hashkind r.hash c.if-r-eq2.true)
+
 returns : tie.Need-returns
 unfolding good_hash
-returns c = let r = c.before.before.before.args.r in rw c.before.before.if1.true (hash_3 r.hashkind r.hash)
+returns c =
+    let r = c.args.r in
+    rw c.if-hashed.false (hash_none r.hashkind r.hash c.if-r-eq2.false)
 
-returns-2 : tie.Need-returns-2
-unfolding good_hash
-returns-2 c =
-    let r = c.before.before.before.before.args.r in
-    rw c.before.before.before.if1.false (hash_2 r.hashkind r.hash c.before.if2.true)
-
-returns-3 : tie.Need-returns-3
-unfolding good_hash
-returns-3 c =
-    let r = c.before.before.before.before.before.args.r in
-    rw c.before.before.before.before.if1.false (hash_none r.hashkind r.hash c.before.before.if2.false)
-
-pub hash-good-spec : {M : Type 1} → statement M
-hash-good-spec = tie.close (tie.spec returns returns-2 returns-3)
+pub hash_good_spec : {M : Type 1} → statement M
+hash_good_spec = tie.close (tie.spec returns-then-hashed returns-then-r-eq2 returns)

@@ -8,5 +8,5 @@ returns : tie.Need-returns
 unfolding no_name
 returns c = refl
 
-pub name-absent-spec : {M : Type 1} → statement M
-name-absent-spec = tie.close (tie.spec returns)
+pub name_absent_spec : {M : Type 1} → statement M
+name_absent_spec = tie.close (tie.spec returns)

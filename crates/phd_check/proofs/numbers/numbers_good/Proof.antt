@@ -5,26 +5,26 @@ use Rattle.phd_check.proofs.CheckLaws.{all_of_all_true}
 use Rattle.phd_check.proofs.numbers.numbers_good.Statement.{statement}
 use Rattle.phd_check.proofs.numbers.numbers_good.Tie as tie
 
-max-address-of-requires : tie.Need-max-address-of-requires
-max-address-of-requires c κs = search rules
+max_address_of-top-requires : tie.Need-max_address_of-top-requires
+max_address_of-top-requires c κs = search rules
 
-addresses-good-requires : tie.Need-addresses-good-requires
-addresses-good-requires c κs = search rules
+addresses_good-requires : tie.Need-addresses_good-requires
+addresses_good-requires c κs = search rules
 
-span-good-requires : tie.Need-span-good-requires
-span-good-requires c κs = search rules
+span_good-requires : tie.Need-span_good-requires
+span_good-requires c κs = search rules
 
-hash-good-requires : tie.Need-hash-good-requires
-hash-good-requires c κs = search rules
+hash_good-requires : tie.Need-hash_good-requires
+hash_good-requires c κs = search rules
 
-kind-good-requires : tie.Need-kind-good-requires
-kind-good-requires c κs = search rules
+kind_good-requires : tie.Need-kind_good-requires
+kind_good-requires c κs = search rules
 
 returns : tie.Need-returns
 unfolding good_numbers
 returns c =
-    rw (c.kind_good.ensures, c.before.hash_good.ensures, c.before.before.span_good.ensures, c.before.before.before.addresses_good.ensures, c.before.before.before.before.max-address-of.ensures)
+    rw (c.kind_good.ensures, c.hash_good.ensures, c.span_good.ensures, c.addresses_good.ensures, c.max_address_of-top.ensures)
     (all_of_all_true _ _)
 
-pub numbers-good-spec : {M : Type 1} → statement M
-numbers-good-spec = tie.close (tie.spec max-address-of-requires addresses-good-requires span-good-requires hash-good-requires kind-good-requires returns)
+pub numbers_good_spec : {M : Type 1} → statement M
+numbers_good_spec = tie.close (tie.spec max_address_of-top-requires addresses_good-requires span_good-requires hash_good-requires kind_good-requires returns)

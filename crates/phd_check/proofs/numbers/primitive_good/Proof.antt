@@ -5,12 +5,12 @@ use Rattle.phd_check.proofs.CheckLaws.{all_of_all_true}
 use Rattle.phd_check.proofs.numbers.primitive_good.Statement.{statement}
 use Rattle.phd_check.proofs.numbers.primitive_good.Tie as tie
 
-name-absent-requires : tie.Need-name-absent-requires
-name-absent-requires c κs = search rules
+name_absent-requires : tie.Need-name_absent-requires
+name_absent-requires c κs = search rules
 
 returns : tie.Need-returns
 unfolding good_primitive
-returns c = rw c.before.name-absent.ensures (all_of_all_true _ _)
+returns c = rw c.name_absent.ensures (all_of_all_true _ _)
 
-pub primitive-good-spec : {M : Type 1} → statement M
-primitive-good-spec = tie.close (tie.spec name-absent-requires returns)
+pub primitive_good_spec : {M : Type 1} → statement M
+primitive_good_spec = tie.close (tie.spec name_absent-requires returns)

@@ -8,5 +8,5 @@ returns : tie.Need-returns
 unfolding good_ref
 returns c = all_of_all_true _ _
 
-pub ref-good-spec : {M : Type 1} → statement M
-ref-good-spec = tie.close (tie.spec returns)
+pub ref_good_spec : {M : Type 1} → statement M
+ref_good_spec = tie.close (tie.spec returns)
