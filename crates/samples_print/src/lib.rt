@@ -42,9 +42,9 @@ pub fn print_read_answer(r: ReadAnswer) {
     print_text(b"\n");
 }
 
-// Prints the header's flags and VM string: `all_hashed 0|1 openj9 0|1 vm 0|1 place P len N`.
+// Prints the header's flags and VM string: `all-hashed 0|1 openj9 0|1 vm 0|1 place P len N`.
 fn print_header(header: Header) {
-    print_bool(b"all_hashed ", header.hashed);
+    print_bool(b"all-hashed ", header.hashed);
     print_bool(b" openj9 ", header.openj9);
     let vm = header.vm;
     print_bool(b" vm ", vm.present);
