@@ -8,7 +8,8 @@ use mathlib.Core.List.{List, [], ◌∷◌}
 use Rattle.std.proofs.Math.Dec.{ltb}
 use Rattle.decode.specs.Values.{and_left, and_right}
 use Rattle.table.specs.Rows.{is_kind, nth}
-use Rattle.table.specs.Search.{IsFirst, NoneSatisfies, first_row_at, first_row_none}
+use Rattle.table.specs.Search.{IsFirst, NoneSatisfies}
+use Rattle.table.proofs.SearchLaws.{first_row_at, first_row_none}
 use Rattle.table.specs.declared.Row.{Row}
 use Rattle.table.specs.declared.Search.{Search}
 use Rattle.table.specs.declared.Search.TheVariants.{At, NotFound}
