@@ -20,7 +20,8 @@ use Rattle.reader.specs.Reader.{next_item, append_item, initial_state, ended, no
 use Rattle.reader.specs.Steps.{step_cases, OnTransition, read_induction}
 use Rattle.reader.specs.RowOrigins.{offset_of, StateAfter, RowOrigin}
 use Rattle.phd.specs.Phd.{slot_after, push, slot, tag_form, need_form, slot_class, shape, field_or, row, from_ref_count, fields, record_body, from_tag, RecordContext, Item, end_item, item, entry, header, State, Result, Transition, phd, capacity, go, halt, read_result}
-use Rattle.phd.specs.ClassCache.{push_all, slot_push_all}
+use Rattle.phd.specs.ClassCache.{push_all}
+use Rattle.phd.proofs.ClassCache.{slot_push_all}
 use Rattle.phd.specs.EntryLaws.{origin_at, entry_from_tag}
 use Rattle.phd.specs.Shapes.{ValidBits, bits_bytes_nonzero, tag_matches}
 use Rattle.phd.specs.declared.cache.Cache.{Cache}
