@@ -12,10 +12,13 @@ use Rattle.decode.specs.Takes.{Takes, takes_yield, takes_then, takes_cases, take
 use Rattle.table.specs.Table.{row_count}
 use Rattle.reader.specs.Reader.{limit, Capacity, capacity, ◌⊑◌, Item, end_item, item, Format, ended, transition, step, records, initial_state, from_header, read_result}
 use Rattle.reader.specs.Steps.{ValidRow, empty_row, full_row, Lawful, byte_advances}
-use Rattle.reader.specs.DumpBounds.{LeastBytes, stored_bound}
-use Rattle.reader.specs.Prefixes.{ResultPrefix, cuts_prefix}
-use Rattle.reader.specs.MissingBytes.{completed_end_after}
-use Rattle.reader.specs.RowOrigins.{offset_of, AllRowOrigins, read_row_origins, record_ends_before}
+use Rattle.reader.specs.DumpBounds.{LeastBytes}
+use Rattle.reader.proofs.DumpBounds.{stored_bound}
+use Rattle.reader.specs.Prefixes.{ResultPrefix}
+use Rattle.reader.proofs.Prefixes.{cuts_prefix}
+use Rattle.reader.proofs.MissingBytes.{completed_end_after}
+use Rattle.reader.specs.RowOrigins.{offset_of, AllRowOrigins}
+use Rattle.reader.proofs.RowOrigins.{read_row_origins, record_ends_before}
 
 -- ---- the format
 
