@@ -18,7 +18,8 @@ use Rattle.table.specs.Table.{row_width}
 use Rattle.reader.specs.Reader.{ended}
 use Rattle.reader.specs.TableSteps as Any
 use Rattle.reader.proofs.TableSteps as AnyLaws
-use Rattle.reader_toy.specs.Toy.{row, toy_record, toy, run_toy_record, lawful}
+use Rattle.reader_toy.specs.Toy.{row, toy_record, toy, run_toy_record}
+use Rattle.reader_toy.proofs.Toy.{lawful}
 use Rattle.reader_toy.specs.ReaderSpecs.{answer, records_from, record_row_width, cursor_of, CursorValid, RecordAt, StepContract}
 use Rattle.reader_toy.specs.declared.Cursor.{Cursor}
 use Rattle.reader.specs.declared.StepResult.TheVariants.{Continue, End}
