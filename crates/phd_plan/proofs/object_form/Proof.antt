@@ -1,6 +1,6 @@
 -- `object_form` satisfies its contract: each test of the code is a test of the definition.
 use borrow.Author.Rules.{rules}
-use borrow.Author.Tests.{le-leb, lt-leb}
+use borrow.Author.Tests.{le-leb, lt-leb, lt-ltb, le-ltb}
 use lib.Dec.{leb, ltb}
 use mathlib.Core.Bool.{false, ◌&&◌}
 use mathlib.Core.Logic.{⊎_elim}
@@ -17,12 +17,16 @@ not_short : (c : tie.Joined-else-m-le3) → let m = c.args.m in
     leb m.count 3 && (ltb m.slot 4 && ltb m.gap 2) ≡ false
 not_short c =
     ⊎_elim
-    (λ w. rw (le-leb _ _ w.0.taken, w.2.taken, w.4.left))
-    (⊎_elim (λ w. rw (le-leb _ _ w.0.taken, w.2.left)) (λ w. rw (lt-leb _ _ w.left)))
-    c.else-m-le3.branch
+    (λ w. rw (le-leb _ _ w.if-m-le3.true, lt-ltb _ _ w.if-m-lt4.true, le-ltb _ _ w.if-m-lt2.false))
+    (⊎_elim (λ w. rw (le-leb _ _ w.if-m-le3.true, le-ltb _ _ w.if-m-lt4.false)) (λ w. rw (lt-leb _ _ w.if-m-le3.false)))
+    c.else-m-le3.branch-raw
 
 not-medium : (c : tie.Joined-else-m-le7) → let m = c.args.m in leb m.count 7 && ltb m.gap 2 ≡ false
-not-medium c = ⊎_elim (λ w. rw (le-leb _ _ w.0.taken, w.2.left)) (λ w. rw (lt-leb _ _ w.left)) c.else-m-le7.branch
+not-medium c =
+    ⊎_elim
+    (λ w. rw (le-leb _ _ w.if-m-le7.true, le-ltb _ _ w.if-m-lt2-2.false))
+    (λ w. rw (lt-leb _ _ w.if-m-le7.false))
+    c.else-m-le7.branch-raw
 
 needs_flag_byte-requires : tie.Need-needs_flag_byte-requires
 needs_flag_byte-requires c κs = search rules
@@ -35,14 +39,14 @@ returns-then-m-lt2 : tie.Need-returns-then-m-lt2
 unfolding object_form
 returns-then-m-lt2 c =
     let d = c.before.before.before.before in
-    rw (plain d.before.before, le-leb _ _ d.if-m-le3.true, c.if-m-lt4.true, c.if-m-lt2.true)
+    rw (plain d.before.before, le-leb _ _ d.if-m-le3.true, lt-ltb _ _ c.if-m-lt4.true, lt-ltb _ _ c.if-m-lt2.true)
 
 returns-then-m-lt2-2 : tie.Need-returns-then-m-lt2-2
 unfolding object_form
 returns-then-m-lt2-2 c =
     let d = c.before.before in
     let j = d.before.before in
-    rw (plain j.before.before, not_short j, le-leb _ _ d.if-m-le7.true, c.if-m-lt2-2.true)
+    rw (plain j.before.before, not_short j, le-leb _ _ d.if-m-le7.true, lt-ltb _ _ c.if-m-lt2-2.true)
 
 returns : tie.Need-returns
 unfolding object_form

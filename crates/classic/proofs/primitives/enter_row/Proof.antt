@@ -37,9 +37,9 @@ loop-i-preserved : tie.Need-loop-i-preserved invariant-loop-i decreases-loop-i
 loop-i-preserved c =
     let l = c.before.before.before in
     ⊎_elim
-    (λ w. rw w.1 (entered_store _ _ _ _ _ l.loop-i.invariant (omega arith) (sym c.is_class_named.ensures ∙ w.0.taken)))
-    (λ w. rw w.1 (entered_skip _ _ _ _ _ l.loop-i.invariant (omega arith) (sym c.is_class_named.ensures ∙ w.0.left)))
-    c.if-is_class_named.branch
+    (λ w. rw w.entered-is (entered_store _ _ _ _ _ l.loop-i.invariant (omega arith) (sym c.is_class_named.ensures ∙ w.if-is_class_named.true)))
+    (λ w. rw w.entered-is (entered_skip _ _ _ _ _ l.loop-i.invariant (omega arith) (sym c.is_class_named.ensures ∙ w.if-is_class_named.false)))
+    c.if-is_class_named.branch-raw
 
 returns-after-loop-i : tie.Need-returns-after-loop-i invariant-loop-i decreases-loop-i
 returns-after-loop-i c = entered_end _ _ _ _ _ c.loop-i.invariant (omega arith)
