@@ -13,7 +13,7 @@ shape_of-buckets : tie.Need-shape_of-buckets
 shape_of-buckets c = search rules
 
 returns : tie.Need-returns
-returns c = (c.finds_row.ensures, c.enter-class.ensures)
+returns c = (c.finds_row.ensures, c.enter_class.ensures)
 
 pub enter_and_check_spec : {M : Type 1} → statement M
 enter_and_check_spec = tie.close (tie.spec enter_class-requires finds_row-requires shape_of-buckets returns)

@@ -70,11 +70,11 @@ loop-i-preserved c =
       classes_step _ _ _ _ _ _ l.loop-i.invariant.0 (omega arith) r.row_at-row.ensures c.enter_row-entered.ensures,
       ⊎_elim
           (λ w.
-          let t : tie.Then-certified-row invariant-loop-i decreases-loop-i = record { before = j.before; if1 = w.0 } in
+          let t : tie.Then-certified-row invariant-loop-i decreases-loop-i = record { before = j.before; if-certified-row = w.if-certified-row } in
           let all = rw (all-entered t) at l.loop-i.invariant.1.0 in
-          (rw (w.5, w.6) (entered_class _ _ _ _ _ _ (omega arith) most r.row_at-row.ensures (class t) all w.2.ensures.1 w.2.ensures.0), ap length w.5 ∙ (w.2.kept.1.0 ∙ kept)))
-          (λ w. (rw (w.1, w.2) (entered_other _ _ _ _ _ (omega arith) most r.row_at-row.ensures w.0.left l.loop-i.invariant.1.0), ap length w.1 ∙ kept))
-          j.if-certified-row.branch,
+          (rw (w.buckets-is, w.certified-is) (entered_class _ _ _ _ _ _ (omega arith) most r.row_at-row.ensures (class t) all w.enter_and_check-certified.ensures.1 w.enter_and_check-certified.ensures.0), ap length w.buckets-is ∙ (w.enter_and_check-certified.kept.1.0 ∙ kept)))
+          (λ w. (rw (w.buckets-is, w.certified-is) (entered_other _ _ _ _ _ (omega arith) most r.row_at-row.ensures w.if-certified-row.false l.loop-i.invariant.1.0), ap length w.buckets-is ∙ kept))
+          j.if-certified-row.branch-raw,
     )
 
 shape_of-buckets : tie.Need-shape_of-buckets invariant-loop-i decreases-loop-i

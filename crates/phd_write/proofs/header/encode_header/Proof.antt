@@ -30,7 +30,7 @@ abbrev preamble : tie.After-encode_preamble-vm → WriteProgress
 preamble c = progress_next (none c.before) c.encode_preamble-vm.ensures
 
 abbrev vm : tie.After-encode_vm-end → WriteProgress
-vm c = progress_next (preamble c.before.before.before.before) c.encode_vm-end.ensures
+vm c = progress_next (preamble c.before.before.before.before.before) c.encode_vm-end.ensures
 
 abbrev end : tie.After-encode_be-body → WriteProgress
 end c = progress_next (vm c.before.before.before.before) c.encode_be-body.ensures
@@ -42,7 +42,7 @@ encode_preamble-vm-requires : tie.Need-encode_preamble-vm-requires
 encode_preamble-vm-requires c κs = next_part_fits (none c)
 
 encode_vm-end-requires : tie.Need-encode_vm-end-requires
-encode_vm-end-requires c κs = let p = c.before.before.before in ((start p.before).requires.0, next_part_fits (preamble p))
+encode_vm-end-requires c κs = let p = c.before.before.before.before in ((start p.before).requires.0, next_part_fits (preamble p))
 
 encode_be-body-requires : tie.Need-encode_be-body-requires
 encode_be-body-requires c κs = next_part_fits (vm c.before.before.before)

@@ -26,13 +26,13 @@ abbrev len : tie.After-encode_be-opening → WriteProgress
 len c = progress_next (none c.before.before.before) c.encode_be-opening.ensures
 
 -- The bytes written after the length are the opening string.
-opened : (c : tie.After-encode_bytes-version) → let p = len c.before.before.before.before.before in
+opened : (c : tie.After-encode_bytes-version) → let p = len c.before.before.before.before.before.before in
     Writes p.out p.at magic c.encode_bytes-version.new.out c.encode_bytes-version.result
 unfolding magic
 opened c = c.encode_bytes-version.ensures
 
 abbrev text : tie.After-encode_bytes-version → WriteProgress
-text c = progress_next (len c.before.before.before.before.before) (opened c)
+text c = progress_next (len c.before.before.before.before.before.before) (opened c)
 
 abbrev version : tie.After-encode_be-bits → WriteProgress
 version c = progress_next (text c.before.before.before.before) c.encode_be-bits.ensures
@@ -43,12 +43,9 @@ bits c = progress_next (version c.before.before.before.before) c.encode_be-one.e
 encode_be-opening-requires : tie.Need-encode_be-opening-requires
 encode_be-opening-requires c κs = next_part_fits (none c.before.before)
 
-slice-aggregate-encode-bytes : tie.Need-slice-aggregate-encode-bytes
-slice-aggregate-encode-bytes c = search rules
-
 encode_bytes-version-requires : tie.Need-encode_bytes-version-requires
 unfolding magic
-encode_bytes-version-requires c κs = next_part_fits (len c.before.before.before.before)
+encode_bytes-version-requires c κs = next_part_fits (len c.before.before.before.before.before)
 
 encode_be-bits-requires : tie.Need-encode_be-bits-requires
 encode_be-bits-requires c κs = next_part_fits (text c.before.before.before)
@@ -70,7 +67,6 @@ encode_preamble_spec =
     tie.close
     (tie.spec
     encode_be-opening-requires
-    slice-aggregate-encode-bytes
     encode_bytes-version-requires
     encode_be-bits-requires
     encode_be-one-requires

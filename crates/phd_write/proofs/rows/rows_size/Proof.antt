@@ -35,7 +35,7 @@ inside c = omega arith
 
 -- What holds of the next row.
 this_step : (c : tie.In-loop-i invariant-loop-i decreases-loop-i) → let a = (start c).args in let l = (head c).loop-i in
-    RowStep a.h a.names.now a.refs.now a.rows.now l.i l.inv.index l.before l.cache
+    RowStep a.h a.names.now a.refs.now a.rows.now l.i l.invariant.index l.before l.cache
 this_step c = row_step _ _ _ _ _ _ _ _ (bits_good (start c)) (head c).loop-i.invariant.between (inside c)
 
 new-cache-requires : tie.Need-new-cache-requires invariant-loop-i decreases-loop-i
