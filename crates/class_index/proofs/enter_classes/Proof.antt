@@ -72,7 +72,7 @@ loop-i-preserved c =
           (λ w.
           let t : tie.Then-certified-row invariant-loop-i decreases-loop-i = record { before = j.before; if-certified-row = w.if-certified-row } in
           let all = rw (all-entered t) at l.loop-i.invariant.1.0 in
-          (rw (w.buckets-is, w.certified-is) (entered_class _ _ _ _ _ _ (omega arith) most r.row_at-row.ensures (class t) all w.enter_and_check-certified.ensures.1 w.enter_and_check-certified.ensures.0), ap length w.buckets-is ∙ (w.enter_and_check-certified.kept.1.0 ∙ kept)))
+          (rw (w.buckets-is, w.certified-is) (entered_class _ _ _ _ _ _ (omega arith) most r.row_at-row.ensures (class t) all w.enter_and_check-certified.ensures.1 w.enter_and_check-certified.ensures.0), ap length w.buckets-is ∙ (w.enter_and_check-certified.auto.buckets ∙ kept)))
           (λ w. (rw (w.buckets-is, w.certified-is) (entered_other _ _ _ _ _ (omega arith) most r.row_at-row.ensures w.if-certified-row.false l.loop-i.invariant.1.0), ap length w.buckets-is ∙ kept))
           j.if-certified-row.branch-raw,
     )
