@@ -16,7 +16,7 @@ in_bounds t = rw t.if-kind-eq4.true at t.requires.1.1
 
 encode_bytes-name-requires : tie.Need-encode_bytes-name-requires
 encode_bytes-name-requires c κs =
-    let t = c.before.before in
+    let t = c.before.before.before in
     let s = t.before.before.before in
     capacity_first s.args.out.now s.args.at (91 ∷ []) (get_or letters s.args.prim 0 ∷ []) (in_bounds t)
 
