@@ -92,21 +92,33 @@ decodes_step h r rs j more_rows more_refs ih before c p pre refs g e =
     rw (append_assoc r.refs (all_refs decoded) more_refs, append_assoc (decoded_row h p before c r) rows more_rows)
     (recs_cons (length decoded) s ref_table (decoded_row h p before c r) (rows ++ more_rows) r decoded (length_decoded_row h p before c r) this others)
 
+-- The records within a cut at m, of a first record that is whole.
+within_cut_whole : (m : ℕ) (h : Header) (p before : ℕ) (c : Cache) (r : Rec) (rs : List Rec) → let e = p + length (encode_record h before c r) in
+    e ≤ m → within_cut m h p before c (r ∷ rs) ≡ r ∷ within_cut m h e r.row.address (cache_after h before c r) rs
+unfolding within_cut
+within_cut_whole m h p before c r rs l = rw (le-leb (p + length (encode_record h before c r)) m l)
+
+-- And of one that is cut: none.
+within_cut_cut : (m : ℕ) (h : Header) (p before : ℕ) (c : Cache) (r : Rec) (rs : List Rec) → m < p + length (encode_record h before c r)
+    → within_cut m h p before c (r ∷ rs) ≡ []
+unfolding within_cut
+within_cut_cut m h p before c r rs l = rw (lt-leb (p + length (encode_record h before c r)) m l)
+
 -- `Decodes` for a first record that may be cut.
 decodes_cons : (h : Header) (r : Rec) (rs : List Rec) (j : ℕ) (more_rows more_refs : List ℕ) → ((i : ℕ) → Decodes h i more_rows more_refs rs)
     → Decodes h j more_rows more_refs (r ∷ rs)
-unfolding within_cut recs encode_records
+unfolding recs encode_records
 decodes_cons h r rs j more_rows more_refs ih before c p pre refs g e =
     let n : ℕ = length (encode_record h before c r) in
     elim (dec_le n j) [
       | yes q ↦
           let a : p + n ≤ p + j = omega arith in
           let b : p + j ≡ p + n + (j - n) = omega arith in
-          rw (le-leb (p + n) (p + j) a, b, take_past (encode_record h before c r) (encode_records h r.row.address (cache_after h before c r) rs) j q)
+          rw (within_cut_whole (p + j) h p before c r rs a, b, take_past (encode_record h before c r) (encode_records h r.row.address (cache_after h before c r) rs) j q)
           (decodes_step h r rs (j - n) more_rows more_refs (ih (j - n)) before c p pre refs g e)
       | no q ↦
           let a : p + j < p + n = omega arith in
-          rw (lt-leb (p + n) (p + j) a)
+          rw (within_cut_cut (p + j) h p before c r rs a)
     ]
 
 decodes : (h : Header) (more_rows more_refs : List ℕ) (rs : List Rec) (j : ℕ) → Decodes h j more_rows more_refs rs

@@ -20,7 +20,7 @@ use Rattle.classic_write.proofs.size_good.Tie as tie
 
 -- The start of the function, seen from where the version line was sized.
 abbrev start : tie.After-version_size-first → tie.Start
-start c = c.before.before.before.before.before
+start c = c.before.before.before.before.before.before
 
 right : (c : tie.After-version_size-first) → let a = (start c).args in TablesGood a.header a.names.now a.refs.now (rows_of a.rows.now)
 right c = (start c).requires.0

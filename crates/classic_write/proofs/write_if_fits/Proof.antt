@@ -30,21 +30,21 @@ enough c = let s = (start c).requires.0.size_is in omega arith
 
 write_version-at-requires : tie.Need-write_version-at-requires
 write_version-at-requires c κs =
-    let d = c.before in
+    let d = c.before.before in
     let a = (start d).args in
     let p = (start d).requires.0 in
     (good_vm_in_bounds _ _ _ _ p.tables_good, version_capacity a.header a.names.now a.refs.now (rows_of a.rows.now) _ p.tally_is a.out.now (enough d))
 
 write_rows_text-end-requires : tie.Need-write_rows_text-end-requires
 write_rows_text-end-requires c κs =
-    let d = c.before.before.before.before.before in
+    let d = c.before.before.before.before.before.before in
     let a = (start d).args in
     let p = (start d).requires.0 in
     (header_bits_good _ _ _ _ p.tables_good.0, ((start d).requires.1.0, ((start d).requires.1.1, (all_in_bounds _ _ _ _ p.tables_good, (p.classes, (all_refs_in_bounds _ _ _ _ p.tables_good, rows_capacity a.header a.names.now a.refs.now (rows_of a.rows.now) _ p.tally_is _ (enough d) c.write_version-at.ensures))))))
 
 write_trailers-requires : tie.Need-write_trailers-requires
 write_trailers-requires c κs =
-    let d = c.before.before.before.before.before.before.before.before.before in
+    let d = c.before.before.before.before.before.before.before.before.before.before in
     let a = (start d).args in
     let p = (start d).requires.0 in
     (tally_bound_of _ _ _ _ _ p.tally_is p.tables_good, trailers_capacity a.header a.names.now a.refs.now (rows_of a.rows.now) _ p.tally_is _ (enough d) c.write_version-at.ensures c.write_rows_text-end.ensures)
@@ -54,7 +54,7 @@ shape_of-out c = search rules
 
 returns : tie.Need-returns
 returns c =
-    let d = c.before.before.before.before.before.before.before.before.before.before.before.before in
+    let d = c.before.before.before.before.before.before.before.before.before.before.before.before.before in
     let p = (start d).requires.0 in
     let s = size_query_agrees _ _ _ _ _ (length (start d).args.out.now) (checked_text_reply p) in
     let z = s.done.1 (refl, omega arith) in (

@@ -36,8 +36,8 @@ row c = c.before.before.before
 
 -- There the last search is that after the row.
 searched : (c : tie.Joined-row invariant-loop-i decreases-loop-i) → let w = row c in
-    c.if-row.new ≡ search_after (rows_of (start w.before).args.rows.now) w.row_at-row.result w.loop-i.last
-searched c = ⊎_elim (λ w. search_after_instance _ _ _ _ w.0.taken (w.2 ∙ w.1.ensures)) (λ w. search_after_other _ _ _ _ w.0.left w.1) c.if-row.branch
+    c.if-row.last ≡ search_after (rows_of (start w.before).args.rows.now) w.row_at-row.result w.loop-i.last
+searched c = ⊎_elim (λ w. search_after_instance _ _ _ _ w.if-row.true (w.last-is ∙ w.search_class-last.ensures)) (λ w. search_after_other _ _ _ _ w.if-row.false w.last-is) c.if-row.branch-raw
 
 -- The size that an iteration found is its row's, whose class row is not missing.
 means : (c : tie.In-Bytes invariant-loop-i decreases-loop-i) → let w = row c.before.before in let a = (start w.before).args in
@@ -97,7 +97,7 @@ add_row-tally-requires c κs =
     counted_no_overflow _ _ _ d.loop-i.invariant.1.1 _ (inside d) w.row_at-row.ensures (start d).requires.1.1.1.1
 
 overflow_add-i : tie.Need-overflow_add-i invariant-loop-i decreases-loop-i
-overflow_add-i c = let d = (row c.before.before.before).before in omega (arith, d.loop-i-test.taken, (start d).well_formed.1.1.0)
+overflow_add-i c = let d = (row c.before.before.before).before in omega (arith, d.loop-i-test.true, (start d).well_formed.1.1.0)
 
 loop-i-smaller : tie.Need-loop-i-smaller invariant-loop-i decreases-loop-i
 loop-i-smaller c = search rules

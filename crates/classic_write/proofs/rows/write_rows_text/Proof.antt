@@ -34,8 +34,8 @@ row c = c.before.before.before
 
 -- There the last search is that after the row.
 searched : (c : tie.Joined-row invariant-loop-i decreases-loop-i) → let w = row c in
-    c.if-row.new ≡ search_after (rows_of (start w.before).args.rows.now) w.row_at-row.result w.loop-i.last
-searched c = ⊎_elim (λ w. search_after_instance _ _ _ _ w.0.taken (w.2 ∙ w.1.ensures)) (λ w. search_after_other _ _ _ _ w.0.left w.1) c.if-row.branch
+    c.if-row.last ≡ search_after (rows_of (start w.before).args.rows.now) w.row_at-row.result w.loop-i.last
+searched c = ⊎_elim (λ w. search_after_instance _ _ _ _ w.if-row.true (w.last-is ∙ w.search_class-last.ensures)) (λ w. search_after_other _ _ _ _ w.if-row.false w.last-is) c.if-row.branch-raw
 
 no_search-last-requires : tie.Need-no_search-last-requires invariant-loop-i decreases-loop-i
 no_search-last-requires c κs = search rules
@@ -68,7 +68,7 @@ write_row_text-to-requires c κs =
     (p.0, (p.1.1.1.0, (in_bounds w, (row_known_kind _ _ _ (inside d) e _ p.1.1.1.0, (search_after_found _ _ _ _ (searched j), (shown, (row_has_class _ _ _ (inside d) e p.1.1.1.1.0, (row_refs_in_bounds _ _ _ (inside d) e _ p.1.1.1.1.1.0, write_loop_capacity _ _ _ _ _ _ _ _ _ _ d.loop-i.invariant.0 (inside d) e))))))))
 
 overflow_add-i : tie.Need-overflow_add-i invariant-loop-i decreases-loop-i
-overflow_add-i c = let d = (row c.before.before.before.before.before).before in omega (arith, d.loop-i-test.taken, (start d).well_formed.1.1.1.1.1.0)
+overflow_add-i c = let d = (row c.before.before.before.before.before).before in omega (arith, d.loop-i-test.true, (start d).well_formed.1.1.1.1.1.0)
 
 loop-i-smaller : tie.Need-loop-i-smaller invariant-loop-i decreases-loop-i
 loop-i-smaller c = search rules
