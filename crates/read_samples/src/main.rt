@@ -31,6 +31,9 @@ const ROWS: usize = 48 * table::ROW_WIDTH + 5;
 // The length of the reference table.
 const REFS: usize = 70;
 
+// The capacity for a file.
+const BYTES: usize = 4096;
+
 // The value of every number of the tables before a reading.
 const UNTOUCHED: u64 = 0x5EED_5EED_5EED_5EED;
 
@@ -169,11 +172,11 @@ fn run_sample(rt: &impl Print, dump: &[u8]) -> io::Result<()> {
 
 // Prints the name of a file and everything for its dump.
 fn run_file(rt: &impl Print, name: &str, mut file: impl Read + Drop) -> io::Result<()> {
-    let mut dump = [0; 4096];
+    let mut dump = [0; BYTES];
     let n = read_full(&mut file, &mut dump);
     print_text(rt, name.as_bytes())?;
     print_text(rt, b"\n")?;
-    if 4096 <= n {
+    if BYTES <= n {
         return print_text(rt, b"too large\n");
     }
     run_sample(rt, &dump[..n])

@@ -32,6 +32,9 @@ use std::{env, io};
 // The number of bytes in a line.
 const LINE: usize = 32;
 
+// The capacity for a file.
+const FILE: usize = 0x1_0000;
+
 // The capacity for name bytes and for output.
 const BYTES: usize = 0x1_1000;
 
@@ -166,7 +169,7 @@ fn run_sample(rt: &impl Print, s: &[u8]) -> io::Result<()> {
 
 // Prints the name of a file and everything for its tables.
 fn run_file(rt: &impl Print, name: &str, mut file: impl Read + Drop) -> io::Result<()> {
-    let mut bytes = [0; 0x1_0000];
+    let mut bytes = [0; FILE];
     let n = read_full(&mut file, &mut bytes);
     print_text(rt, name.as_bytes())?;
     print_text(rt, b"\n")?;
