@@ -51,7 +51,7 @@ struct Stepped {
 
 // Returns the answer of a step that ends the reading: the cursor is unchanged.
 fn end_step(k: Cursor, reply: u64, place: usize, missing: usize) -> Stepped
-    ensures* { λ r. ⌜ r ≡ record { result = End reply place missing; cursor = k } ⌝ }
+    ensures { result ≡ record { result = End reply place missing; cursor = k } }
 {
     Stepped {
         result: StepResult::End(reply, place, missing),

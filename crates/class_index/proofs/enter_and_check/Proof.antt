@@ -3,17 +3,17 @@ use borrow.Author.Rules.{rules}
 use Rattle.class_index.proofs.enter_and_check.Statement.{statement}
 use Rattle.class_index.proofs.enter_and_check.Tie as tie
 
-enter-class-requires : tie.Need-enter-class-requires
-enter-class-requires c κs = search rules
+enter_class-requires : tie.Need-enter_class-requires
+enter_class-requires c κs = search rules
 
-finds-row-requires : tie.Need-finds-row-requires
-finds-row-requires c κs = search rules
+finds_row-requires : tie.Need-finds_row-requires
+finds_row-requires c κs = search rules
 
-same_length : tie.Need-same-length
-same_length c = search rules
+shape_of-buckets : tie.Need-shape_of-buckets
+shape_of-buckets c = search rules
 
 returns : tie.Need-returns
-returns c = (c.finds-row.ensures, c.before.before.before.before.enter-class.ensures)
+returns c = (c.finds_row.ensures, c.enter_class.ensures)
 
-pub enter-and-check-spec : {M : Type 1} → statement M
-enter-and-check-spec = tie.close (tie.spec enter-class-requires finds-row-requires same_length returns)
+pub enter_and_check_spec : {M : Type 1} → statement M
+enter_and_check_spec = tie.close (tie.spec enter_class-requires finds_row-requires shape_of-buckets returns)

@@ -9,119 +9,119 @@ use Rattle.class_index.specs.Entering.{entering_keeps, same_keeps}
 use Rattle.class_index.proofs.enter_class.Statement.{statement}
 use Rattle.class_index.proofs.enter_class.Tie as tie
 
-abbrev invariant-loop : tie.invariant-loop
-invariant-loop rows buckets₀ i address at₀ end buckets at = buckets ≡ buckets₀
+abbrev invariant-loop-at : tie.invariant-loop-at
+invariant-loop-at rows buckets₀ i address at₀ end buckets at = buckets ≡ buckets₀
 
-abbrev decreases-loop : tie.decreases-loop
-decreases-loop rows buckets₀ i address at₀ end buckets at = end - at
+abbrev decreases-loop-at : tie.decreases-loop-at
+decreases-loop-at rows buckets₀ i address at₀ end buckets at = end - at
 
-first-bucket-requires : tie.Need-first-bucket-requires invariant-loop decreases-loop
-first-bucket-requires c κs = search rules
+first_bucket-at-requires : tie.Need-first_bucket-at-requires invariant-loop-at decreases-loop-at
+first_bucket-at-requires c κs = search rules
 
-add-min : tie.Need-overflow-add-min invariant-loop decreases-loop
-add-min c = search rules
+overflow_add-at : tie.Need-overflow_add-at invariant-loop-at decreases-loop-at
+overflow_add-at c = search rules
 
-min-requires : tie.Need-min-requires invariant-loop decreases-loop
-min-requires c κs = search rules
+min-end-requires : tie.Need-min-end-requires invariant-loop-at decreases-loop-at
+min-end-requires c κs = search rules
 
-loop-holds : tie.Need-loop-init invariant-loop decreases-loop
-loop-holds c = search rules
+loop-at-init : tie.Need-loop-at-init invariant-loop-at decreases-loop-at
+loop-at-init c = search rules
 
-mul-entry : tie.Need-overflow-mul-entry invariant-loop decreases-loop
-mul-entry c = search rules
+offset_bounds-buckets-at : tie.Need-offset_bounds-buckets-at invariant-loop-at decreases-loop-at
+offset_bounds-buckets-at c = search rules
 
-slice-read-entry : tie.Need-slice-read-entry invariant-loop decreases-loop
-slice-read-entry c = let e = ap length c.before.before.loop.invariant in omega arith
+bounds-buckets-at : tie.Need-bounds-buckets-at invariant-loop-at decreases-loop-at
+bounds-buckets-at c = let e = ap length c.loop-at.invariant in omega arith
 
-entry-of-requires : tie.Need-entry-of-requires invariant-loop decreases-loop
-entry-of-requires c κs = search rules
+entry_of-requires : tie.Need-entry_of-requires invariant-loop-at decreases-loop-at
+entry_of-requires c κs = search rules
 
-mul-buckets : tie.Need-overflow-mul-buckets invariant-loop decreases-loop
-mul-buckets c = search rules
+offset_bounds-buckets-at-then-entry-eq0 : tie.Need-offset_bounds-buckets-at-then-entry-eq0 invariant-loop-at decreases-loop-at
+offset_bounds-buckets-at-then-entry-eq0 c = search rules
 
-slice-write-buckets : tie.Need-slice-write-buckets invariant-loop decreases-loop
-slice-write-buckets c = let e = ap length c.before.before.before.before.loop.invariant in omega arith
+bounds-buckets-at-then-entry-eq0 : tie.Need-bounds-buckets-at-then-entry-eq0 invariant-loop-at decreases-loop-at
+bounds-buckets-at-then-entry-eq0 c = let e = ap length c.loop-at.invariant in omega arith
 
-same_length : tie.Need-same-length invariant-loop decreases-loop
-same_length c = simp length-set (ap length c.before.before.before.before.loop.invariant)
+shape_of-buckets-then-entry-eq0 : tie.Need-shape_of-buckets-then-entry-eq0 invariant-loop-at decreases-loop-at
+shape_of-buckets-then-entry-eq0 c = simp length-set (ap length c.loop-at.invariant)
 
-returns : tie.Need-returns invariant-loop decreases-loop
-returns c =
+returns-then-entry-eq0 : tie.Need-returns-then-entry-eq0 invariant-loop-at decreases-loop-at
+returns-then-entry-eq0 c =
     let l = c.before.before.before.before in
-    let p = l.before.before.before.before.before.requires in
-    rw (c.entry_of.ensures, l.loop.invariant) (entering_keeps _ _ _ p.1 _ _ (inl (rw l.loop.invariant at c.before.if1.true)))
+    let p = l.requires in
+    rw (c.entry_of.ensures, l.loop-at.invariant) (entering_keeps _ _ _ p.1 _ _ (inl (rw l.loop-at.invariant at c.if-entry-eq0.true)))
 
-row-of-requires : tie.Need-row-of-requires invariant-loop decreases-loop
-row-of-requires c κs = search rules
+row_of-requires : tie.Need-row_of-requires invariant-loop-at decreases-loop-at
+row_of-requires c κs = search rules
 
-is-class-row-requires : tie.Need-is-class-row-requires invariant-loop decreases-loop
-is-class-row-requires c κs = search rules
+is_class_row-requires : tie.Need-is_class_row-requires invariant-loop-at decreases-loop-at
+is_class_row-requires c κs = search rules
 
-entry-of-requires-2 : tie.Need-entry-of-requires-2 invariant-loop decreases-loop
-entry-of-requires-2 c κs = search rules
+entry_of-requires-then-is_class_row : tie.Need-entry_of-requires-then-is_class_row invariant-loop-at decreases-loop-at
+entry_of-requires-then-is_class_row c κs = search rules
 
-mul-buckets-2 : tie.Need-overflow-mul-buckets-2 invariant-loop decreases-loop
-mul-buckets-2 c = search rules
+offset_bounds-buckets-at-then-is_class_row : tie.Need-offset_bounds-buckets-at-then-is_class_row invariant-loop-at decreases-loop-at
+offset_bounds-buckets-at-then-is_class_row c = search rules
 
-slice-write-buckets-2 : tie.Need-slice-write-buckets-2 invariant-loop decreases-loop
-slice-write-buckets-2 c = let e = ap length c.before.before.before.before.before.before.before.loop.invariant in omega arith
+bounds-buckets-at-then-is_class_row : tie.Need-bounds-buckets-at-then-is_class_row invariant-loop-at decreases-loop-at
+bounds-buckets-at-then-is_class_row c = let e = ap length c.loop-at.invariant in omega arith
 
-same-length-2 : tie.Need-same-length-2 invariant-loop decreases-loop
-same-length-2 c = simp length-set (ap length c.before.before.before.before.before.before.before.loop.invariant)
+shape_of-buckets-then-is_class_row : tie.Need-shape_of-buckets-then-is_class_row invariant-loop-at decreases-loop-at
+shape_of-buckets-then-is_class_row c = simp length-set (ap length c.loop-at.invariant)
 
-returns-2 : tie.Need-returns-2 invariant-loop decreases-loop
-returns-2 c =
+returns-then-is_class_row : tie.Need-returns-then-is_class_row invariant-loop-at decreases-loop-at
+returns-then-is_class_row c =
     let k = c.before.before in
     let o = k.before in
     let l = o.before.before.before.before in
-    let p = l.before.before.before.before.before.requires in
-    let same = sym (rw o.row_of.ensures at k.is_class_row.ensures) ∙ c.before.if2.true in
-    rw (c.entry-of2.ensures, l.loop.invariant) (entering_keeps _ _ _ p.1 _ _ (inr (rw l.loop.invariant at same)))
+    let p = l.requires in
+    let same = sym (rw o.row_of.ensures at k.is_class_row.ensures) ∙ c.if-is_class_row.true in
+    rw (c.entry_of-then-is_class_row.ensures, l.loop-at.invariant) (entering_keeps _ _ _ p.1 _ _ (inr (rw l.loop-at.invariant at same)))
 
-add_at : tie.Need-overflow-add-at invariant-loop decreases-loop
-add_at c = search rules
+overflow_add-at-in-loop-at : tie.Need-overflow_add-at-in-loop-at invariant-loop-at decreases-loop-at
+overflow_add-at-in-loop-at c = search rules
 
-loop-less : tie.Need-loop-smaller invariant-loop decreases-loop
-loop-less c = search rules
+loop-at-smaller : tie.Need-loop-at-smaller invariant-loop-at decreases-loop-at
+loop-at-smaller c = search rules
 
-loop-again : tie.Need-loop-preserved invariant-loop decreases-loop
-loop-again c = search rules
+loop-at-preserved : tie.Need-loop-at-preserved invariant-loop-at decreases-loop-at
+loop-at-preserved c = search rules
 
-same-length-3 : tie.Need-same-length-3 invariant-loop decreases-loop
-same-length-3 c = ap length c.before.loop.invariant
+shape_of-buckets : tie.Need-shape_of-buckets invariant-loop-at decreases-loop-at
+shape_of-buckets c = ap length c.loop-at.invariant
 
-returns-3 : tie.Need-returns-3 invariant-loop decreases-loop
-returns-3 c =
+returns : tie.Need-returns invariant-loop-at decreases-loop-at
+returns c =
     let l = c.before in
-    let p = l.before.before.before.before.before.requires in
-    rw l.loop.invariant (same_keeps _ _ _ p.1 _)
+    let p = l.requires in
+    rw l.loop-at.invariant (same_keeps _ _ _ p.1 _)
 
-pub enter-class-spec : {M : Type 1} → statement M
-enter-class-spec =
+pub enter_class_spec : {M : Type 1} → statement M
+enter_class_spec =
     tie.close
     (tie.spec
-    invariant-loop
-    decreases-loop
-    first-bucket-requires
-    add-min
-    min-requires
-    loop-holds
-    mul-entry
-    slice-read-entry
-    entry-of-requires
-    mul-buckets
-    slice-write-buckets
-    same_length
-    returns
-    row-of-requires
-    is-class-row-requires
-    entry-of-requires-2
-    mul-buckets-2
-    slice-write-buckets-2
-    same-length-2
-    returns-2
-    add_at
-    loop-less
-    loop-again
-    same-length-3
-    returns-3)
+    invariant-loop-at
+    decreases-loop-at
+    first_bucket-at-requires
+    overflow_add-at
+    min-end-requires
+    loop-at-init
+    offset_bounds-buckets-at
+    bounds-buckets-at
+    entry_of-requires
+    offset_bounds-buckets-at-then-entry-eq0
+    bounds-buckets-at-then-entry-eq0
+    shape_of-buckets-then-entry-eq0
+    returns-then-entry-eq0
+    row_of-requires
+    is_class_row-requires
+    entry_of-requires-then-is_class_row
+    offset_bounds-buckets-at-then-is_class_row
+    bounds-buckets-at-then-is_class_row
+    shape_of-buckets-then-is_class_row
+    returns-then-is_class_row
+    overflow_add-at-in-loop-at
+    loop-at-smaller
+    loop-at-preserved
+    shape_of-buckets
+    returns)

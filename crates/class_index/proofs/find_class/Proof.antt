@@ -4,19 +4,19 @@ use mathlib.Core.Path.{◌∙◌}
 use Rattle.class_index.proofs.find_class.Statement.{statement}
 use Rattle.class_index.proofs.find_class.Tie as tie
 
-search-buckets-requires : tie.Need-search-buckets-requires
-search-buckets-requires c κs = search rules
+search_buckets-requires : tie.Need-search_buckets-requires
+search_buckets-requires c κs = search rules
+
+returns-then-certified : tie.Need-returns-then-certified
+returns-then-certified c =
+    let t = c.before in
+    c.search_buckets.ensures ∙ t.requires.finds t.if-certified.true _
+
+class_at-requires : tie.Need-class_at-requires
+class_at-requires c κs = search rules
 
 returns : tie.Need-returns
-returns c =
-    let t = c.before in
-    c.search_buckets.ensures ∙ t.before.before.before.requires.finds t.if1.true _
+returns c = c.class_at.ensures
 
-class-at-requires : tie.Need-class-at-requires
-class-at-requires c κs = search rules
-
-returns-2 : tie.Need-returns-2
-returns-2 c = c.class_at.ensures
-
-pub find-class-spec : {M : Type 1} → statement M
-find-class-spec = tie.close (tie.spec search-buckets-requires returns class-at-requires returns-2)
+pub find_class_spec : {M : Type 1} → statement M
+find_class_spec = tie.close (tie.spec search_buckets-requires returns-then-certified class_at-requires returns)

@@ -6,16 +6,16 @@ use Rattle.class_index.specs.ClassIndex.{first_bucket}
 use Rattle.class_index.proofs.first_bucket.Statement.{statement}
 use Rattle.class_index.proofs.first_bucket.Tie as tie
 
-hash-requires : tie.Need-hash-requires
-hash-requires c κs = search rules
+hash-hash-requires : tie.Need-hash-hash-requires
+hash-hash-requires c κs = search rules
+
+returns-then-n-lt-LARGE : tie.Need-returns-then-n-lt-LARGE
+unfolding first_bucket
+returns-then-n-lt-LARGE c = let h = c.hash-hash.ensures in (rw (lt-ltb _ _ c.if-n-lt-LARGE.true, h.0), omega (arith, h.1))
 
 returns : tie.Need-returns
 unfolding first_bucket
-returns c = let h = c.before.hash.ensures in (rw (lt-ltb _ _ c.if1.true, h.0), omega (arith, h.1))
+returns c = let h = c.hash-hash.ensures in (rw (le-ltb _ _ c.if-n-lt-LARGE.false, h.0), omega (arith, h.1))
 
-returns-2 : tie.Need-returns-2
-unfolding first_bucket
-returns-2 c = let h = c.before.hash.ensures in (rw (le-ltb _ _ c.if1.false, h.0), omega (arith, h.1))
-
-pub first-bucket-spec : {M : Type 1} → statement M
-first-bucket-spec = tie.close (tie.spec hash-requires returns returns-2)
+pub first_bucket_spec : {M : Type 1} → statement M
+first_bucket_spec = tie.close (tie.spec hash-hash-requires returns-then-n-lt-LARGE returns)

@@ -10,92 +10,92 @@ use Rattle.class_index.proofs.BucketSteps.{SearchLeft, search_start, search_end,
 use Rattle.class_index.proofs.search_buckets.Statement.{statement}
 use Rattle.class_index.proofs.search_buckets.Tie as tie
 
-abbrev invariant-loop : tie.invariant-loop
-invariant-loop rows buckets address at₀ end at = SearchLeft (rows_of rows) buckets address at
+abbrev invariant-loop-at : tie.invariant-loop-at
+invariant-loop-at rows buckets address at₀ end at = SearchLeft (rows_of rows) buckets address at
 
-abbrev decreases-loop : tie.decreases-loop
-decreases-loop rows buckets address at₀ end at = end - at
+abbrev decreases-loop-at : tie.decreases-loop-at
+decreases-loop-at rows buckets address at₀ end at = end - at
 
 -- In an iteration, the bucket is one of those that the search looks at.
-searched : (c : tie.In-loop invariant-loop decreases-loop) → let a = c.before.before.before.before.before.before.args in c.before.loop.at < first_bucket (length a.buckets.now) a.address + 64
-searched c = let m = c.before.before.min.ensures in let f = c.before.before.before.first_bucket.ensures in omega (arith, c.loop-test.true, m.0, f.0)
+searched : (c : tie.In-loop-at invariant-loop-at decreases-loop-at) → let a = c.args in c.loop-at.at < first_bucket (length a.buckets.now) a.address + 64
+searched c = let m = c.min-end.ensures in let f = c.first_bucket-at.ensures in omega (arith, c.loop-at-test.true, m.0, f.0)
 
-inside : (c : tie.In-loop invariant-loop decreases-loop) → c.before.loop.at < length c.before.before.before.before.before.before.args.buckets.now
-inside c = let m = c.before.before.min.ensures in omega (arith, c.loop-test.true, m.1)
+inside : (c : tie.In-loop-at invariant-loop-at decreases-loop-at) → c.loop-at.at < length c.args.buckets.now
+inside c = let m = c.min-end.ensures in omega (arith, c.loop-at-test.true, m.1)
 
-first-bucket-requires : tie.Need-first-bucket-requires invariant-loop decreases-loop
-first-bucket-requires c κs = search rules
+first_bucket-at-requires : tie.Need-first_bucket-at-requires invariant-loop-at decreases-loop-at
+first_bucket-at-requires c κs = search rules
 
-add-min : tie.Need-overflow-add-min invariant-loop decreases-loop
-add-min c = search rules
+overflow_add-at : tie.Need-overflow_add-at invariant-loop-at decreases-loop-at
+overflow_add-at c = search rules
 
-min-requires : tie.Need-min-requires invariant-loop decreases-loop
-min-requires c κs = search rules
+min-end-requires : tie.Need-min-end-requires invariant-loop-at decreases-loop-at
+min-end-requires c κs = search rules
 
-loop-holds : tie.Need-loop-init invariant-loop decreases-loop
-loop-holds c = search_start _ _ _ _ c.before.first_bucket.ensures.0
+loop-at-init : tie.Need-loop-at-init invariant-loop-at decreases-loop-at
+loop-at-init c = search_start _ _ _ _ c.first_bucket-at.ensures.0
 
-mul-entry : tie.Need-overflow-mul-entry invariant-loop decreases-loop
-mul-entry c = search rules
+offset_bounds-buckets-at : tie.Need-offset_bounds-buckets-at invariant-loop-at decreases-loop-at
+offset_bounds-buckets-at c = search rules
 
-shared-slice-read-entry : tie.Need-shared-slice-read-entry invariant-loop decreases-loop
-shared-slice-read-entry c = search rules
+bounds-buckets-at : tie.Need-bounds-buckets-at invariant-loop-at decreases-loop-at
+bounds-buckets-at c = search rules
 
-returns : tie.Need-returns invariant-loop decreases-loop
-returns c =
+returns-then-entry-eq0 : tie.Need-returns-then-entry-eq0 invariant-loop-at decreases-loop-at
+returns-then-entry-eq0 c =
     let d = c.before.before in
-    bucket_empty _ _ _ _ d.before.loop.invariant (searched d) (inside d) c.if1.true
+    bucket_empty _ _ _ _ d.loop-at.invariant (searched d) (inside d) c.if-entry-eq0.true
 
-row-of-requires : tie.Need-row-of-requires invariant-loop decreases-loop
-row-of-requires c κs = search rules
+row_of-i-requires : tie.Need-row_of-i-requires invariant-loop-at decreases-loop-at
+row_of-i-requires c κs = search rules
 
-is-class-row-requires : tie.Need-is-class-row-requires invariant-loop decreases-loop
-is-class-row-requires c κs = search rules
+is_class_row-requires : tie.Need-is_class_row-requires invariant-loop-at decreases-loop-at
+is_class_row-requires c κs = search rules
 
-returns-2 : tie.Need-returns-2 invariant-loop decreases-loop
-returns-2 c =
+returns-then-is_class_row : tie.Need-returns-then-is_class_row invariant-loop-at decreases-loop-at
+returns-then-is_class_row c =
     let k = c.before in
     let o = k.before in
     let d = o.before.before.before in
-    rw o.row_of.ensures (bucket_found _ _ _ _ d.before.loop.invariant (searched d) (inside d) o.before.if1.false _ (rw (← o.row_of.ensures) k.is_class_row.ensures) c.if2.true)
+    rw o.row_of-i.ensures (bucket_found _ _ _ _ d.loop-at.invariant (searched d) (inside d) o.if-entry-eq0.false _ (rw (← o.row_of-i.ensures) k.is_class_row.ensures) c.if-is_class_row.true)
 
-add_at : tie.Need-overflow-add-at invariant-loop decreases-loop
-add_at c = search rules
+overflow_add-at-in-loop-at : tie.Need-overflow_add-at-in-loop-at invariant-loop-at decreases-loop-at
+overflow_add-at-in-loop-at c = search rules
 
-loop-less : tie.Need-loop-smaller invariant-loop decreases-loop
-loop-less c = search rules
+loop-at-smaller : tie.Need-loop-at-smaller invariant-loop-at decreases-loop-at
+loop-at-smaller c = search rules
 
-loop-again : tie.Need-loop-preserved invariant-loop decreases-loop
-loop-again c =
+loop-at-preserved : tie.Need-loop-at-preserved invariant-loop-at decreases-loop-at
+loop-at-preserved c =
     let k = c.before in
     let o = k.before in
     let d = o.before.before.before in
-    bucket_next _ _ _ _ d.before.loop.invariant (searched d) (inside d) o.before.if1.false _ (rw (← o.row_of.ensures) k.is_class_row.ensures) c.if2.false
+    bucket_next _ _ _ _ d.loop-at.invariant (searched d) (inside d) o.if-entry-eq0.false _ (rw (← o.row_of-i.ensures) k.is_class_row.ensures) c.if-is_class_row.false
 
-returns-3 : tie.Need-returns-3 invariant-loop decreases-loop
-returns-3 c =
+returns : tie.Need-returns invariant-loop-at decreases-loop-at
+returns c =
     let m = c.before.before in
-    let f = m.before.first_bucket.ensures.0 in
-    let l = c.loop-test.false in
-    search_end _ _ _ _ c.before.loop.invariant (⊎_elim (λ e. inl (omega arith)) (λ e. inr (omega arith)) m.min.ensures.2)
+    let f = m.first_bucket-at.ensures.0 in
+    let l = c.loop-at-test.false in
+    search_end _ _ _ _ c.loop-at.invariant (⊎_elim (λ e. inl (omega arith)) (λ e. inr (omega arith)) m.min-end.ensures.2)
 
-pub search-buckets-spec : {M : Type 1} → statement M
-search-buckets-spec =
+pub search_buckets_spec : {M : Type 1} → statement M
+search_buckets_spec =
     tie.close
     (tie.spec
-    invariant-loop
-    decreases-loop
-    first-bucket-requires
-    add-min
-    min-requires
-    loop-holds
-    mul-entry
-    shared-slice-read-entry
-    returns
-    row-of-requires
-    is-class-row-requires
-    returns-2
-    add_at
-    loop-less
-    loop-again
-    returns-3)
+    invariant-loop-at
+    decreases-loop-at
+    first_bucket-at-requires
+    overflow_add-at
+    min-end-requires
+    loop-at-init
+    offset_bounds-buckets-at
+    bounds-buckets-at
+    returns-then-entry-eq0
+    row_of-i-requires
+    is_class_row-requires
+    returns-then-is_class_row
+    overflow_add-at-in-loop-at
+    loop-at-smaller
+    loop-at-preserved
+    returns)

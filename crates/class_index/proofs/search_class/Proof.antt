@@ -5,23 +5,23 @@ use Rattle.class_index.specs.LastSearch.{same_class_same_row}
 use Rattle.class_index.proofs.search_class.Statement.{statement}
 use Rattle.class_index.proofs.search_class.Tie as tie
 
-enum_told : tie.Need-enum-told
-enum_told c = search rules
+enum_told-1 : tie.Need-enum_told-1
+enum_told-1 c = search rules
+
+returns-in-At : tie.Need-returns-in-At
+returns-in-At c =
+    let d = c.before in
+    let s = d.before.before.before.before in
+    same_class_same_row (rows_of s.args.rows.now) s.args.last s.args.class _ s.requires.1 d.if-last-class.true c.in-At.is
+
+enum_told-in_default : tie.Need-enum_told-in_default
+enum_told-in_default c = search rules
+
+find_class-requires : tie.Need-find_class-requires
+find_class-requires c κs = search rules
 
 returns : tie.Need-returns
-returns c =
-    let d = c.before.before in
-    let s = d.before.before.before.before in
-    same_class_same_row (rows_of s.args.rows.now) s.args.last s.args.class _ s.requires.1 d.if1.true c.enum_told.given.1
+returns c = rw c.find_class.ensures
 
-enum-told-2 : tie.Need-enum-told-2
-enum-told-2 c = search rules
-
-find-class-requires : tie.Need-find-class-requires
-find-class-requires c κs = search rules
-
-returns-2 : tie.Need-returns-2
-returns-2 c = rw c.find-class.ensures
-
-pub search-class-spec : {M : Type 1} → statement M
-search-class-spec = tie.close (tie.spec enum_told returns enum-told-2 find-class-requires returns-2)
+pub search_class_spec : {M : Type 1} → statement M
+search_class_spec = tie.close (tie.spec enum_told-1 returns-in-At enum_told-in_default find_class-requires returns)

@@ -10,44 +10,44 @@ use Rattle.classic.proofs.ClassRowTests.{is_class_at_test}
 use Rattle.classic.proofs.class_at.Statement.{statement}
 use Rattle.classic.proofs.class_at.Tie as tie
 
-abbrev invariant-loop : tie.invariant-loop
-invariant-loop rows address n i₀ i = SearchInvariant (is_class_at address) rows i
+abbrev invariant-loop-i : tie.invariant-loop-i
+invariant-loop-i rows address n i₀ i = SearchInvariant (is_class_at address) rows i
 
-abbrev decreases-loop : tie.decreases-loop
-decreases-loop rows address n i₀ i = n - i
+abbrev decreases-loop-i : tie.decreases-loop-i
+decreases-loop-i rows address n i₀ i = n - i
 
-loop-holds : tie.Need-loop-init invariant-loop decreases-loop
-loop-holds c = search_start _ _
+loop-i-init : tie.Need-loop-i-init invariant-loop-i decreases-loop-i
+loop-i-init c = search_start _ _
 
-row-at-requires : tie.Need-row-at-requires invariant-loop decreases-loop
+row_at-row-requires : tie.Need-row_at-row-requires invariant-loop-i decreases-loop-i
 unfolding row_count
-row-at-requires c κs = search rules
+row_at-row-requires c κs = search rules
 
-returns : tie.Need-returns invariant-loop decreases-loop
+returns-then-row-address : tie.Need-returns-then-row-address invariant-loop-i decreases-loop-i
 unfolding row_count
-returns c =
+returns-then-row-address c =
     let d = c.before.before.before in
     let l = d.before.before in
-    search_found _ _ _ _ l.loop.invariant (omega arith) d.row_at.ensures (sym (is_class_at_test _ d.row_at.result) ∙ c.if1.true)
+    search_found _ _ _ _ l.loop-i.invariant (omega arith) d.row_at-row.ensures (sym (is_class_at_test _ d.row_at-row.result) ∙ c.if-row-address.true)
 
-add-i : tie.Need-overflow-add-i invariant-loop decreases-loop
+overflow_add-i : tie.Need-overflow_add-i invariant-loop-i decreases-loop-i
 unfolding row_count
-add-i c = search rules
+overflow_add-i c = search rules
 
-loop-less : tie.Need-loop-smaller invariant-loop decreases-loop
+loop-i-smaller : tie.Need-loop-i-smaller invariant-loop-i decreases-loop-i
 unfolding row_count
-loop-less c = search rules
+loop-i-smaller c = search rules
 
-loop-again : tie.Need-loop-preserved invariant-loop decreases-loop
+loop-i-preserved : tie.Need-loop-i-preserved invariant-loop-i decreases-loop-i
 unfolding row_count
-loop-again c =
+loop-i-preserved c =
     let d = c.before.before.before in
     let l = d.before.before in
-    search_next _ _ _ _ l.loop.invariant (omega arith) d.row_at.ensures (sym (is_class_at_test _ d.row_at.result) ∙ c.if1.false)
+    search_next _ _ _ _ l.loop-i.invariant (omega arith) d.row_at-row.ensures (sym (is_class_at_test _ d.row_at-row.result) ∙ c.if-row-address.false)
 
-returns-2 : tie.Need-returns-2 invariant-loop decreases-loop
+returns : tie.Need-returns invariant-loop-i decreases-loop-i
 unfolding row_count
-returns-2 c = search_done _ _ _ c.before.loop.invariant (omega arith)
+returns c = search_done _ _ _ c.loop-i.invariant (omega arith)
 
-pub class-at-spec : {M : Type 1} → statement M
-class-at-spec = tie.close (tie.spec invariant-loop decreases-loop loop-holds row-at-requires returns add-i loop-less loop-again returns-2)
+pub class_at_spec : {M : Type 1} → statement M
+class_at_spec = tie.close (tie.spec invariant-loop-i decreases-loop-i loop-i-init row_at-row-requires returns-then-row-address overflow_add-i loop-i-smaller loop-i-preserved returns)

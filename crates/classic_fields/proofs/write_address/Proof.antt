@@ -12,39 +12,35 @@ none c =
     let a = c.args in
     progress_start a.out.now a.at (address_parts a.bits a.a) (address_join a.bits a.a c.requires.0) c.requires.1
 
-abbrev prefix : tie.After-encode-bytes → WriteProgress
-prefix c = progress_next (none c.before.before.before.before) c.encode-bytes.ensures
+abbrev prefix : tie.After-encode_bytes-digits → WriteProgress
+prefix c = progress_next (none c.before.before.before.before.before) c.encode_bytes-digits.ensures
 
-abbrev high : tie.After-write-high-digits → WriteProgress
-high c = progress_next (prefix c.before.before.before.before) c.write-high-digits.ensures
+abbrev high : tie.After-write_high_digits-last → WriteProgress
+high c = progress_next (prefix c.before.before.before.before) c.write_high_digits-last.ensures
 
-slice-aggregate-encode-bytes : tie.Need-slice-aggregate-encode-bytes
-slice-aggregate-encode-bytes c = search rules
+encode_bytes-digits-requires : tie.Need-encode_bytes-digits-requires
+encode_bytes-digits-requires c κs = next_part_fits (none c.before.before.before.before)
 
-encode-bytes-requires : tie.Need-encode-bytes-requires
-encode-bytes-requires c κs = next_part_fits (none c.before.before.before)
-
-write-high-digits-requires : tie.Need-write-high-digits-requires
-write-high-digits-requires c κs =
+write_high_digits-last-requires : tie.Need-write_high_digits-last-requires
+write_high_digits-last-requires c κs =
     let p = c.before.before.before in
-    (p.before.before.before.before.requires.0, next_part_fits (prefix p))
+    (p.requires.0, next_part_fits (prefix p))
 
-write-hex8-requires : tie.Need-write-hex8-requires
-write-hex8-requires c κs = next_part_fits (high c.before.before.before)
+write_hex8-requires : tie.Need-write_hex8-requires
+write_hex8-requires c κs = next_part_fits (high c.before.before.before)
 
-same_length : tie.Need-same-length
-same_length c = search rules
+shape_of-out : tie.Need-shape_of-out
+shape_of-out c = search rules
 
 returns : tie.Need-returns
-returns c = let p = c.before.before in progress_done (progress_next (high p.before.before.before.before) p.write-hex8.ensures) refl
+returns c = let p = c.before.before in progress_done (progress_next (high p.before.before.before.before) p.write_hex8.ensures) refl
 
-pub write-address-spec : {M : Type 1} → statement M
-write-address-spec =
+pub write_address_spec : {M : Type 1} → statement M
+write_address_spec =
     tie.close
     (tie.spec
-    slice-aggregate-encode-bytes
-    encode-bytes-requires
-    write-high-digits-requires
-    write-hex8-requires
-    same_length
+    encode_bytes-digits-requires
+    write_high_digits-last-requires
+    write_hex8-requires
+    shape_of-out
     returns)

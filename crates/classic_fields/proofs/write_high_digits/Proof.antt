@@ -7,23 +7,23 @@ use Rattle.digits.specs.Digits.{upper_digits}
 use Rattle.classic_fields.proofs.write_high_digits.Statement.{statement}
 use Rattle.classic_fields.proofs.write_high_digits.Tie as tie
 
-write-hex8-requires : tie.Need-write-hex8-requires
-write-hex8-requires c κs = let s = c.before.before.before in rw c.before.if1.true at s.requires.1
+write_hex8-requires : tie.Need-write_hex8-requires
+write_hex8-requires c κs = let s = c.before.before.before in rw c.if-bits-eq64.true at s.requires.1
 
-same_length : tie.Need-same-length
-same_length c = search rules
+shape_of-out-then-bits-eq64 : tie.Need-shape_of-out-then-bits-eq64
+shape_of-out-then-bits-eq64 c = search rules
+
+returns-then-bits-eq64 : tie.Need-returns-then-bits-eq64
+returns-then-bits-eq64 c =
+    let p = c.before.before in
+    rw p.if-bits-eq64.true p.write_hex8.ensures
 
 returns : tie.Need-returns
-returns c =
-    let p = c.before.before in
-    rw p.before.before.if1.true p.write-hex8.ensures
-
-returns-2 : tie.Need-returns-2
 unfolding upper_digits
-returns-2 c =
+returns c =
     let s = c.before.before in
-    let e : s.args.bits ≡ 32 = ⊎_elim (λ e. e) (λ e. absurd (c.if1.false e)) s.requires.0 in
+    let e : s.args.bits ≡ 32 = ⊎_elim (λ e. e) (λ e. absurd (c.if-bits-eq64.false e)) s.requires.0 in
     rw e (writes_none _ _)
 
-pub write-high-digits-spec : {M : Type 1} → statement M
-write-high-digits-spec = tie.close (tie.spec write-hex8-requires same_length returns returns-2)
+pub write_high_digits_spec : {M : Type 1} → statement M
+write_high_digits_spec = tie.close (tie.spec write_hex8-requires shape_of-out-then-bits-eq64 returns-then-bits-eq64 returns)

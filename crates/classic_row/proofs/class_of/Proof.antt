@@ -4,17 +4,17 @@ use borrow.Author.Tests.{ne_eqb}
 use Rattle.classic_row.proofs.class_of.Statement.{statement}
 use Rattle.classic_row.proofs.class_of.Tie as tie
 
-mul-result : tie.Need-overflow-mul-result
-mul-result c = search rules
+offset_bounds-classes-prim : tie.Need-offset_bounds-classes-prim
+offset_bounds-classes-prim c = search rules
 
-element-copy-out-result : tie.Need-element-copy-out-result
-element-copy-out-result c = search rules
+bounds-classes-prim : tie.Need-bounds-classes-prim
+bounds-classes-prim c = search rules
+
+returns-then-row-eq4 : tie.Need-returns-then-row-eq4
+returns-then-row-eq4 c = rw c.if-row-eq4.true
 
 returns : tie.Need-returns
-returns c = rw c.before.if1.true
+returns c = rw (ne_eqb _ 4 c.if-row-eq4.false)
 
-returns-2 : tie.Need-returns-2
-returns-2 c = rw (ne_eqb _ 4 c.if1.false)
-
-pub class-of-spec : {M : Type 1} → statement M
-class-of-spec = tie.close (tie.spec mul-result element-copy-out-result returns returns-2)
+pub class_of_spec : {M : Type 1} → statement M
+class_of_spec = tie.close (tie.spec offset_bounds-classes-prim bounds-classes-prim returns-then-row-eq4 returns)

@@ -14,70 +14,70 @@ use Rattle.classic_row.proofs.find_label.Statement.{statement}
 use Rattle.classic_row.proofs.find_label.Tie as tie
 
 -- The start of the function, seen from where the row is known to be an object or object array.
-abbrev start : tie.Else2 → tie.Start
+abbrev start : tie.Else-row-eq4 → tie.Start
 start c = c.before.before.before.before.before.before
 
 -- There the result of the search is that among all rows, and the row's class row is missing exactly if nothing was found.
-searched : (c : tie.Else2) → let a = (start c).args in
+searched : (c : tie.Else-row-eq4) → let a = (start c).args in
     (a.found ≡ class_at (rows_of a.rows.now) a.row.class) × (class_missing (rows_of a.rows.now) a.row ≡ is_not_found a.found)
 searched c =
     let s = start c in
-    class_missing_by_search (rows_of s.args.rows.now) s.args.row s.args.found s.pre.1.0 c.before.before.before.if1.false c.if2.false s.pre.1.1
+    class_missing_by_search (rows_of s.args.rows.now) s.args.row s.args.found s.requires.1.0 c.if-row-eq1.false c.if-row-eq4.false s.requires.1.1
 
 -- If the search found a row, it is the class row, and the label is computed from it.
-class : (c : tie.After-row-at) → let a = (start c.before.before.before.before).args in let class = c.row_at.result in
+class : (c : tie.After-row_at-class) → let a = (start c.before.before).args in let class = c.row_at-class.result in
     (class_missing (rows_of a.rows.now) a.row ≡ false)
     × (type_label (rows_of a.rows.now) a.row ≡ record { bytes = cond (is_kind 2 a.row) class.size (4 * a.row.size); place = class.place; len = class.namelen })
 unfolding type_label naming_class bytes_of
 class c =
-    let d = c.before.before in
-    let e = d.before.before in
+    let d = c.before in
+    let e = d.before in
     let s = searched e in
-    let f = found_row_at _ _ _ (sym s.0 ∙ d.found.given.1) in
-    (s.1 ∙ ap is_not_found d.found.given.1, rw (c.row_at.ensures ∙ sym f, ne_eqb _ 1 e.before.before.before.if1.false, ne_eqb _ 4 e.if2.false))
+    let f = found_row_at _ _ _ (sym s.0 ∙ d.in-At.is) in
+    (s.1 ∙ ap is_not_found d.in-At.is, rw (c.row_at-class.ensures ∙ sym f, ne_eqb _ 1 e.if-row-eq1.false, ne_eqb _ 4 e.if-row-eq4.false))
+
+returns-then-row-eq1 : tie.Need-returns-then-row-eq1
+unfolding type_label_or_18 class_missing type_label naming_class bytes_of
+returns-then-row-eq1 c = rw c.if-row-eq1.true
+
+overflow_mul-array_bytes : tie.Need-overflow_mul-array_bytes
+overflow_mul-array_bytes c = search rules
+
+returns-then-row-eq4 : tie.Need-returns-then-row-eq4
+unfolding type_label_or_18 class_missing type_label naming_class bytes_of
+returns-then-row-eq4 c = rw c.if-row-eq4.true
+
+enum_known-found : tie.Need-enum_known-found
+enum_known-found c = search rules
+
+enum_told-1 : tie.Need-enum_told-1
+enum_told-1 c = search rules
+
+returns-in_default : tie.Need-returns-in_default
+unfolding type_label_or_18
+returns-in_default c = rw ((searched c.before).1 ∙ ap is_not_found c.in_default.is) refl
+
+row_at-class-requires : tie.Need-row_at-class-requires
+row_at-class-requires c κs = found_in_table _ _ _ (sym (searched c.before).0 ∙ c.in-At.is)
+
+returns-then-row-eq2 : tie.Need-returns-then-row-eq2
+unfolding type_label_or_18
+returns-then-row-eq2 c = let f = class c.before.before in rw (f.0, f.1, eq-eqb _ 2 c.if-row-eq2.true)
 
 returns : tie.Need-returns
-unfolding type_label_or_18 class_missing type_label naming_class bytes_of
-returns c = rw c.if1.true
-
-mul-array-bytes : tie.Need-overflow-mul-array-bytes
-mul-array-bytes c = search rules
-
-returns-2 : tie.Need-returns-2
-unfolding type_label_or_18 class_missing type_label naming_class bytes_of
-returns-2 c = rw c.if2.true
-
-enum-known-found : tie.Need-enum-known-found
-enum-known-found c = search rules
-
-enum_told : tie.Need-enum-told
-enum_told c = search rules
-
-returns-3 : tie.Need-returns-3
 unfolding type_label_or_18
-returns-3 c = rw ((searched c.before.before).1 ∙ ap is_not_found c.enum_told.given.1) refl
+returns c = let f = class c.before.before in rw (f.0, f.1, ne_eqb _ 2 c.if-row-eq2.false)
 
-row-at-requires : tie.Need-row-at-requires
-row-at-requires c κs = found_in_table _ _ _ (sym (searched c.before.before.before).0 ∙ c.before.found.given.1)
-
-returns-4 : tie.Need-returns-4
-unfolding type_label_or_18
-returns-4 c = let f = class c.before.before in rw (f.0, f.1, eq-eqb _ 2 c.if3.true)
-
-returns-5 : tie.Need-returns-5
-unfolding type_label_or_18
-returns-5 c = let f = class c.before.before in rw (f.0, f.1, ne_eqb _ 2 c.if3.false)
-
-pub find-label-spec : {M : Type 1} → statement M
-find-label-spec =
+pub find_label_spec : {M : Type 1} → statement M
+find_label_spec =
     tie.close
     (tie.spec
-    returns
-    mul-array-bytes
-    returns-2
-    enum-known-found
-    enum_told
-    returns-3
-    row-at-requires
-    returns-4
-    returns-5)
+    returns-then-row-eq1
+    overflow_mul-array_bytes
+    returns-then-row-eq4
+    enum_known-found
+    enum_told-1
+    returns-in_default
+    row_at-class-requires
+    returns-then-row-eq2
+    returns)

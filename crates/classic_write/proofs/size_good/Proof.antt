@@ -19,74 +19,74 @@ use Rattle.classic_write.proofs.size_good.Statement.{statement}
 use Rattle.classic_write.proofs.size_good.Tie as tie
 
 -- The start of the function, seen from where the version line was sized.
-abbrev start : tie.After-version-size → tie.Start
-start c = c.before.before.before.before.before
+abbrev start : tie.After-version_size-first → tie.Start
+start c = c.before.before.before.before.before.before
 
-right : (c : tie.After-version-size) → let a = (start c).args in TablesGood a.header a.names.now a.refs.now (rows_of a.rows.now)
+right : (c : tie.After-version_size-first) → let a = (start c).args in TablesGood a.header a.names.now a.refs.now (rows_of a.rows.now)
 right c = (start c).requires.0
 
 -- The point after the version line was sized, seen from where the rows were sized.
-abbrev first : tie.After-known-told2 → tie.After-version-size
-first c = c.before.before.before.before
+abbrev first : tie.In-Bytes → tie.After-version_size-first
+first c = c.before.before
 
-classed : (c : tie.After-known-told2) → let a = (start (first c)).args in
+classed : (c : tie.In-Bytes) → let a = (start (first c)).args in
     (first_row (class_missing (rows_of a.rows.now)) (rows_of a.rows.now) ≡ NotFound)
-    × (c.before.lines.given.0.0 ≡ (first c).version_size.result + rows_size a.header.bits a.names.now (rows_of a.rows.now))
-    × (c.before.lines.given.0.1.0 ≡ tally_of (rows_of a.rows.now))
-classed c = size_has_classes _ _ _ _ _ (sym c.before.lines.given.1 ∙ c.before.before.before.rows-text-size.ensures)
+    × (c.in-Bytes.lines ≡ (first c).version_size-first.result + rows_size a.header.bits a.names.now (rows_of a.rows.now))
+    × (c.in-Bytes.tally ≡ tally_of (rows_of a.rows.now))
+classed c = size_has_classes _ _ _ _ _ (sym c.in-Bytes.is ∙ c.rows_text_size.ensures)
 
-version-size-requires : tie.Need-version-size-requires
-version-size-requires c κs = good_vm_in_bounds _ _ _ _ c.before.before.before.before.requires.0
+version_size-first-requires : tie.Need-version_size-first-requires
+version_size-first-requires c κs = good_vm_in_bounds _ _ _ _ c.requires.0
 
-rows-text-size-requires : tie.Need-rows-text-size-requires
-rows-text-size-requires c κs =
+rows_text_size-requires : tie.Need-rows_text_size-requires
+rows_text_size-requires c κs =
     let p = right c in
     let s = rows_size_lt _ _ _ _ p in
-    let e = c.version_size.ensures in
+    let e = c.version_size-first.ensures in
     (header_bits_good _ _ _ _ p.0, ((start c).requires.1, (all_in_bounds _ _ _ _ p, (omega arith, (exact_counts _ _ _ _ p).few))))
 
-enum-known-refusal : tie.Need-enum-known-refusal
-enum-known-refusal c = search rules
+enum_known-refusal : tie.Need-enum_known-refusal
+enum_known-refusal c = search rules
 
-enum-known-lines : tie.Need-enum-known-lines
-enum-known-lines c = search rules
+enum_known-lines : tie.Need-enum_known-lines
+enum_known-lines c = search rules
 
-trailers-size-requires : tie.Need-trailers-size-requires
-trailers-size-requires c κs = tally_bound_of _ _ _ _ _ (classed c).2 (right (first c))
+trailers_size-requires : tie.Need-trailers_size-requires
+trailers_size-requires c κs = tally_bound_of _ _ _ _ _ (classed c).2 (right (first c))
 
-add-t14 : tie.Need-overflow-add-t14
-add-t14 c =
+overflow_add-result : tie.Need-overflow_add-result
+overflow_add-result c =
     let d = c.before in
     let k = classed d in
-    let z = size_lt _ _ _ _ _ k.2 (right (first d)) _ _ _ (first d).version_size.ensures k.1 c.trailers-size.ensures in
+    let z = size_lt _ _ _ _ _ k.2 (right (first d)) _ _ _ (first d).version_size-first.ensures k.1 c.trailers_size.ensures in
     omega arith
 
-returns : tie.Need-returns
-returns c =
-    let s = c.before.before.before in
-    class_refusal _ _ _ _ (right s.before) _ _ _ (sym c.before.refusal.given.1 ∙ s.rows-text-size.ensures)
+returns-in-Refused : tie.Need-returns-in-Refused
+returns-in-Refused c =
+    let s = c.before in
+    class_refusal _ _ _ _ (right s.before) _ _ _ (sym c.in-Refused.is ∙ s.rows_text_size.ensures)
 
-returns-2 : tie.Need-returns-2
-returns-2 c =
+returns-in-Bytes : tie.Need-returns-in-Bytes
+returns-in-Bytes c =
     let d = c.before in
     let k = classed d in
     let p = right (first d) in
     record {
       tables_good = p;
       classes = k.0;
-      size_is = size_is _ _ _ _ _ k.2 p _ _ _ (first d).version_size.ensures k.1 c.trailers-size.ensures;
+      size_is = size_is _ _ _ _ _ k.2 p _ _ _ (first d).version_size-first.ensures k.1 c.trailers_size.ensures;
       tally_is = k.2;
     }
 
-pub size-good-spec : {M : Type 1} → statement M
-size-good-spec =
+pub size_good_spec : {M : Type 1} → statement M
+size_good_spec =
     tie.close
     (tie.spec
-    version-size-requires
-    rows-text-size-requires
-    enum-known-refusal
-    enum-known-lines
-    trailers-size-requires
-    add-t14
-    returns
-    returns-2)
+    version_size-first-requires
+    rows_text_size-requires
+    enum_known-refusal
+    enum_known-lines
+    trailers_size-requires
+    overflow_add-result
+    returns-in-Refused
+    returns-in-Bytes)

@@ -1,4 +1,4 @@
--- `text_size` satisfies its contract: it returns the refusal of the check, or the answer of `text_size_with`.
+-- `text_size` satisfies its contract: it returns-then-checked-ne0 the refusal of the check, or the answer of `text_size_with`.
 use borrow.Author.Rules.{rules}
 use Rattle.table.specs.Rows.{rows_of}
 use Rattle.table.specs.CheckOrder.{checked_input_ok}
@@ -9,82 +9,82 @@ use Rattle.classic_write.proofs.text_size.Statement.{statement}
 use Rattle.classic_write.proofs.text_size.Tie as tie
 
 -- Tables that passed the check are good.
-good : (c : tie.Else1) → let a = c.before.before.before.before.before.before.args in TablesGood a.header a.names.now a.refs.now (rows_of a.rows.now)
-good c = checked_input_ok _ _ _ c.before.before.check.ensures c.if1.false
+good : (c : tie.Else-checked-ne0) → let a = c.args in TablesGood a.header a.names.now a.refs.now (rows_of a.rows.now)
+good c = checked_input_ok _ _ _ c.check-checked.ensures c.if-checked-ne0.false
 
-check-requires : tie.Need-check-requires
-check-requires c κs = search rules
+check-checked-requires : tie.Need-check-checked-requires
+check-checked-requires c κs = search rules
+
+returns-then-checked-ne0 : tie.Need-returns-then-checked-ne0
+returns-then-checked-ne0 c = check_refusal _ _ _ _ _ c.check-checked.ensures c.if-checked-ne0.true
+
+overflow_mul-t-14 : tie.Need-overflow_mul-t-14
+overflow_mul-t-14 c = search rules
+
+slice_bounds-enter_classes-end : tie.Need-slice_bounds-enter_classes-end
+slice_bounds-enter_classes-end c = search rules
+
+enter_classes-classes-requires : tie.Need-enter_classes-classes-requires
+enter_classes-classes-requires c κs = good_enterable _ _ _ _ (good c.before.before)
+
+slice_bounds-text_size_with-end : tie.Need-slice_bounds-text_size_with-end
+slice_bounds-text_size_with-end c = search rules
+
+text_size_with-requires : tie.Need-text_size_with-requires
+text_size_with-requires c κs = let e = c.before.before in (good e.before.before.before, e.enter_classes-classes.ensures.1)
+
+returns-then-rows : tie.Need-returns-then-rows
+returns-then-rows c = search rules
+
+slice_bounds-enter_classes-end-2 : tie.Need-slice_bounds-enter_classes-end-2
+slice_bounds-enter_classes-end-2 c = search rules
+
+enter_classes-classes-requires-2 : tie.Need-enter_classes-classes-requires-2
+enter_classes-classes-requires-2 c κs = good_enterable _ _ _ _ (good c.before.before)
+
+slice_bounds-text_size_with-end-then-classes : tie.Need-slice_bounds-text_size_with-end-then-classes
+slice_bounds-text_size_with-end-then-classes c = search rules
+
+text_size_with-requires-then-classes : tie.Need-text_size_with-requires-then-classes
+text_size_with-requires-then-classes c κs = let e = c.before.before.before in (good e.before.before.before, e.enter_classes-classes-2.ensures.1)
+
+returns-then-classes : tie.Need-returns-then-classes
+returns-then-classes c = search rules
+
+slice_bounds-enter_classes-end-3 : tie.Need-slice_bounds-enter_classes-end-3
+slice_bounds-enter_classes-end-3 c = search rules
+
+enter_classes-classes-requires-3 : tie.Need-enter_classes-classes-requires-3
+enter_classes-classes-requires-3 c κs = good_enterable _ _ _ _ (good c.before.before.before.before.before.before)
+
+slice_bounds-text_size_with-end-2 : tie.Need-slice_bounds-text_size_with-end-2
+slice_bounds-text_size_with-end-2 c = search rules
+
+text_size_with-requires-2 : tie.Need-text_size_with-requires-2
+text_size_with-requires-2 c κs = let e = c.before.before in (good e.before.before.before.before.before.before.before, e.enter_classes-classes-3.ensures.1)
 
 returns : tie.Need-returns
-returns c = check_refusal _ _ _ _ _ c.before.before.check.ensures c.if1.true
+returns c = search rules
 
-mul-if2 : tie.Need-overflow-mul-if2
-mul-if2 c = search rules
-
-slice-aggregate-enter-classes : tie.Need-slice-aggregate-enter-classes
-slice-aggregate-enter-classes c = search rules
-
-enter-classes-requires : tie.Need-enter-classes-requires
-enter-classes-requires c κs = good_enterable _ _ _ _ (good c.before.before)
-
-slice-aggregate-text-size-with : tie.Need-slice-aggregate-text-size-with
-slice-aggregate-text-size-with c = search rules
-
-text-size-with-requires : tie.Need-text-size-with-requires
-text-size-with-requires c κs = let e = c.before.before in (good e.before.before.before, e.enter-classes.ensures.1)
-
-returns-2 : tie.Need-returns-2
-returns-2 c = search rules
-
-slice-aggregate-enter-classes-2 : tie.Need-slice-aggregate-enter-classes-2
-slice-aggregate-enter-classes-2 c = search rules
-
-enter-classes-requires-2 : tie.Need-enter-classes-requires-2
-enter-classes-requires-2 c κs = good_enterable _ _ _ _ (good c.before.before)
-
-slice-aggregate-text-size-with-2 : tie.Need-slice-aggregate-text-size-with-2
-slice-aggregate-text-size-with-2 c = search rules
-
-text-size-with-requires-2 : tie.Need-text-size-with-requires-2
-text-size-with-requires-2 c κs = let e = c.before.before.before in (good e.before.before.before, e.enter-classes2.ensures.1)
-
-returns-3 : tie.Need-returns-3
-returns-3 c = search rules
-
-slice-aggregate-enter-classes-3 : tie.Need-slice-aggregate-enter-classes-3
-slice-aggregate-enter-classes-3 c = search rules
-
-enter-classes-requires-3 : tie.Need-enter-classes-requires-3
-enter-classes-requires-3 c κs = good_enterable _ _ _ _ (good c.before.before.before.before.before.before)
-
-slice-aggregate-text-size-with-3 : tie.Need-slice-aggregate-text-size-with-3
-slice-aggregate-text-size-with-3 c = search rules
-
-text-size-with-requires-3 : tie.Need-text-size-with-requires-3
-text-size-with-requires-3 c κs = let e = c.before.before in (good e.before.before.before.before.before.before.before, e.enter-classes3.ensures.1)
-
-returns-4 : tie.Need-returns-4
-returns-4 c = search rules
-
-pub text-size-spec : {M : Type 1} → statement M
-text-size-spec =
+pub text_size_spec : {M : Type 1} → statement M
+text_size_spec =
     tie.close
     (tie.spec
-    check-requires
-    returns
-    mul-if2
-    slice-aggregate-enter-classes
-    enter-classes-requires
-    slice-aggregate-text-size-with
-    text-size-with-requires
-    returns-2
-    slice-aggregate-enter-classes-2
-    enter-classes-requires-2
-    slice-aggregate-text-size-with-2
-    text-size-with-requires-2
-    returns-3
-    slice-aggregate-enter-classes-3
-    enter-classes-requires-3
-    slice-aggregate-text-size-with-3
-    text-size-with-requires-3
-    returns-4)
+    check-checked-requires
+    returns-then-checked-ne0
+    overflow_mul-t-14
+    slice_bounds-enter_classes-end
+    enter_classes-classes-requires
+    slice_bounds-text_size_with-end
+    text_size_with-requires
+    returns-then-rows
+    slice_bounds-enter_classes-end-2
+    enter_classes-classes-requires-2
+    slice_bounds-text_size_with-end-then-classes
+    text_size_with-requires-then-classes
+    returns-then-classes
+    slice_bounds-enter_classes-end-3
+    enter_classes-classes-requires-3
+    slice_bounds-text_size_with-end-2
+    text_size_with-requires-2
+    returns)

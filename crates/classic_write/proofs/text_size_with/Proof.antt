@@ -1,25 +1,25 @@
--- `text_size_with` satisfies its contract: what `size_good` returns is the answer of the size query.
+-- `text_size_with` satisfies its contract: what `size_good` returns-in-Refused is the answer of the size query.
 use borrow.Author.Rules.{rules}
 use mathlib.Core.Path.{subst}
 use Rattle.classic_write.specs.SizedText.{SizedTextMeans, checked_text_reply}
 use Rattle.classic_write.proofs.text_size_with.Statement.{statement}
 use Rattle.classic_write.proofs.text_size_with.Tie as tie
 
-size-good-requires : tie.Need-size-good-requires
-size-good-requires c κs = search rules
+size_good-requires : tie.Need-size_good-requires
+size_good-requires c κs = search rules
 
-enum-known-refusal : tie.Need-enum-known-refusal
-enum-known-refusal c = search rules
+enum_known-refusal : tie.Need-enum_known-refusal
+enum_known-refusal c = search rules
 
-enum-known-size : tie.Need-enum-known-size
-enum-known-size c = search rules
+enum_known-size : tie.Need-enum_known-size
+enum_known-size c = search rules
 
-returns : tie.Need-returns
-returns c = let m = c.before in (subst (SizedTextMeans _ _ _ _) m.refusal.given.1 m.before.before.size-good.ensures).0
+returns-in-Refused : tie.Need-returns-in-Refused
+returns-in-Refused c = let m = c in (subst (SizedTextMeans _ _ _ _) m.in-Refused.is m.size_good.ensures).0
 
-returns-2 : tie.Need-returns-2
-returns-2 c = let m = c.before in checked_text_reply (subst (SizedTextMeans _ _ _ _) m.size.given.1 m.before.before.size-good.ensures)
+returns-in-Sized : tie.Need-returns-in-Sized
+returns-in-Sized c = let m = c in checked_text_reply (subst (SizedTextMeans _ _ _ _) m.in-Sized.is m.size_good.ensures)
 
-pub text-size-with-spec : {M : Type 1} → statement M
-text-size-with-spec =
-    tie.close (tie.spec size-good-requires enum-known-refusal enum-known-size returns returns-2)
+pub text_size_with_spec : {M : Type 1} → statement M
+text_size_with_spec =
+    tie.close (tie.spec size_good-requires enum_known-refusal enum_known-size returns-in-Refused returns-in-Sized)

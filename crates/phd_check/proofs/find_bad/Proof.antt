@@ -51,7 +51,7 @@ start w = w.before.before.before.before.before.before
 numbers-good : (c : tie.Else-not-numbers_good invariant-loop-j decreases-loop-j invariant-loop-k decreases-loop-k invariant-rows decreases-rows)
     → let a = (start (head c)).args in
     good_numbers a.header (head c).rows.index (length a.refs.now) (length a.names.now) c.row_at-row.result ≡ true
-numbers-good c = sym c.numbers_good.ensures ∙ not-false _ c.if-not-numbers_good.false
+numbers-good c = sym c.numbers_good.ensures ∙ c.if-not-numbers_good.false
 
 -- The references and the name of the row lie within their tables.
 name-bound : (c : tie.Else-not-numbers_good invariant-loop-j decreases-loop-j invariant-loop-k decreases-loop-k invariant-rows decreases-rows)
@@ -94,7 +94,7 @@ ref_good-requires : tie.Need-ref_good-requires invariant-loop-j decreases-loop-j
 ref_good-requires c κs = search rules
 
 overflow_add-j : tie.Need-overflow_add-j invariant-loop-j decreases-loop-j invariant-loop-k decreases-loop-k invariant-rows decreases-rows
-overflow_add-j c = let d = c.before.before.before.before.before.before.before in omega (arith, (start (head d)).good.1.1.0)
+overflow_add-j c = let d = c.before.before.before.before.before.before.before in omega (arith, (start (head d)).well_formed.1.1.0)
 
 loop-j-smaller : tie.Need-loop-j-smaller invariant-loop-j decreases-loop-j invariant-loop-k decreases-loop-k invariant-rows decreases-rows
 loop-j-smaller c = search rules
@@ -102,11 +102,11 @@ loop-j-smaller c = search rules
 loop-j-preserved : tie.Need-loop-j-preserved invariant-loop-j decreases-loop-j invariant-loop-k decreases-loop-k invariant-rows decreases-rows
 loop-j-preserved c =
     let l = c.before.before.before.before in
-    let e = sym c.ref_good.ensures ∙ not-false _ c.if-not-ref_good.false in
+    let e = sym c.ref_good.ensures ∙ c.if-not-ref_good.false in
     (omega arith, omega arith, sym (good_refs_next _ _ l.loop-j.j _ (omega arith) (omega arith) e) ∙ l.loop-j.invariant.2)
 
 overflow_add-end : tie.Need-overflow_add-end invariant-loop-j decreases-loop-j invariant-loop-k decreases-loop-k invariant-rows decreases-rows
-overflow_add-end c = let d = c.before.before in omega (arith, name-bound d, (start (head d)).good.1.0)
+overflow_add-end c = let d = c.before.before in omega (arith, name-bound d, (start (head d)).well_formed.1.0)
 
 loop-k-init : tie.Need-loop-k-init invariant-loop-j decreases-loop-j invariant-loop-k decreases-loop-k invariant-rows decreases-rows
 loop-k-init c =
@@ -120,7 +120,7 @@ bounds-names-k-in-loop-k : tie.Need-bounds-names-k-in-loop-k invariant-loop-j de
 bounds-names-k-in-loop-k c = search rules
 
 overflow_add-k : tie.Need-overflow_add-k invariant-loop-j decreases-loop-j invariant-loop-k decreases-loop-k invariant-rows decreases-rows
-overflow_add-k c = let d = c.before.before.before.before.before.before.before in omega (arith, (start (head d)).good.1.0)
+overflow_add-k c = let d = c.before.before.before.before.before.before.before in omega (arith, (start (head d)).well_formed.1.0)
 
 loop-k-smaller : tie.Need-loop-k-smaller invariant-loop-j decreases-loop-j invariant-loop-k decreases-loop-k invariant-rows decreases-rows
 loop-k-smaller c = search rules
@@ -138,10 +138,10 @@ overflow_add-index : tie.Need-overflow_add-index invariant-loop-j decreases-loop
 overflow_add-index c =
     let d = good-from c in
     let a = (start (head d)).args in
-    omega (arith, name-bound d, row_first a.header a.names.now a.refs.now (head d).rows.index _ (numbers-good d), (start (head d)).good.1.1.0)
+    omega (arith, name-bound d, row_first a.header a.names.now a.refs.now (head d).rows.index _ (numbers-good d), (start (head d)).well_formed.1.1.0)
 
 overflow_add-i : tie.Need-overflow_add-i invariant-loop-j decreases-loop-j invariant-loop-k decreases-loop-k invariant-rows decreases-rows
-overflow_add-i c = omega (arith, (start (head (good-from c))).good.1.1.1.0)
+overflow_add-i c = omega (arith, (start (head (good-from c))).well_formed.1.1.1.0)
 
 rows-smaller : tie.Need-rows-smaller invariant-loop-j decreases-loop-j invariant-loop-k decreases-loop-k invariant-rows decreases-rows
 rows-smaller c = search rules
@@ -154,9 +154,9 @@ unfolding good_refs
 refs-checked c =
     let w = head c.before in
     let r = c.row_at-row.result in
-    ⊎_elim (λ o. let e : r.first + r.count - o.2.j ≡ 0 = omega arith in sym (rw e at o.2.inv.2))
-    (λ o. good_refs_of _ _ r (sym w.refs_good-clean.ensures ∙ not-false _ o.left))
-    c.if-not-clean.branch
+    ⊎_elim (λ o. let e : r.first + r.count - o.loop-j.j ≡ 0 = omega arith in sym (rw e at o.loop-j.invariant.2))
+    (λ o. good_refs_of _ _ r (sym w.refs_good-clean.ensures ∙ o.if-not-clean.false))
+    c.if-not-clean.branch-raw
 
 -- A row that passed all checks is good.
 row-checked : (c : tie.After-struct_known-in-rows-2-1 invariant-loop-j decreases-loop-j invariant-loop-k decreases-loop-k invariant-rows decreases-rows)
@@ -182,7 +182,7 @@ rows-preserved c =
     let w = head d in
     let a = (start w).args in
     let l = first_bad_later a.header a.names.now a.refs.now a.rows.now w.rows.i w.rows.index (omega arith) (row-checked c) in
-    (omega arith, rw d.row_at-row.ensures (sym l ∙ w.rows.inv.1))
+    (omega arith, rw d.row_at-row.ensures (sym l ∙ w.rows.invariant.1))
 
 -- If the loop ended early, the row at which it ended is bad: by its numbers, a reference or a name byte.
 left_at : (c : tie.Left-rows invariant-loop-j decreases-loop-j invariant-loop-k decreases-loop-k invariant-rows decreases-rows)
@@ -195,11 +195,11 @@ left_at c more =
     let w = c.before in
     let a = (start w).args in
     ⊎_elim (λ o. absurd (omega arith))
-    (⊎_elim (λ o. rw (← o.1.ensures) (all_true_false _ 0 (sym o.2.ensures ∙ not-true _ o.3.taken)))
-    (⊎_elim (λ o. rw (← o.1.ensures, ← w.max_address_of-top.ensures)
-    (all_true_false _ 1 (sym o.6.inv.2 ∙ good_refs_false _ _ o.6.j _ (omega arith) (omega arith) (sym o.9.ensures ∙ not-true _ o.10.taken))))
-    (λ o. rw (← o.1.ensures) (all_true_false _ 2 (sym o.6.inv.2 ∙ name_bytes_false _ o.6.k _ (omega arith) (omega arith) o.10.taken)))))
-    c.rows-test.branch
+    (⊎_elim (λ o. rw (← o.row_at-row.ensures) (all_true_false _ 0 (sym o.numbers_good.ensures ∙ o.if-not-numbers_good.true)))
+    (⊎_elim (λ o. rw (← o.row_at-row.ensures, ← w.max_address_of-top.ensures)
+    (all_true_false _ 1 (sym o.loop-j.invariant.2 ∙ good_refs_false _ _ o.loop-j.j _ (omega arith) (omega arith) (sym o.ref_good.ensures ∙ o.if-not-ref_good.true))))
+    (λ o. rw (← o.row_at-row.ensures) (all_true_false _ 2 (sym o.loop-k.invariant.2 ∙ name_bytes_false _ o.loop-k.k _ (omega arith) (omega arith) o.if-names-k.true)))))
+    c.rows-test.branch-raw
 
 -- The row returned is the one at which the loop ended.
 returns-then-i-n : tie.Need-returns-then-i-n invariant-loop-j decreases-loop-j invariant-loop-k decreases-loop-k invariant-rows decreases-rows

@@ -5,17 +5,17 @@ use Rattle.phd_counts.specs.Counts.{nulls_of}
 use Rattle.phd_counts.proofs.row_nulls.Statement.{statement}
 use Rattle.phd_counts.proofs.row_nulls.Tie as tie
 
+returns-then-row-ne3 : tie.Need-returns-then-row-ne3
+unfolding nulls_of
+returns-then-row-ne3 c = rw (ne_eqb _ 3 c.if-row-ne3.true)
+
+returns-then-row : tie.Need-returns-then-row
+unfolding nulls_of
+returns-then-row c = rw (eq-eqb _ 3 c.if-row-ne3.false) (omega arith)
+
 returns : tie.Need-returns
 unfolding nulls_of
-returns c = rw (ne_eqb _ 3 c.if1.true)
+returns c = rw (eq-eqb _ 3 c.if-row-ne3.false)
 
-returns-2 : tie.Need-returns-2
-unfolding nulls_of
-returns-2 c = rw (eq-eqb _ 3 c.before.before.if1.false) (omega arith)
-
-returns-3 : tie.Need-returns-3
-unfolding nulls_of
-returns-3 c = rw (eq-eqb _ 3 c.before.before.before.if1.false)
-
-pub row-nulls-spec : {M : Type 1} → statement M
-row-nulls-spec = tie.close (tie.spec returns returns-2 returns-3)
+pub row_nulls_spec : {M : Type 1} → statement M
+row_nulls_spec = tie.close (tie.spec returns-then-row-ne3 returns-then-row returns)

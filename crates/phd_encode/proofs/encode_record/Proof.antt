@@ -27,83 +27,83 @@ none c =
     let a = c.args in
     progress_start a.out.now a.at (parts a.before a.p a.row (refs_of a.refs.now a.row) (name_of a.names.now a.row)) (in_parts _ _ _ _ _) c.requires.1
 
-abbrev start : tie.After-encode-tag → tie.Start
+abbrev start : tie.After-encode_tag-a → tie.Start
 start c = c.before.before.before.before.before.before.before.before
 
-abbrev tag : tie.After-encode-tag → WriteProgress
-tag c = progress_next (none (start c)) c.encode_tag.ensures
+abbrev tag : tie.After-encode_tag-a → WriteProgress
+tag c = progress_next (none (start c)) c.encode_tag-a.ensures
 
-abbrev front : tie.After-encode-front → WriteProgress
-front c = progress_next (tag c.before.before.before.before) c.encode_front.ensures
+abbrev front : tie.After-encode_front-b → WriteProgress
+front c = progress_next (tag c.before.before.before.before) c.encode_front-b.ensures
 
-abbrev middle : tie.After-encode-middle → WriteProgress
-middle c = progress_next (front c.before.before.before.before) c.encode_middle.ensures
+abbrev middle : tie.After-encode_middle-c → WriteProgress
+middle c = progress_next (front c.before.before.before.before) c.encode_middle-c.ensures
 
-abbrev name : tie.After-encode-name → WriteProgress
-name c = progress_next (middle c.before.before.before.before) c.encode_name.ensures
+abbrev name : tie.After-encode_name-d → WriteProgress
+name c = progress_next (middle c.before.before.before.before) c.encode_name-d.ensures
 
-abbrev refs-done : tie.After-encode-refs → WriteProgress
-refs-done c = progress_next (name c.before.before.before.before) c.encode_refs.ensures
+abbrev refs-done : tie.After-encode_refs-e → WriteProgress
+refs-done c = progress_next (name c.before.before.before.before) c.encode_refs-e.ensures
 
-abbrev tail : tie.After-encode-tail → WriteProgress
+abbrev tail : tie.After-encode_tail → WriteProgress
 tail c = progress_next (refs-done c.before.before.before.before) c.encode_tail.ensures
 
-is-compact-requires : tie.Need-is-compact-requires
-is-compact-requires c κs = search rules
+is_compact-requires : tie.Need-is_compact-requires
+is_compact-requires c κs = search rules
 
-encode-compact-requires : tie.Need-encode-compact-requires
-encode-compact-requires c κs =
+encode_compact-requires : tie.Need-encode_compact-requires
+encode_compact-requires c κs =
     let e = c.before.before in
     let s = e.before.before.before.before in
-    ((s.requires.0.0, s.requires.0.1, e.is-compact.ensures c.before.if1.true), s.requires.1)
+    ((s.requires.0.0, s.requires.0.1, e.is_compact.ensures c.if-is_compact.true), s.requires.1)
 
-same_length : tie.Need-same-length
-same_length c = search rules
+shape_of-out-then-is_compact : tie.Need-shape_of-out-then-is_compact
+shape_of-out-then-is_compact c = search rules
 
-returns : tie.Need-returns
-returns c = search rules
+returns-then-is_compact : tie.Need-returns-then-is_compact
+returns-then-is_compact c = search rules
 
-encode-tag-requires : tie.Need-encode-tag-requires
-encode-tag-requires c κs = next_part_fits (none c.before.before.before.before.before.before.before)
+encode_tag-a-requires : tie.Need-encode_tag-a-requires
+encode_tag-a-requires c κs = next_part_fits (none c.before.before.before.before.before.before.before)
 
-encode-front-requires : tie.Need-encode-front-requires
-encode-front-requires c κs = next_part_fits (tag c.before.before.before)
+encode_front-b-requires : tie.Need-encode_front-b-requires
+encode_front-b-requires c κs = next_part_fits (tag c.before.before.before)
 
-encode-middle-requires : tie.Need-encode-middle-requires
-encode-middle-requires c κs = next_part_fits (front c.before.before.before)
+encode_middle-c-requires : tie.Need-encode_middle-c-requires
+encode_middle-c-requires c κs = next_part_fits (front c.before.before.before)
 
-encode-name-requires : tie.Need-encode-name-requires
-encode-name-requires c κs =
+encode_name-d-requires : tie.Need-encode_name-d-requires
+encode_name-d-requires c κs =
     let m = c.before.before.before in
     ((start m.before.before.before.before.before.before.before.before).requires.0.1, next_part_fits (middle m))
 
-encode-refs-requires : tie.Need-encode-refs-requires
-encode-refs-requires c κs =
+encode_refs-e-requires : tie.Need-encode_refs-e-requires
+encode_refs-e-requires c κs =
     let n = c.before.before.before in
     ((start n.before.before.before.before.before.before.before.before.before.before.before.before).requires.0.0, next_part_fits (name n))
 
-encode-tail-requires : tie.Need-encode-tail-requires
-encode-tail-requires c κs = next_part_fits (refs-done c.before.before.before)
+encode_tail-requires : tie.Need-encode_tail-requires
+encode_tail-requires c κs = next_part_fits (refs-done c.before.before.before)
 
-same-length-2 : tie.Need-same-length-2
-same-length-2 c = search rules
+shape_of-out : tie.Need-shape_of-out
+shape_of-out c = search rules
 
-returns-2 : tie.Need-returns-2
-returns-2 c = progress_done (tail c.before.before) refl
+returns : tie.Need-returns
+returns c = progress_done (tail c.before.before) refl
 
-pub encode-record-spec : {M : Type 1} → statement M
-encode-record-spec =
+pub encode_record_spec : {M : Type 1} → statement M
+encode_record_spec =
     tie.close
     (tie.spec
-    is-compact-requires
-    encode-compact-requires
-    same_length
-    returns
-    encode-tag-requires
-    encode-front-requires
-    encode-middle-requires
-    encode-name-requires
-    encode-refs-requires
-    encode-tail-requires
-    same-length-2
-    returns-2)
+    is_compact-requires
+    encode_compact-requires
+    shape_of-out-then-is_compact
+    returns-then-is_compact
+    encode_tag-a-requires
+    encode_front-b-requires
+    encode_middle-c-requires
+    encode_name-d-requires
+    encode_refs-e-requires
+    encode_tail-requires
+    shape_of-out
+    returns)

@@ -6,5 +6,5 @@ use Rattle.phd_encode.proofs.is_compact.Tie as tie
 returns : tie.Need-returns
 returns c = compact_of_tests _ _
 
-pub is-compact-spec : {M : Type 1} → statement M
-is-compact-spec = tie.close (tie.spec returns)
+pub is_compact_spec : {M : Type 1} → statement M
+is_compact_spec = tie.close (tie.spec returns)

@@ -8,38 +8,38 @@ use Rattle.phd.specs.Phd.{after_vm}
 use Rattle.phd_header.proofs.after_vm.Statement.{statement}
 use Rattle.phd_header.proofs.after_vm.Tie as tie
 
-got : (c : tie.After-tag) → let a = c.before.before.before.before.args in
-    run (field 1) a.s.now a.at ≡ whole c.tag.given.0.0 c.tag.given.0.1.0
-got c = sym c.before.before.field.ensures.0 ∙ ap outcome c.tag.given.1
+got : (c : tie.In-Is) → let a = c.args in
+    run (field 1) a.s.now a.at ≡ whole c.in-Is.tag c.in-Is.next
+got c = sym c.field.ensures.0 ∙ ap outcome c.in-Is.is
 
 field-requires : tie.Need-field-requires
 field-requires c κs = search rules
 
-enum-known-tag : tie.Need-enum-known-tag
-enum-known-tag c = search rules
+enum_known-tag : tie.Need-enum_known-tag
+enum_known-tag c = search rules
 
-returns : tie.Need-returns
+returns-then-tag-eq4 : tie.Need-returns-then-tag-eq4
 unfolding after_vm
-returns c = rw (run_then, got c.before.before, run_then, run_check, eq-eqb _ _ c.if1.true)
+returns-then-tag-eq4 c = rw (run_then, got c.before, run_then, run_check, eq-eqb _ _ c.if-tag-eq4.true)
 
-returns-2 : tie.Need-returns-2
+returns-then-tag-eq2 : tie.Need-returns-then-tag-eq2
 unfolding after_vm
-returns-2 c =
-    rw (run_then, got c.before.before.before, run_then, run_check, ne_eqb _ _ c.before.if1.false, run_check, eq-eqb _ _ c.if2.true)
+returns-then-tag-eq2 c =
+    rw (run_then, got c.before.before, run_then, run_check, ne_eqb _ _ c.if-tag-eq4.false, run_check, eq-eqb _ _ c.if-tag-eq2.true)
 
-enum-known-w : tie.Need-enum-known-w
-enum-known-w c = search rules
+enum_known-w : tie.Need-enum_known-w
+enum_known-w c = search rules
 
-returns-3 : tie.Need-returns-3
+returns-else-tag-eq2 : tie.Need-returns-else-tag-eq2
 unfolding after_vm
-returns-3 c =
-    rw (run_then, got c.before.before.before, run_then, run_check, ne_eqb _ _ c.before.if1.false, run_check, ne_eqb _ _ c.if2.false)
+returns-else-tag-eq2 c =
+    rw (run_then, got c.before.before, run_then, run_check, ne_eqb _ _ c.if-tag-eq4.false, run_check, ne_eqb _ _ c.if-tag-eq2.false)
 
-returns-4 : tie.Need-returns-4
+returns-in-Stops : tie.Need-returns-in-Stops
 unfolding after_vm
-returns-4 c = rw (run_then, ← c.before.before.before.field.ensures.0, c.before.w.given.1)
+returns-in-Stops c = rw (run_then, ← c.field.ensures.0, c.in-Stops.is)
 
-pub after-vm-spec : {M : Type 1} → statement M
-after-vm-spec =
+pub after_vm_spec : {M : Type 1} → statement M
+after_vm_spec =
     tie.close
-    (tie.spec field-requires enum-known-tag returns returns-2 enum-known-w returns-3 returns-4)
+    (tie.spec field-requires enum_known-tag returns-then-tag-eq4 returns-then-tag-eq2 enum_known-w returns-else-tag-eq2 returns-in-Stops)

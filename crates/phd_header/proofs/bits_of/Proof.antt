@@ -6,11 +6,11 @@ use Rattle.phd_header.proofs.bits_of.Tie as tie
 bit-requires : tie.Need-bit-requires
 bit-requires c κs = search rules
 
+returns-then-bit : tie.Need-returns-then-bit
+returns-then-bit c = rw (← c.bit.ensures, c.if-bit.true)
+
 returns : tie.Need-returns
-returns c = rw (← c.before.bit.ensures, c.if1.true)
+returns c = rw (← c.bit.ensures, c.if-bit.false)
 
-returns-2 : tie.Need-returns-2
-returns-2 c = rw (← c.before.bit.ensures, c.if1.false)
-
-pub bits-of-spec : {M : Type 1} → statement M
-bits-of-spec = tie.close (tie.spec bit-requires returns returns-2)
+pub bits_of_spec : {M : Type 1} → statement M
+bits_of_spec = tie.close (tie.spec bit-requires returns-then-bit returns)

@@ -9,38 +9,38 @@ use Rattle.phd.specs.Phd.{magic_bytes}
 use Rattle.phd_header.proofs.magic_bytes.Statement.{statement}
 use Rattle.phd_header.proofs.magic_bytes.Tie as tie
 
-sub-left : tie.Need-overflow-sub-left
-sub-left c = search rules
+overflow_sub-left : tie.Need-overflow_sub-left
+overflow_sub-left c = search rules
 
-sub-t6 : tie.Need-overflow-sub-t6
-sub-t6 c = search rules
+overflow_sub-result : tie.Need-overflow_sub-result
+overflow_sub-result c = search rules
 
-returns : tie.Need-returns
+returns-then-left-lt18 : tie.Need-returns-then-left-lt18
 unfolding magic_bytes
-returns c =
-    let a = c.before.before.args in
+returns-then-left-lt18 c =
+    let a = c.args in
     let h : length a.s.now < a.at + 18 = omega arith in
     let e : a.at + 18 - length a.s.now ≡ 18 - (length a.s.now - a.at) = omega arith in
     rw (run_then, run_raw_short _ _ _ h, e)
 
-magic-matches-requires : tie.Need-magic-matches-requires
-magic-matches-requires c κs = search rules
+magic_matches-requires : tie.Need-magic_matches-requires
+magic_matches-requires c κs = search rules
 
-add-t9 : tie.Need-overflow-add-t9
-add-t9 c = search rules
+overflow_add-result : tie.Need-overflow_add-result
+overflow_add-result c = search rules
 
 -- All 18 bytes are present.
-enough : (c : tie.After-magic-matches) → let a = c.before.before.before.args in a.at + 18 ≤ length a.s.now
+enough : (c : tie.After-magic_matches) → let a = c.args in a.at + 18 ≤ length a.s.now
 enough c = omega arith
 
-returns-2 : tie.Need-returns-2
+returns-then-magic_matches : tie.Need-returns-then-magic_matches
 unfolding magic_bytes
-returns-2 c = rw (run_then, run_raw _ _ _ (enough c.before), run_check, ← c.before.magic-matches.ensures, c.if2.true)
+returns-then-magic_matches c = rw (run_then, run_raw _ _ _ (enough c.before), run_check, ← c.magic_matches.ensures, c.if-magic_matches.true)
 
-returns-3 : tie.Need-returns-3
+returns : tie.Need-returns
 unfolding magic_bytes
-returns-3 c = rw (run_then, run_raw _ _ _ (enough c.before), run_check, ← c.before.magic-matches.ensures, c.if2.false)
+returns c = rw (run_then, run_raw _ _ _ (enough c.before), run_check, ← c.magic_matches.ensures, c.if-magic_matches.false)
 
-pub magic-bytes-spec : {M : Type 1} → statement M
-magic-bytes-spec =
-    tie.close (tie.spec sub-left sub-t6 returns magic-matches-requires add-t9 returns-2 returns-3)
+pub magic_bytes_spec : {M : Type 1} → statement M
+magic_bytes_spec =
+    tie.close (tie.spec overflow_sub-left overflow_sub-result returns-then-left-lt18 magic_matches-requires overflow_add-result returns-then-magic_matches returns)

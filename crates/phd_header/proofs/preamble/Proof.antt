@@ -12,155 +12,155 @@ use Rattle.phd_header.specs.HeaderOutcomes.{unit_outcome}
 use Rattle.phd_header.proofs.preamble.Statement.{statement}
 use Rattle.phd_header.proofs.preamble.Tie as tie
 
-abbrev dump : tie.After-len → List ℕ
-dump c = c.before.before.before.before.args.s.now
+abbrev dump : tie.In-Is → List ℕ
+dump c = c.args.s.now
 
 -- Earlier program points: after the length, after the opening string, after the version.
-abbrev len_of : tie.After-next → tie.After-len
-len_of c = c.before.before.before.before
+abbrev len_of : tie.In-Is-magic_bytes → tie.In-Is
+len_of c = c.before.before
 
-abbrev next_of : tie.After-version → tie.After-next
-next_of c = c.before.before.before.before
+abbrev next_of : tie.In-Is-version → tie.In-Is-magic_bytes
+next_of c = c.before.before
 
-abbrev version_of : tie.After-flags → tie.After-version
-version_of c = c.before.before.before.before
+abbrev version_of : tie.In-Is-flags → tie.In-Is-version
+version_of c = c.before.before
 
-module _ (c : tie.After-len) where
-  len-got : run (exactly 2 18 3) (dump c) 0 ≡ whole c.len.given.0.0 c.len.given.0.1.0
-  len-got = sym c.before.before.exactly.ensures ∙ ap outcome c.len.given.1
+module _ (c : tie.In-Is) where
+  len-got : run (exactly 2 18 3) (dump c) 0 ≡ whole c.in-Is.field-0 c.in-Is.at
+  len-got = sym c.exactly-len.ensures ∙ ap outcome c.in-Is.is
 
-  len-in : c.len.given.0.1.0 ≤ length (dump c)
+  len-in : c.in-Is.at ≤ length (dump c)
   len-in = end_in_bounds (exactly 2 18 3) _ _ _ _ (omega arith) len-got
 
-module _ (c : tie.After-next) where
-  next-got : run magic_bytes (dump (len_of c)) (len_of c).len.given.0.1.0 ≡ whole tt c.next.given.0.0
-  next-got = sym c.before.before.magic_bytes.ensures ∙ ap unit_outcome c.next.given.1
+module _ (c : tie.In-Is-magic_bytes) where
+  next-got : run magic_bytes (dump (len_of c)) (len_of c).in-Is.at ≡ whole tt c.in-Is-magic_bytes.next
+  next-got = sym c.magic_bytes.ensures ∙ ap unit_outcome c.in-Is-magic_bytes.is
 
-  next-in : c.next.given.0.0 ≤ length (dump (len_of c))
+  next-in : c.in-Is-magic_bytes.next ≤ length (dump (len_of c))
   next-in = end_in_bounds magic_bytes _ _ _ _ (len-in (len_of c)) next-got
 
-module _ (c : tie.After-version) where
-  version-got : run (exactly 4 6 4) (dump (len_of (next_of c))) (next_of c).next.given.0.0
-      ≡ whole c.version.given.0.0 c.version.given.0.1.0
-  version-got = sym c.before.before.exactly2.ensures ∙ ap outcome c.version.given.1
+module _ (c : tie.In-Is-version) where
+  version-got : run (exactly 4 6 4) (dump (len_of (next_of c))) (next_of c).in-Is-magic_bytes.next
+      ≡ whole c.in-Is-version.field-0 c.in-Is-version.at
+  version-got = sym c.exactly-version.ensures ∙ ap outcome c.in-Is-version.is
 
-  version-in : c.version.given.0.1.0 ≤ length (dump (len_of (next_of c)))
+  version-in : c.in-Is-version.at ≤ length (dump (len_of (next_of c)))
   version-in = end_in_bounds (exactly 4 6 4) _ _ _ _ (next-in (next_of c)) version-got
 
-module _ (c : tie.After-flags) where
-  flags-got : run (below 4 8 5) (dump (len_of (next_of (version_of c)))) (version_of c).version.given.0.1.0
-      ≡ whole c.flags.given.0.0 c.flags.given.0.1.0
-  flags-got = sym c.before.before.below.ensures ∙ ap outcome c.flags.given.1
+module _ (c : tie.In-Is-flags) where
+  flags-got : run (below 4 8 5) (dump (len_of (next_of (version_of c)))) (version_of c).in-Is-version.at
+      ≡ whole c.in-Is-flags.value c.in-Is-flags.at
+  flags-got = sym c.below-flags.ensures ∙ ap outcome c.in-Is-flags.is
 
-  flags-in : c.flags.given.0.1.0 ≤ length (dump (len_of (next_of (version_of c))))
+  flags-in : c.in-Is-flags.at ≤ length (dump (len_of (next_of (version_of c))))
   flags-in = end_in_bounds (below 4 8 5) _ _ _ _ (version-in (version_of c)) flags-got
 
+exactly-len-requires : tie.Need-exactly-len-requires
+exactly-len-requires c κs = search rules
+
+enum_known-len : tie.Need-enum_known-len
+enum_known-len c = search rules
+
+enum_told-1 : tie.Need-enum_told-1
+enum_told-1 c = search rules
+
+returns-in_default : tie.Need-returns-in_default
+unfolding preamble
+returns-in_default c = rw (run_then, ← c.exactly-len.ensures, c.in_default.is)
+
+magic_bytes-requires : tie.Need-magic_bytes-requires
+magic_bytes-requires c κs = len-in c
+
+enum_known-next : tie.Need-enum_known-next
+enum_known-next c = search rules
+
+enum_known-w : tie.Need-enum_known-w
+enum_known-w c = search rules
+
+returns-in-Stops : tie.Need-returns-in-Stops
+unfolding preamble
+returns-in-Stops c =
+    let m = c.before.before in
+    rw (run_then, len-got m, run_then, ← c.magic_bytes.ensures, c.in-Stops.is)
+
+exactly-version-requires : tie.Need-exactly-version-requires
+exactly-version-requires c κs = (omega arith, next-in c)
+
+enum_known-version : tie.Need-enum_known-version
+enum_known-version c = search rules
+
+enum_told-in_default-version : tie.Need-enum_told-in_default-version
+enum_told-in_default-version c = search rules
+
+returns-in_default-version : tie.Need-returns-in_default-version
+unfolding preamble
+returns-in_default-version c =
+    let m = c.before.before in
+    rw (run_then, len-got (len_of m), run_then, next-got m, run_then, ← c.exactly-version.ensures, c.in_default-version.is)
+
+below-flags-requires : tie.Need-below-flags-requires
+below-flags-requires c κs = (omega arith, version-in c)
+
+enum_known-flags : tie.Need-enum_known-flags
+enum_known-flags c = search rules
+
+enum_told-in_default-flags : tie.Need-enum_told-in_default-flags
+enum_told-in_default-flags c = search rules
+
+returns-in_default-flags : tie.Need-returns-in_default-flags
+unfolding preamble
+returns-in_default-flags c =
+    let v = c.before.before in
+    let m = next_of v in
+    rw (run_then, len-got (len_of m), run_then, next-got m, run_then, version-got v, run_then, ← c.below-flags.ensures, c.in_default-flags.is)
+
 exactly-requires : tie.Need-exactly-requires
-exactly-requires c κs = search rules
+exactly-requires c κs = (omega arith, flags-in c)
 
-enum-known-len : tie.Need-enum-known-len
-enum-known-len c = search rules
+enum_known-end : tie.Need-enum_known-end
+enum_known-end c = search rules
 
-enum_told : tie.Need-enum-told
-enum_told c = search rules
+enum_known-w-in-Stops-exactly : tie.Need-enum_known-w-in-Stops-exactly
+enum_known-w-in-Stops-exactly c = search rules
 
-returns : tie.Need-returns
+returns-in-Is-exactly : tie.Need-returns-in-Is-exactly
 unfolding preamble
-returns c = rw (run_then, ← c.before.before.exactly.ensures, c.enum_told.given.1)
-
-magic-bytes-requires : tie.Need-magic-bytes-requires
-magic-bytes-requires c κs = len-in c.before
-
-enum-known-next : tie.Need-enum-known-next
-enum-known-next c = search rules
-
-enum-known-w : tie.Need-enum-known-w
-enum-known-w c = search rules
-
-returns-2 : tie.Need-returns-2
-unfolding preamble
-returns-2 c =
-    let m = c.before.before.before.before.before in
-    rw (run_then, len-got m, run_then, ← c.before.before.before.magic_bytes.ensures, c.before.w.given.1)
-
-exactly-requires-2 : tie.Need-exactly-requires-2
-exactly-requires-2 c κs = (omega arith, next-in c.before)
-
-enum-known-version : tie.Need-enum-known-version
-enum-known-version c = search rules
-
-enum-told-2 : tie.Need-enum-told-2
-enum-told-2 c = search rules
-
-returns-3 : tie.Need-returns-3
-unfolding preamble
-returns-3 c =
-    let m = c.before.before.before.before in
-    rw (run_then, len-got (len_of m), run_then, next-got m, run_then, ← c.before.before.exactly2.ensures, c.enum-told2.given.1)
-
-below-requires : tie.Need-below-requires
-below-requires c κs = (omega arith, version-in c.before)
-
-enum-known-flags : tie.Need-enum-known-flags
-enum-known-flags c = search rules
-
-enum-told-3 : tie.Need-enum-told-3
-enum-told-3 c = search rules
-
-returns-4 : tie.Need-returns-4
-unfolding preamble
-returns-4 c =
-    let v = c.before.before.before.before in
-    let m = next_of v in
-    rw (run_then, len-got (len_of m), run_then, next-got m, run_then, version-got v, run_then, ← c.before.before.below.ensures, c.enum-told3.given.1)
-
-exactly-requires-3 : tie.Need-exactly-requires-3
-exactly-requires-3 c κs = (omega arith, flags-in c.before)
-
-enum-known-end : tie.Need-enum-known-end
-enum-known-end c = search rules
-
-enum-known-w-2 : tie.Need-enum-known-w-2
-enum-known-w-2 c = search rules
-
-returns-5 : tie.Need-returns-5
-unfolding preamble
-returns-5 c =
-    let f = c.before.before.before.before.before in
+returns-in-Is-exactly c =
+    let f = c.before.before in
     let v = version_of f in
     let m = next_of v in
-    rw (run_then, len-got (len_of m), run_then, next-got m, run_then, version-got v, run_then, flags-got f, run_then, ← c.before.before.before.exactly3.ensures, c.before.end.given.1, run_yield)
+    rw (run_then, len-got (len_of m), run_then, next-got m, run_then, version-got v, run_then, flags-got f, run_then, ← c.exactly.ensures, c.in-Is-exactly.is, run_yield)
 
-returns-6 : tie.Need-returns-6
+returns-in-Stops-exactly : tie.Need-returns-in-Stops-exactly
 unfolding preamble
-returns-6 c =
-    let f = c.before.before.before.before.before in
+returns-in-Stops-exactly c =
+    let f = c.before.before in
     let v = version_of f in
     let m = next_of v in
-    rw (run_then, len-got (len_of m), run_then, next-got m, run_then, version-got v, run_then, flags-got f, run_then, ← c.before.before.before.exactly3.ensures, c.before.w2.given.1)
+    rw (run_then, len-got (len_of m), run_then, next-got m, run_then, version-got v, run_then, flags-got f, run_then, ← c.exactly.ensures, c.in-Stops-exactly.is)
 
-pub preamble-spec : {M : Type 1} → statement M
-preamble-spec =
+pub preamble_spec : {M : Type 1} → statement M
+preamble_spec =
     tie.close
     (tie.spec
+    exactly-len-requires
+    enum_known-len
+    enum_told-1
+    returns-in_default
+    magic_bytes-requires
+    enum_known-next
+    enum_known-w
+    returns-in-Stops
+    exactly-version-requires
+    enum_known-version
+    enum_told-in_default-version
+    returns-in_default-version
+    below-flags-requires
+    enum_known-flags
+    enum_told-in_default-flags
+    returns-in_default-flags
     exactly-requires
-    enum-known-len
-    enum_told
-    returns
-    magic-bytes-requires
-    enum-known-next
-    enum-known-w
-    returns-2
-    exactly-requires-2
-    enum-known-version
-    enum-told-2
-    returns-3
-    below-requires
-    enum-known-flags
-    enum-told-3
-    returns-4
-    exactly-requires-3
-    enum-known-end
-    enum-known-w-2
-    returns-5
-    returns-6)
+    enum_known-end
+    enum_known-w-in-Stops-exactly
+    returns-in-Is-exactly
+    returns-in-Stops-exactly)

@@ -10,93 +10,93 @@ use Rattle.phd.specs.Phd.{preamble, header_records, header}
 use Rattle.phd_header.proofs.read_header.Statement.{statement}
 use Rattle.phd_header.proofs.read_header.Tie as tie
 
-module _ (c : tie.After-x) where
-  flags-got : run preamble c.before.before.before.before.args.s.now 0 ≡ whole c.x.given.0.0 c.x.given.0.1.0
-  flags-got = sym c.before.before.preamble.ensures ∙ ap outcome c.x.given.1
+module _ (c : tie.In-Is) where
+  flags-got : run preamble c.args.s.now 0 ≡ whole c.in-Is.x c.in-Is.next
+  flags-got = sym c.preamble.ensures ∙ ap outcome c.in-Is.is
 
-  flags-in : c.x.given.0.1.0 ≤ length c.before.before.before.before.args.s.now
+  flags-in : c.in-Is.next ≤ length c.args.s.now
   flags-in = end_in_bounds preamble _ _ _ _ (omega arith) flags-got
 
 -- The program point after the flags were read, before the VM string.
-abbrev flags_of : tie.After-vm → tie.After-x
-flags_of c = c.before.before.before.before
+abbrev flags_of : tie.In-Is-header_records → tie.In-Is
+flags_of c = c.before.before
 
-module _ (c : tie.After-vm) where
-  vm-got : run header_records (flags_of c).before.before.before.before.args.s.now (flags_of c).x.given.0.1.0
-      ≡ whole c.vm.given.0.0 c.vm.given.0.1.0
-  vm-got = sym c.before.before.header_records.ensures ∙ ap string_outcome c.vm.given.1
+module _ (c : tie.In-Is-header_records) where
+  vm-got : run header_records (flags_of c).args.s.now (flags_of c).in-Is.next
+      ≡ whole c.in-Is-header_records.vm c.in-Is-header_records.at
+  vm-got = sym c.header_records.ensures ∙ ap string_outcome c.in-Is-header_records.is
 
-  vm-in : c.vm.given.0.1.0 ≤ length (flags_of c).before.before.before.before.args.s.now
+  vm-in : c.in-Is-header_records.at ≤ length (flags_of c).args.s.now
   vm-in = end_in_bounds header_records _ _ _ _ (flags-in (flags_of c)) vm-got
 
 preamble-requires : tie.Need-preamble-requires
 preamble-requires c κs = search rules
 
-enum-known-x : tie.Need-enum-known-x
-enum-known-x c = search rules
+enum_known-x : tie.Need-enum_known-x
+enum_known-x c = search rules
 
-enum-known-w : tie.Need-enum-known-w
-enum-known-w c = search rules
+enum_known-w : tie.Need-enum_known-w
+enum_known-w c = search rules
 
-returns : tie.Need-returns
+returns-in-Stops : tie.Need-returns-in-Stops
 unfolding header
-returns c = rw (run_then, ← c.before.before.before.preamble.ensures, c.before.w.given.1)
+returns-in-Stops c = rw (run_then, ← c.preamble.ensures, c.in-Stops.is)
 
-header-records-requires : tie.Need-header-records-requires
-header-records-requires c κs = flags-in c.before
+header_records-requires : tie.Need-header_records-requires
+header_records-requires c κs = flags-in c
 
-enum-known-vm : tie.Need-enum-known-vm
-enum-known-vm c = search rules
+enum_known-vm : tie.Need-enum_known-vm
+enum_known-vm c = search rules
 
 exactly-requires : tie.Need-exactly-requires
-exactly-requires c κs = (omega arith, vm-in c.before)
+exactly-requires c κs = (omega arith, vm-in c)
 
-enum-known-end : tie.Need-enum-known-end
-enum-known-end c = search rules
+enum_known-end : tie.Need-enum_known-end
+enum_known-end c = search rules
 
-make-header-requires : tie.Need-make-header-requires
-make-header-requires c κs = search rules
+make_header-requires : tie.Need-make_header-requires
+make_header-requires c κs = search rules
 
-enum-known-w-2 : tie.Need-enum-known-w-2
-enum-known-w-2 c = search rules
+enum_known-w-in-Stops-exactly : tie.Need-enum_known-w-in-Stops-exactly
+enum_known-w-in-Stops-exactly c = search rules
 
-enum-known-w-3 : tie.Need-enum-known-w-3
-enum-known-w-3 c = search rules
+enum_known-w-in-Stops-header_records : tie.Need-enum_known-w-in-Stops-header_records
+enum_known-w-in-Stops-header_records c = search rules
 
-returns-2 : tie.Need-returns-2
+returns-in-Is-exactly : tie.Need-returns-in-Is-exactly
 unfolding header
-returns-2 c =
-    let e = c.before.before in
-    let v = e.before.before.before.before in
-    rw (run_then, flags-got (flags_of v), run_then, vm-got v, run_then, ← e.before.before.exactly.ensures, e.end.given.1, run_yield, c.make_header.ensures)
+returns-in-Is-exactly c =
+    let e = c.before in
+    let v = e.before.before in
+    rw (run_then, flags-got (flags_of v), run_then, vm-got v, run_then, ← e.exactly.ensures, e.in-Is-exactly.is, run_yield, c.make_header.ensures)
 
-returns-3 : tie.Need-returns-3
+returns-in-Stops-exactly : tie.Need-returns-in-Stops-exactly
 unfolding header
-returns-3 c =
-    let v = c.before.before.before.before.before in
-    rw (run_then, flags-got (flags_of v), run_then, vm-got v, run_then, ← c.before.before.before.exactly.ensures, c.before.w2.given.1)
+returns-in-Stops-exactly c =
+    let v = c.before.before in
+    rw (run_then, flags-got (flags_of v), run_then, vm-got v, run_then, ← c.exactly.ensures, c.in-Stops-exactly.is)
 
-returns-4 : tie.Need-returns-4
+returns-in-Stops-header_records : tie.Need-returns-in-Stops-header_records
 unfolding header
-returns-4 c =
-    let f = c.before.before.before.before.before in
-    rw (run_then, flags-got f, run_then, ← c.before.before.before.header_records.ensures, c.before.w3.given.1)
+returns-in-Stops-header_records c =
+    let f = c.before.before in
+    rw (run_then, flags-got f, run_then, ← c.header_records.ensures, c.in-Stops-header_records.is)
 
-pub read-header-spec : {M : Type 1} → statement M
-read-header-spec =
+pub read_header_spec : {M : Type 1} → statement M
+read_header_spec =
     tie.close
     (tie.spec
     preamble-requires
-    enum-known-x
-    enum-known-w
-    returns
-    header-records-requires
-    enum-known-vm
+    enum_known-x
+    enum_known-w
+    returns-in-Stops
+    header_records-requires
+    enum_known-vm
     exactly-requires
-    enum-known-end
-    make-header-requires
-    enum-known-w-2
-    enum-known-w-3
-    returns-2
-    returns-3
-    returns-4)
+    enum_known-end
+    make_header-requires
+    enum_known-w-in-Stops-exactly
+    enum_known-w-in-Stops-header_records
+    returns-in-Is-exactly
+    returns-in-Stops-exactly
+    returns-in-Stops-header_records)

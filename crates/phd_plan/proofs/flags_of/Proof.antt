@@ -27,134 +27,134 @@ class-most k = by (eqb k 2)
     by true = omega arith
     by false = omega arith
 
-low-most : (c : tie.After-hash-flags) → c.hash_flags.result ≤ 3
-low-most c = rw c.hash_flags.ensures (hash-most _)
+low-most : (c : tie.After-hash_flags-hash) → c.hash_flags-hash.result ≤ 3
+low-most c = rw c.hash_flags-hash.ensures (hash-most _)
 
-hash-flags-requires : tie.Need-hash-flags-requires
-hash-flags-requires c κs = search rules
+hash_flags-hash-requires : tie.Need-hash_flags-hash-requires
+hash_flags-hash-requires c κs = search rules
 
-mul-widths : tie.Need-overflow-mul-widths
-mul-widths c = search rules
+overflow_mul-widths : tie.Need-overflow_mul-widths
+overflow_mul-widths c = search rules
 
-mul-widths-2 : tie.Need-overflow-mul-widths-2
-mul-widths-2 c = search rules
+overflow_mul-widths-2 : tie.Need-overflow_mul-widths-2
+overflow_mul-widths-2 c = search rules
 
-add-widths : tie.Need-overflow-add-widths
-add-widths c = search rules
+overflow_add-widths : tie.Need-overflow_add-widths
+overflow_add-widths c = search rules
 
-enum_told : tie.Need-enum-told
-enum_told c = search rules
+enum_told-1 : tie.Need-enum_told-1
+enum_told-1 c = search rules
 
-add-result : tie.Need-overflow-add-result
-add-result c = let l = low-most c.before.before.before.before in omega arith
+overflow_add-result : tie.Need-overflow_add-result
+overflow_add-result c = let l = low-most c.before.before.before in omega arith
 
-enum-told-2 : tie.Need-enum-told-2
-enum-told-2 c = search rules
+enum_told-in-ObjectArray : tie.Need-enum_told-in-ObjectArray
+enum_told-in-ObjectArray c = search rules
 
-add-result-2 : tie.Need-overflow-add-result-2
-add-result-2 c = let l = low-most c.before.before.before.before in omega arith
+overflow_add-result-in-ObjectArray : tie.Need-overflow_add-result-in-ObjectArray
+overflow_add-result-in-ObjectArray c = let l = low-most c.before.before.before in omega arith
 
-enum-told-3 : tie.Need-enum-told-3
-enum-told-3 c = search rules
+enum_told-in-Class : tie.Need-enum_told-in-Class
+enum_told-in-Class c = search rules
 
-class-flags-requires : tie.Need-class-flags-requires
-class-flags-requires c κs = search rules
+class_flags-requires : tie.Need-class_flags-requires
+class_flags-requires c κs = search rules
 
-add-result-3 : tie.Need-overflow-add-result-3
-add-result-3 c = let l : c.class_flags.result ≤ 8 = rw c.class_flags.ensures (class-most _) in omega arith
+overflow_add-result-in-Class : tie.Need-overflow_add-result-in-Class
+overflow_add-result-in-Class c = let l : c.class_flags.result ≤ 8 = rw c.class_flags.ensures (class-most _) in omega arith
 
-enum-told-4 : tie.Need-enum-told-4
-enum-told-4 c = search rules
+enum_told-in-LongPrimitive : tie.Need-enum_told-in-LongPrimitive
+enum_told-in-LongPrimitive c = search rules
 
-mul-result : tie.Need-overflow-mul-result
-mul-result c = search rules
+overflow_mul-result : tie.Need-overflow_mul-result
+overflow_mul-result c = search rules
 
-add-result-4 : tie.Need-overflow-add-result-4
-add-result-4 c = let l = low-most c.before.before.before.before.before.before.before in omega arith
+overflow_add-result-then-m-eq0 : tie.Need-overflow_add-result-then-m-eq0
+overflow_add-result-then-m-eq0 c = let l = low-most c.before.before.before.before.before.before in omega arith
 
-returns : tie.Need-returns
+returns-then-m-eq0 : tie.Need-returns-then-m-eq0
 unfolding flags_of
-returns c =
+returns-then-m-eq0 c =
     let e = c.before.before.before in
-    rw (e.enum-told4.given.1, eq-eqb _ _ c.before.if1.true, ← e.before.before.before.before.hash_flags.ensures) (omega arith)
+    rw (e.in-LongPrimitive.is, eq-eqb _ _ c.if-m-eq0.true, ← e.hash_flags-hash.ensures) (omega arith)
 
-mul-result-2 : tie.Need-overflow-mul-result-2
-mul-result-2 c = search rules
+overflow_mul-result-in-LongPrimitive : tie.Need-overflow_mul-result-in-LongPrimitive
+overflow_mul-result-in-LongPrimitive c = search rules
 
-add-result-5 : tie.Need-overflow-add-result-5
-add-result-5 c = search rules
+overflow_add-result-in-LongPrimitive : tie.Need-overflow_add-result-in-LongPrimitive
+overflow_add-result-in-LongPrimitive c = search rules
 
-add-result-6 : tie.Need-overflow-add-result-6
-add-result-6 c = let l = low-most c.before.before.before.before.before.before.before in omega arith
+overflow_add-result-in-LongPrimitive-2 : tie.Need-overflow_add-result-in-LongPrimitive-2
+overflow_add-result-in-LongPrimitive-2 c = let l = low-most c.before.before.before.before.before.before in omega arith
 
-enum-told-5 : tie.Need-enum-told-5
-enum-told-5 c = search rules
+enum_told-in-Short : tie.Need-enum_told-in-Short
+enum_told-in-Short c = search rules
 
-enum-told-6 : tie.Need-enum-told-6
-enum-told-6 c = search rules
+enum_told-in-Medium : tie.Need-enum_told-in-Medium
+enum_told-in-Medium c = search rules
 
-enum-told-7 : tie.Need-enum-told-7
-enum-told-7 c = search rules
+enum_told-in-Primitive : tie.Need-enum_told-in-Primitive
+enum_told-in-Primitive c = search rules
 
-returns-2 : tie.Need-returns-2
+returns-in-Long : tie.Need-returns-in-Long
 unfolding flags_of
-returns-2 c = rw (c.enum_told.given.1, c.before.before.before.before.hash_flags.ensures)
+returns-in-Long c = rw (c.in-Long.is, c.hash_flags-hash.ensures)
 
-returns-3 : tie.Need-returns-3
+returns-in-ObjectArray : tie.Need-returns-in-ObjectArray
 unfolding flags_of
-returns-3 c = rw (c.enum-told2.given.1, c.before.before.before.before.hash_flags.ensures)
+returns-in-ObjectArray c = rw (c.in-ObjectArray.is, c.hash_flags-hash.ensures)
 
-returns-4 : tie.Need-returns-4
+returns-in-Class : tie.Need-returns-in-Class
 unfolding flags_of
-returns-4 c = rw (c.before.enum-told3.given.1, c.class_flags.ensures)
+returns-in-Class c = rw (c.in-Class.is, c.class_flags.ensures)
 
-returns-5 : tie.Need-returns-5
+returns-else-m-eq0 : tie.Need-returns-else-m-eq0
 unfolding flags_of
-returns-5 c =
+returns-else-m-eq0 c =
     let e = c.before.before.before in
-    rw (e.enum-told4.given.1, ne_eqb _ _ c.before.if1.false, e.before.before.before.before.hash_flags.ensures)
+    rw (e.in-LongPrimitive.is, ne_eqb _ _ c.if-m-eq0.false, e.hash_flags-hash.ensures)
 
-returns-6 : tie.Need-returns-6
+returns-in-Short : tie.Need-returns-in-Short
 unfolding flags_of
-returns-6 c = rw c.enum-told5.given.1
+returns-in-Short c = rw c.in-Short.is
 
-returns-7 : tie.Need-returns-7
+returns-in-Medium : tie.Need-returns-in-Medium
 unfolding flags_of
-returns-7 c = rw c.enum-told6.given.1
+returns-in-Medium c = rw c.in-Medium.is
 
-returns-8 : tie.Need-returns-8
+returns-in-Primitive : tie.Need-returns-in-Primitive
 unfolding flags_of
-returns-8 c = rw c.enum-told7.given.1
+returns-in-Primitive c = rw c.in-Primitive.is
 
-pub flags-of-spec : {M : Type 1} → statement M
-flags-of-spec =
+pub flags_of_spec : {M : Type 1} → statement M
+flags_of_spec =
     tie.close
     (tie.spec
-    hash-flags-requires
-    mul-widths
-    mul-widths-2
-    add-widths
-    enum_told
-    add-result
-    enum-told-2
-    add-result-2
-    enum-told-3
-    class-flags-requires
-    add-result-3
-    enum-told-4
-    mul-result
-    add-result-4
-    returns
-    mul-result-2
-    add-result-5
-    add-result-6
-    enum-told-5
-    enum-told-6
-    enum-told-7
-    returns-2
-    returns-3
-    returns-4
-    returns-5
-    returns-6
-    returns-7
-    returns-8)
+    hash_flags-hash-requires
+    overflow_mul-widths
+    overflow_mul-widths-2
+    overflow_add-widths
+    enum_told-1
+    overflow_add-result
+    enum_told-in-ObjectArray
+    overflow_add-result-in-ObjectArray
+    enum_told-in-Class
+    class_flags-requires
+    overflow_add-result-in-Class
+    enum_told-in-LongPrimitive
+    overflow_mul-result
+    overflow_add-result-then-m-eq0
+    returns-then-m-eq0
+    overflow_mul-result-in-LongPrimitive
+    overflow_add-result-in-LongPrimitive
+    overflow_add-result-in-LongPrimitive-2
+    enum_told-in-Short
+    enum_told-in-Medium
+    enum_told-in-Primitive
+    returns-in-Long
+    returns-in-ObjectArray
+    returns-in-Class
+    returns-else-m-eq0
+    returns-in-Short
+    returns-in-Medium
+    returns-in-Primitive)

@@ -4,17 +4,17 @@ use Rattle.phd_plan.specs.FormChoice.{hash_flags}
 use Rattle.phd_plan.proofs.hash_flags.Statement.{statement}
 use Rattle.phd_plan.proofs.hash_flags.Tie as tie
 
+returns-then-kind-eq2 : tie.Need-returns-then-kind-eq2
+unfolding hash_flags
+returns-then-kind-eq2 c = rw (eq-eqb _ _ c.if-kind-eq2.true)
+
+returns-then-kind-eq1 : tie.Need-returns-then-kind-eq1
+unfolding hash_flags
+returns-then-kind-eq1 c = rw (ne_eqb _ _ c.if-kind-eq2.false, eq-eqb _ _ c.if-kind-eq1.true)
+
 returns : tie.Need-returns
 unfolding hash_flags
-returns c = rw (eq-eqb _ _ c.if1.true)
+returns c = rw (ne_eqb _ _ c.if-kind-eq2.false, ne_eqb _ _ c.if-kind-eq1.false)
 
-returns-2 : tie.Need-returns-2
-unfolding hash_flags
-returns-2 c = rw (ne_eqb _ _ c.before.if1.false, eq-eqb _ _ c.if2.true)
-
-returns-3 : tie.Need-returns-3
-unfolding hash_flags
-returns-3 c = rw (ne_eqb _ _ c.before.if1.false, ne_eqb _ _ c.if2.false)
-
-pub hash-flags-spec : {M : Type 1} → statement M
-hash-flags-spec = tie.close (tie.spec returns returns-2 returns-3)
+pub hash_flags_spec : {M : Type 1} → statement M
+hash_flags_spec = tie.close (tie.spec returns-then-kind-eq2 returns-then-kind-eq1 returns)

@@ -4,23 +4,23 @@ use Rattle.phd_plan.specs.FormChoice.{make_plan}
 use Rattle.phd_plan.proofs.make_plan.Statement.{statement}
 use Rattle.phd_plan.proofs.make_plan.Tie as tie
 
-form-of-requires : tie.Need-form-of-requires
-form-of-requires c κs = search rules
+form_of-form-requires : tie.Need-form_of-form-requires
+form_of-form-requires c κs = search rules
 
-tag-of-requires : tie.Need-tag-of-requires
-tag-of-requires c κs = search rules
+tag_of-tag-requires : tie.Need-tag_of-tag-requires
+tag_of-tag-requires c κs = search rules
 
-flags-of-requires : tie.Need-flags-of-requires
-flags-of-requires c κs = search rules
+flags_of-flags-requires : tie.Need-flags_of-flags-requires
+flags_of-flags-requires c κs = search rules
 
-shape-of-requires : tie.Need-shape-of-requires
-shape-of-requires c κs = search rules
+shape_of-requires : tie.Need-shape_of-requires
+shape_of-requires c κs = search rules
 
 returns : tie.Need-returns
 unfolding make_plan
-returns c = rw (c.shape_of.ensures, c.before.flags_of.ensures, c.before.before.tag_of.ensures, c.before.before.before.form_of.ensures)
+returns c = rw (c.shape_of.ensures, c.flags_of-flags.ensures, c.tag_of-tag.ensures, c.form_of-form.ensures)
 
-pub make-plan-spec : {M : Type 1} → statement M
-make-plan-spec =
+pub make_plan_spec : {M : Type 1} → statement M
+make_plan_spec =
     tie.close
-    (tie.spec form-of-requires tag-of-requires flags-of-requires shape-of-requires returns)
+    (tie.spec form_of-form-requires tag_of-tag-requires flags_of-flags-requires shape_of-requires returns)

@@ -8,5 +8,5 @@ returns : tie.Need-returns
 unfolding needs_flag_byte
 returns c = refl
 
-pub needs-flag-byte-spec : {M : Type 1} → statement M
-needs-flag-byte-spec = tie.close (tie.spec returns)
+pub needs_flag_byte_spec : {M : Type 1} → statement M
+needs_flag_byte_spec = tie.close (tie.spec returns)

@@ -5,17 +5,17 @@ use Rattle.table.specs.Rows.{refs_of}
 use Rattle.phd_plan.proofs.plan_input_of.Statement.{statement}
 use Rattle.phd_plan.proofs.plan_input_of.Tie as tie
 
-gap-code-requires : tie.Need-gap-code-requires
-gap-code-requires c κs = search rules
+gap_code-gap-requires : tie.Need-gap_code-gap-requires
+gap_code-gap-requires c κs = search rules
 
-find-slot-requires : tie.Need-find-slot-requires
-find-slot-requires c κs = search rules
+find_slot-requires : tie.Need-find_slot-requires
+find_slot-requires c κs = search rules
 
-refs-code-requires : tie.Need-refs-code-requires
-refs-code-requires c κs = search rules
+refs_code-requires : tie.Need-refs_code-requires
+refs_code-requires c κs = search rules
 
-number-code-requires : tie.Need-number-code-requires
-number-code-requires c κs = search rules
+number_code-requires : tie.Need-number_code-requires
+number_code-requires c κs = search rules
 
 max-requires : tie.Need-max-requires
 max-requires c κs = search rules
@@ -24,15 +24,15 @@ returns : tie.Need-returns
 unfolding plan_input refs_of
 returns c =
     let w = c.before.before in
-    rw (c.max.ensures, c.before.number-code.ensures, w.refs_code.ensures, w.before.find_slot.ensures, w.before.before.gap-code.ensures)
+    rw (c.max.ensures, c.number_code.ensures, w.refs_code.ensures, w.find_slot.ensures, w.gap_code-gap.ensures)
 
-pub plan-input-of-spec : {M : Type 1} → statement M
-plan-input-of-spec =
+pub plan_input_of_spec : {M : Type 1} → statement M
+plan_input_of_spec =
     tie.close
     (tie.spec
-    gap-code-requires
-    find-slot-requires
-    refs-code-requires
-    number-code-requires
+    gap_code-gap-requires
+    find_slot-requires
+    refs_code-requires
+    number_code-requires
     max-requires
     returns)

@@ -5,15 +5,15 @@ use Rattle.phd_plan.specs.FormChoice.{slot_holds}
 use Rattle.phd_plan.proofs.slot_holds.Statement.{statement}
 use Rattle.phd_plan.proofs.slot_holds.Tie as tie
 
-mul-result : tie.Need-overflow-mul-result
-mul-result c = search rules
+offset_bounds-classes-i : tie.Need-offset_bounds-classes-i
+offset_bounds-classes-i c = search rules
 
-array-read-result : tie.Need-array-read-result
-array-read-result c = search rules
+bounds-classes-i : tie.Need-bounds-classes-i
+bounds-classes-i c = search rules
 
 returns : tie.Need-returns
 unfolding slot_holds
 returns c = refl
 
-pub slot-holds-spec : {M : Type 1} → statement M
-slot-holds-spec = tie.close (tie.spec mul-result array-read-result returns)
+pub slot_holds_spec : {M : Type 1} → statement M
+slot_holds_spec = tie.close (tie.spec offset_bounds-classes-i bounds-classes-i returns)

@@ -4,130 +4,130 @@ use Rattle.phd_plan.specs.FormChoice.{tag_of}
 use Rattle.phd_plan.proofs.tag_of.Statement.{statement}
 use Rattle.phd_plan.proofs.tag_of.Tie as tie
 
-enum_told : tie.Need-enum-told
-enum_told c = search rules
+enum_told-1 : tie.Need-enum_told-1
+enum_told-1 c = search rules
 
-mul-result : tie.Need-overflow-mul-result
-mul-result c = search rules
+overflow_mul-result : tie.Need-overflow_mul-result
+overflow_mul-result c = search rules
 
-add-result : tie.Need-overflow-add-result
-add-result c = search rules
+overflow_add-result : tie.Need-overflow_add-result
+overflow_add-result c = search rules
 
-mul-result-2 : tie.Need-overflow-mul-result-2
-mul-result-2 c = search rules
+overflow_mul-result-in-Short : tie.Need-overflow_mul-result-in-Short
+overflow_mul-result-in-Short c = search rules
 
-add-result-2 : tie.Need-overflow-add-result-2
-add-result-2 c = search rules
+overflow_add-result-in-Short : tie.Need-overflow_add-result-in-Short
+overflow_add-result-in-Short c = search rules
 
-mul-result-3 : tie.Need-overflow-mul-result-3
-mul-result-3 c = search rules
+overflow_mul-result-in-Short-2 : tie.Need-overflow_mul-result-in-Short-2
+overflow_mul-result-in-Short-2 c = search rules
 
-add-result-3 : tie.Need-overflow-add-result-3
-add-result-3 c = search rules
+overflow_add-result-in-Short-2 : tie.Need-overflow_add-result-in-Short-2
+overflow_add-result-in-Short-2 c = search rules
 
-add-result-4 : tie.Need-overflow-add-result-4
-add-result-4 c = search rules
+overflow_add-result-in-Short-3 : tie.Need-overflow_add-result-in-Short-3
+overflow_add-result-in-Short-3 c = search rules
 
-enum-told-2 : tie.Need-enum-told-2
-enum-told-2 c = search rules
+enum_told-in-Medium : tie.Need-enum_told-in-Medium
+enum_told-in-Medium c = search rules
 
-mul-result-4 : tie.Need-overflow-mul-result-4
-mul-result-4 c = search rules
+overflow_mul-result-in-Medium : tie.Need-overflow_mul-result-in-Medium
+overflow_mul-result-in-Medium c = search rules
 
-add-result-5 : tie.Need-overflow-add-result-5
-add-result-5 c = search rules
+overflow_add-result-in-Medium : tie.Need-overflow_add-result-in-Medium
+overflow_add-result-in-Medium c = search rules
 
-mul-result-5 : tie.Need-overflow-mul-result-5
-mul-result-5 c = search rules
+overflow_mul-result-in-Medium-2 : tie.Need-overflow_mul-result-in-Medium-2
+overflow_mul-result-in-Medium-2 c = search rules
 
-add-result-6 : tie.Need-overflow-add-result-6
-add-result-6 c = search rules
+overflow_add-result-in-Medium-2 : tie.Need-overflow_add-result-in-Medium-2
+overflow_add-result-in-Medium-2 c = search rules
 
-add-result-7 : tie.Need-overflow-add-result-7
-add-result-7 c = search rules
+overflow_add-result-in-Medium-3 : tie.Need-overflow_add-result-in-Medium-3
+overflow_add-result-in-Medium-3 c = search rules
 
-enum-told-3 : tie.Need-enum-told-3
-enum-told-3 c = search rules
+enum_told-in-Primitive : tie.Need-enum_told-in-Primitive
+enum_told-in-Primitive c = search rules
 
-mul-result-6 : tie.Need-overflow-mul-result-6
-mul-result-6 c = search rules
+overflow_mul-result-in-Primitive : tie.Need-overflow_mul-result-in-Primitive
+overflow_mul-result-in-Primitive c = search rules
 
-add-result-8 : tie.Need-overflow-add-result-8
-add-result-8 c = search rules
+overflow_add-result-in-Primitive : tie.Need-overflow_add-result-in-Primitive
+overflow_add-result-in-Primitive c = search rules
 
-add-result-9 : tie.Need-overflow-add-result-9
-add-result-9 c = search rules
+overflow_add-result-in-Primitive-2 : tie.Need-overflow_add-result-in-Primitive-2
+overflow_add-result-in-Primitive-2 c = search rules
 
-enum-told-4 : tie.Need-enum-told-4
-enum-told-4 c = search rules
+enum_told-in-Long : tie.Need-enum_told-in-Long
+enum_told-in-Long c = search rules
 
-enum-told-5 : tie.Need-enum-told-5
-enum-told-5 c = search rules
+enum_told-in-Class : tie.Need-enum_told-in-Class
+enum_told-in-Class c = search rules
 
-enum-told-6 : tie.Need-enum-told-6
-enum-told-6 c = search rules
+enum_told-in-LongPrimitive : tie.Need-enum_told-in-LongPrimitive
+enum_told-in-LongPrimitive c = search rules
 
-enum-told-7 : tie.Need-enum-told-7
-enum-told-7 c = search rules
+enum_told-in-ObjectArray : tie.Need-enum_told-in-ObjectArray
+enum_told-in-ObjectArray c = search rules
 
-returns : tie.Need-returns
+returns-in-Short : tie.Need-returns-in-Short
 unfolding tag_of
-returns c = rw c.before.before.before.before.enum_told.given.1
+returns-in-Short c = rw c.in-Short.is
 
-returns-2 : tie.Need-returns-2
+returns-in-Medium : tie.Need-returns-in-Medium
 unfolding tag_of
-returns-2 c = rw c.before.before.before.enum-told2.given.1
+returns-in-Medium c = rw c.in-Medium.is
 
-returns-3 : tie.Need-returns-3
+returns-in-Primitive : tie.Need-returns-in-Primitive
 unfolding tag_of
-returns-3 c = rw c.before.before.enum-told3.given.1
+returns-in-Primitive c = rw c.in-Primitive.is
 
-returns-4 : tie.Need-returns-4
+returns-in-Long : tie.Need-returns-in-Long
 unfolding tag_of
-returns-4 c = rw c.enum-told4.given.1
+returns-in-Long c = rw c.in-Long.is
 
-returns-5 : tie.Need-returns-5
+returns-in-Class : tie.Need-returns-in-Class
 unfolding tag_of
-returns-5 c = rw c.enum-told5.given.1
+returns-in-Class c = rw c.in-Class.is
 
-returns-6 : tie.Need-returns-6
+returns-in-LongPrimitive : tie.Need-returns-in-LongPrimitive
 unfolding tag_of
-returns-6 c = rw c.enum-told6.given.1
+returns-in-LongPrimitive c = rw c.in-LongPrimitive.is
 
-returns-7 : tie.Need-returns-7
+returns-in-ObjectArray : tie.Need-returns-in-ObjectArray
 unfolding tag_of
-returns-7 c = rw c.enum-told7.given.1
+returns-in-ObjectArray c = rw c.in-ObjectArray.is
 
-pub tag-of-spec : {M : Type 1} → statement M
-tag-of-spec =
+pub tag_of_spec : {M : Type 1} → statement M
+tag_of_spec =
     tie.close
     (tie.spec
-    enum_told
-    mul-result
-    add-result
-    mul-result-2
-    add-result-2
-    mul-result-3
-    add-result-3
-    add-result-4
-    enum-told-2
-    mul-result-4
-    add-result-5
-    mul-result-5
-    add-result-6
-    add-result-7
-    enum-told-3
-    mul-result-6
-    add-result-8
-    add-result-9
-    enum-told-4
-    enum-told-5
-    enum-told-6
-    enum-told-7
-    returns
-    returns-2
-    returns-3
-    returns-4
-    returns-5
-    returns-6
-    returns-7)
+    enum_told-1
+    overflow_mul-result
+    overflow_add-result
+    overflow_mul-result-in-Short
+    overflow_add-result-in-Short
+    overflow_mul-result-in-Short-2
+    overflow_add-result-in-Short-2
+    overflow_add-result-in-Short-3
+    enum_told-in-Medium
+    overflow_mul-result-in-Medium
+    overflow_add-result-in-Medium
+    overflow_mul-result-in-Medium-2
+    overflow_add-result-in-Medium-2
+    overflow_add-result-in-Medium-3
+    enum_told-in-Primitive
+    overflow_mul-result-in-Primitive
+    overflow_add-result-in-Primitive
+    overflow_add-result-in-Primitive-2
+    enum_told-in-Long
+    enum_told-in-Class
+    enum_told-in-LongPrimitive
+    enum_told-in-ObjectArray
+    returns-in-Short
+    returns-in-Medium
+    returns-in-Primitive
+    returns-in-Long
+    returns-in-Class
+    returns-in-LongPrimitive
+    returns-in-ObjectArray)

@@ -11,5 +11,5 @@ returns : tie.Need-returns
 unfolding read_answer no_records_of empty_header row_count
 returns c = refl
 
-pub no-records-spec : {M : Type 1} → statement M
-no-records-spec = tie.close (tie.spec returns)
+pub no_records_spec : {M : Type 1} → statement M
+no_records_spec = tie.close (tie.spec returns)

@@ -16,85 +16,85 @@ use Rattle.phd_read.proofs.read_tables.Statement.{statement}
 use Rattle.phd_read.proofs.read_tables.Tie as tie
 
 -- The dump is within the size limit.
-within : (c : tie.Else1) → length c.before.before.before.before.args.dump.now ≤ limit
+within : (c : tie.Else-dump-gt-LIMIT) → length c.args.dump.now ≤ limit
 unfolding limit
-within c = c.if1.false
+within c = c.if-dump-gt-LIMIT.false
 
 -- The header was read.
-opened : (c : tie.After-header) → run header c.before.before.before.before.before.before.before.args.dump.now 0 ≡ whole c.header.given.0.0 c.header.given.0.1.0
-opened c = sym c.before.before.read_header.ensures ∙ ap header_outcome c.header.given.1
+opened : (c : tie.In-Is) → run header c.args.dump.now 0 ≡ whole c.in-Is.header c.in-Is.at
+opened c = sym c.read_header.ensures ∙ ap header_outcome c.in-Is.is
 
 -- The header stops the reading.
-refused : (c : tie.After-w) → run header c.before.before.before.before.before.before.before.args.dump.now 0 ≡ stops c.w.given.0.0
-refused c = sym c.before.before.read_header.ensures ∙ ap header_outcome c.w.given.1
+refused : (c : tie.In-Stops) → run header c.args.dump.now 0 ≡ stops c.in-Stops.w
+refused c = sym c.read_header.ensures ∙ ap header_outcome c.in-Stops.is
 
-no-records-requires : tie.Need-no-records-requires
-no-records-requires c κs = search rules
+no_records-requires : tie.Need-no_records-requires
+no_records-requires c κs = search rules
 
-returns : tie.Need-returns
+returns-then-dump-gt-LIMIT : tie.Need-returns-then-dump-gt-LIMIT
 unfolding limit no_records_of overwrite
-returns c =
-    let a = c.before.before.before.before.before.args in
-    rw (read_over_limit phd a.dump.now (capacity (length a.rows.now) (length a.refs.now)) c.before.if1.true) (c.no_records.ensures, (refl, refl))
+returns-then-dump-gt-LIMIT c =
+    let a = c.args in
+    rw (read_over_limit phd a.dump.now (capacity (length a.rows.now) (length a.refs.now)) c.if-dump-gt-LIMIT.true) (c.no_records.ensures, (refl, refl))
 
-read-header-requires : tie.Need-read-header-requires
-read-header-requires c κs = search rules
+read_header-requires : tie.Need-read_header-requires
+read_header-requires c κs = search rules
 
-enum-known-header : tie.Need-enum-known-header
-enum-known-header c = search rules
+enum_known-header : tie.Need-enum_known-header
+enum_known-header c = search rules
 
-read-records-requires : tie.Need-read-records-requires
-read-records-requires c κs =
-    let d = c.before.before.before in
-    let a = d.before.before.before.before.before.before.before.args in
-    (end_in_bounds header a.dump.now 0 _ _ (omega arith) (opened d), within d.before.before.before, header_bits a.dump.now _ _ (opened d))
+read_records-requires : tie.Need-read_records-requires
+read_records-requires c κs =
+    let d = c.before.before in
+    let a = d.args in
+    (end_in_bounds header a.dump.now 0 _ _ (omega arith) (opened d), within d.before.before, header_bits a.dump.now _ _ (opened d))
 
-enum-known-w : tie.Need-enum-known-w
-enum-known-w c = search rules
+enum_known-w : tie.Need-enum_known-w
+enum_known-w c = search rules
 
-reply-of-requires : tie.Need-reply-of-requires
-reply-of-requires c κs = search rules
+reply_of-requires : tie.Need-reply_of-requires
+reply_of-requires c κs = search rules
 
-missing-of-requires : tie.Need-missing-of-requires
-missing-of-requires c κs = search rules
+missing_of-requires : tie.Need-missing_of-requires
+missing_of-requires c κs = search rules
 
-no-records-requires-2 : tie.Need-no-records-requires-2
-no-records-requires-2 c κs = search rules
+no_records-requires-in-Stops : tie.Need-no_records-requires-in-Stops
+no_records-requires-in-Stops c κs = search rules
 
-same_length : tie.Need-same-length
-same_length c = search rules
+shape_of-rows : tie.Need-shape_of-rows
+shape_of-rows c = search rules
 
-same-length-2 : tie.Need-same-length-2
-same-length-2 c = search rules
+shape_of-refs : tie.Need-shape_of-refs
+shape_of-refs c = search rules
 
-returns-2 : tie.Need-returns-2
-returns-2 c =
-    let d = c.before.before.before.before.before.before.before.before in
-    let a = d.before.before.before.before.before.before.before.args in
-    let r = c.before.before.before.before.read-records.ensures in
-    rw (read_header_whole phd a.dump.now (capacity (length a.rows.now) (length a.refs.now)) _ _ (within d.before.before.before) (opened d)) (r.0, (r.1.0, r.1.1))
+returns-in-Is : tie.Need-returns-in-Is
+returns-in-Is c =
+    let d = c.before.before.before.before.before.before.before in
+    let a = d.args in
+    let r = c.read_records.ensures in
+    rw (read_header_whole phd a.dump.now (capacity (length a.rows.now) (length a.refs.now)) _ _ (within d.before.before) (opened d)) (r.0, (r.1.0, r.1.1))
 
-returns-3 : tie.Need-returns-3
+returns-in-Stops : tie.Need-returns-in-Stops
 unfolding read_answer no_records_of overwrite row_count
-returns-3 c =
-    let d = c.before.before.before.before in
-    let a = d.before.before.before.before.before.before.before.args in
-    rw (read_header_stops phd a.dump.now (capacity (length a.rows.now) (length a.refs.now)) _ (within d.before.before.before) (refused d), c.no-records2.ensures, c.before.before.reply_of.ensures, c.before.missing_of.ensures) (refl, (refl, refl))
+returns-in-Stops c =
+    let d = c.before.before.before in
+    let a = d.args in
+    rw (read_header_stops phd a.dump.now (capacity (length a.rows.now) (length a.refs.now)) _ (within d.before.before) (refused d), c.no_records-in-Stops.ensures, c.reply_of.ensures, c.missing_of.ensures) (refl, (refl, refl))
 
-pub read-tables-spec : {M : Type 1} → statement M
-read-tables-spec =
+pub read_tables_spec : {M : Type 1} → statement M
+read_tables_spec =
     tie.close
     (tie.spec
-    no-records-requires
-    returns
-    read-header-requires
-    enum-known-header
-    read-records-requires
-    enum-known-w
-    reply-of-requires
-    missing-of-requires
-    no-records-requires-2
-    same_length
-    same-length-2
-    returns-2
-    returns-3)
+    no_records-requires
+    returns-then-dump-gt-LIMIT
+    read_header-requires
+    enum_known-header
+    read_records-requires
+    enum_known-w
+    reply_of-requires
+    missing_of-requires
+    no_records-requires-in-Stops
+    shape_of-rows
+    shape_of-refs
+    returns-in-Is
+    returns-in-Stops)

@@ -8,5 +8,5 @@ returns : tie.Need-returns
 unfolding no_record
 returns c = refl
 
-pub no-record-spec : {M : Type 1} → statement M
-no-record-spec = tie.close (tie.spec returns)
+pub no_record_spec : {M : Type 1} → statement M
+no_record_spec = tie.close (tie.spec returns)

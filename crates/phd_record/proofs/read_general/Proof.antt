@@ -14,65 +14,65 @@ use Rattle.phd_record.proofs.read_general.Statement.{statement}
 use Rattle.phd_record.proofs.read_general.Tie as tie
 
 -- The tag was read.
-abbrev start : tie.After-tag → tie.Start
-start c = c.before.before.before.before
+abbrev start : tie.In-Is → tie.Start
+start c = c.before.before.before
 
-module _ (c : tie.After-tag) where
+module _ (c : tie.In-Is) where
   got-tag : let a = (start c).args in
-      run (field 1) a.s.now a.at ≡ whole c.tag.given.0.0 c.tag.given.0.1.0
-  got-tag = sym c.before.before.field.ensures.0 ∙ ap outcome c.tag.given.1
+      run (field 1) a.s.now a.at ≡ whole c.in-Is.tag c.in-Is.next
+  got-tag = sym c.field.ensures.0 ∙ ap outcome c.in-Is.is
 
-  in-tag : let a = (start c).args in c.tag.given.0.1.0 ≤ length a.s.now
+  in-tag : let a = (start c).args in c.in-Is.next ≤ length a.s.now
   in-tag = let a = (start c).args in end_in_bounds (field 1) a.s.now a.at _ _ (omega arith) got-tag
 
 field-requires : tie.Need-field-requires
 field-requires c κs = search rules
 
-enum-known-tag : tie.Need-enum-known-tag
-enum-known-tag c = search rules
+enum_known-tag : tie.Need-enum_known-tag
+enum_known-tag c = search rules
 
-no-record-requires : tie.Need-no-record-requires
-no-record-requires c κs = search rules
+no_record-requires : tie.Need-no_record-requires
+no_record-requires c κs = search rules
 
-returns : tie.Need-returns
+returns-then-tag-eq3 : tie.Need-returns-then-tag-eq3
 unfolding from_tag record_read_of
-returns c =
-    let w = c.before.before.before in
-    rw (c.no_record.ensures, entry_from_tag, run_then, got-tag w, eq-eqb _ _ c.before.if1.true, run_yield)
-
-read-body-requires : tie.Need-read-body-requires
-read-body-requires c κs =
+returns-then-tag-eq3 c =
     let w = c.before.before in
+    rw (c.no_record.ensures, entry_from_tag, run_then, got-tag w, eq-eqb _ _ c.if-tag-eq3.true, run_yield)
+
+read_body-requires : tie.Need-read_body-requires
+read_body-requires c κs =
+    let w = c.before in
     (in-tag w, (start w).requires.1)
 
-enum-known-w : tie.Need-enum-known-w
-enum-known-w c = search rules
+enum_known-w : tie.Need-enum_known-w
+enum_known-w c = search rules
 
-no-record-requires-2 : tie.Need-no-record-requires-2
-no-record-requires-2 c κs = search rules
+no_record-requires-in-Stops : tie.Need-no_record-requires-in-Stops
+no_record-requires-in-Stops c κs = search rules
 
-returns-2 : tie.Need-returns-2
+returns-else-tag-eq3 : tie.Need-returns-else-tag-eq3
 unfolding from_tag record_read_of
-returns-2 c =
-    let w = c.before.before.before in
-    rw (c.read-body.ensures, entry_from_tag, run_then, got-tag w, ne_eqb _ _ c.before.if1.false)
+returns-else-tag-eq3 c =
+    let w = c.before.before in
+    rw (c.read_body.ensures, entry_from_tag, run_then, got-tag w, ne_eqb _ _ c.if-tag-eq3.false)
 
-returns-3 : tie.Need-returns-3
+returns-in-Stops : tie.Need-returns-in-Stops
 unfolding from_tag record_read_of
-returns-3 c =
-    let d = c.before.before.before.before in
-    rw (c.no-record2.ensures, entry_from_tag, run_then, ← d.field.ensures.0, c.before.before.w.given.1)
+returns-in-Stops c =
+    let d = c.before.before in
+    rw (c.no_record-in-Stops.ensures, entry_from_tag, run_then, ← d.field.ensures.0, c.in-Stops.is)
 
-pub read-general-spec : {M : Type 1} → statement M
-read-general-spec =
+pub read_general_spec : {M : Type 1} → statement M
+read_general_spec =
     tie.close
     (tie.spec
     field-requires
-    enum-known-tag
-    no-record-requires
-    returns
-    read-body-requires
-    enum-known-w
-    no-record-requires-2
-    returns-2
-    returns-3)
+    enum_known-tag
+    no_record-requires
+    returns-then-tag-eq3
+    read_body-requires
+    enum_known-w
+    no_record-requires-in-Stops
+    returns-else-tag-eq3
+    returns-in-Stops)

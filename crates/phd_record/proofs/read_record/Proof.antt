@@ -3,20 +3,20 @@ use borrow.Author.Rules.{rules}
 use Rattle.phd_record.proofs.read_record.Statement.{statement}
 use Rattle.phd_record.proofs.read_record.Tie as tie
 
-sub-if1 : tie.Need-overflow-sub-if1
-sub-if1 c = search rules
+overflow_sub-s : tie.Need-overflow_sub-s
+overflow_sub-s c = search rules
 
-read-fast-requires : tie.Need-read-fast-requires
-read-fast-requires c κs = search rules
+read_fast-fast-requires : tie.Need-read_fast-fast-requires
+read_fast-fast-requires c κs = search rules
+
+returns-then-fast : tie.Need-returns-then-fast
+returns-then-fast c = c.read_fast-fast.ensures c.if-fast.true
+
+read_general-general-requires : tie.Need-read_general-general-requires
+read_general-general-requires c κs = search rules
 
 returns : tie.Need-returns
-returns c = c.before.before.read-fast.ensures c.before.if2.true
+returns c = search rules
 
-read-general-requires : tie.Need-read-general-requires
-read-general-requires c κs = search rules
-
-returns-2 : tie.Need-returns-2
-returns-2 c = search rules
-
-pub read-record-spec : {M : Type 1} → statement M
-read-record-spec = tie.close (tie.spec sub-if1 read-fast-requires returns read-general-requires returns-2)
+pub read_record_spec : {M : Type 1} → statement M
+read_record_spec = tie.close (tie.spec overflow_sub-s read_fast-fast-requires returns-then-fast read_general-general-requires returns)

@@ -17,33 +17,33 @@ vm : (c : tie.Start) → VmInBounds c.args.names.now c.args.header.vm
 vm c = vm_in_bounds _ _ (header_vm_good _ _ _ _ c.requires.0)
 
 -- The size computed is that of the dump.
-size_is : (c : tie.After-rows-size) → let a = c.before.before.before.before.before.args in c.rows_size.result ≡ length (dump_of a.header a.names.now a.refs.now (rows_of a.rows.now))
-size_is c = dump_size_sum _ _ _ _ _ _ c.before.header_size.ensures c.rows_size.ensures
+size_is : (c : tie.After-rows_size-size) → let a = c.args in c.rows_size-size.result ≡ length (dump_of a.header a.names.now a.refs.now (rows_of a.rows.now))
+size_is c = dump_size_sum _ _ _ _ _ _ c.header_size-first.ensures c.rows_size-size.ensures
 
-header-size-requires : tie.Need-header-size-requires
-header-size-requires c κs = vm c.before.before.before
+header_size-first-requires : tie.Need-header_size-first-requires
+header_size-first-requires c κs = vm c.before.before.before
 
-rows-size-requires : tie.Need-rows-size-requires
-rows-size-requires c κs =
+rows_size-size-requires : tie.Need-rows_size-size-requires
+rows_size-size-requires c κs =
     let d = c.before.before.before.before in
     let l = length_header d.args.names.now d.args.header (vm d) in
     let m = header_small d.args.names.now d.args.header (vm d) in
-    let e = c.header_size.ensures in
+    let e = c.header_size-first.ensures in
     (d.requires.0, (d.requires.1, omega arith))
+
+returns-then-size-gt-LIMIT : tie.Need-returns-then-size-gt-LIMIT
+unfolding limit
+returns-then-size-gt-LIMIT c =
+    let d = c.before.before.before.before.before.before in
+    let f = size_is c.before in
+    size_over_limit _ _ _ _ d.requires (omega arith)
 
 returns : tie.Need-returns
 unfolding limit
 returns c =
     let d = c.before.before.before.before.before.before in
     let f = size_is c.before in
-    size_over_limit _ _ _ _ d.requires (omega arith)
-
-returns-2 : tie.Need-returns-2
-unfolding limit
-returns-2 c =
-    let d = c.before.before.before.before.before.before in
-    let f = size_is c.before in
     rw f (size_within_limit _ _ _ _ d.requires (omega arith))
 
-pub dump-size-spec : {M : Type 1} → statement M
-dump-size-spec = tie.close (tie.spec header-size-requires rows-size-requires returns returns-2)
+pub dump_size_spec : {M : Type 1} → statement M
+dump_size_spec = tie.close (tie.spec header_size-first-requires rows_size-size-requires returns-then-size-gt-LIMIT returns)

@@ -28,28 +28,28 @@ none c =
     let a = c.args in
     progress_start a.out.now 0 (parts a.header a.names.now a.refs.now (rows_of a.rows.now)) (in_parts _ _ _ _) c.requires.1
 
-abbrev header : tie.After-encode-header → WriteProgress
-header c = progress_next (none c.before.before.before.before.before.before) c.encode_header.ensures
+abbrev header : tie.After-encode_header-at → WriteProgress
+header c = progress_next (none c.before.before.before.before.before.before) c.encode_header-at.ensures
 
-abbrev rows : tie.After-encode-rows → WriteProgress
-rows c = progress_next (header c.before.before.before.before) c.encode-rows.ensures
+abbrev rows : tie.After-encode_rows → WriteProgress
+rows c = progress_next (header c.before.before.before.before) c.encode_rows.ensures
 
-encode-header-requires : tie.Need-encode-header-requires
-encode-header-requires c κs =
+encode_header-at-requires : tie.Need-encode_header-at-requires
+encode_header-at-requires c κs =
     let d = c.before.before.before.before.before in
     (vm_in_bounds _ _ (header_vm_good _ _ _ _ d.requires.0.0), next_part_fits (none d))
 
-encode-rows-requires : tie.Need-encode-rows-requires
-encode-rows-requires c κs =
+encode_rows-requires : tie.Need-encode_rows-requires
+encode_rows-requires c κs =
     let e = c.before.before.before in
     let d = e.before.before.before.before.before.before in
     (d.requires.0.0, (d.requires.0.1, next_part_fits (header e)))
 
-same_length : tie.Need-same-length
-same_length c = search rules
+shape_of-out : tie.Need-shape_of-out
+shape_of-out c = search rules
 
 returns : tie.Need-returns
 returns c = progress_done (rows c.before.before) refl
 
-pub encode-dump-spec : {M : Type 1} → statement M
-encode-dump-spec = tie.close (tie.spec encode-header-requires encode-rows-requires same_length returns)
+pub encode_dump_spec : {M : Type 1} → statement M
+encode_dump_spec = tie.close (tie.spec encode_header-at-requires encode_rows-requires shape_of-out returns)

@@ -5,17 +5,17 @@ use Rattle.phd_write.specs.WriteOutcomes.{check_refusal}
 use Rattle.phd_write.proofs.write_size.Statement.{statement}
 use Rattle.phd_write.proofs.write_size.Tie as tie
 
-check-requires : tie.Need-check-requires
-check-requires c κs = search rules
+check-checked-requires : tie.Need-check-checked-requires
+check-checked-requires c κs = search rules
+
+returns-then-checked-ne0 : tie.Need-returns-then-checked-ne0
+returns-then-checked-ne0 c = check_refusal _ _ _ _ _ c.check-checked.ensures c.if-checked-ne0.true
+
+dump_size-requires : tie.Need-dump_size-requires
+dump_size-requires c κs = checked_input_ok _ _ _ c.check-checked.ensures c.if-checked-ne0.false
 
 returns : tie.Need-returns
-returns c = check_refusal _ _ _ _ _ c.before.before.check.ensures c.if1.true
+returns c = search rules
 
-dump-size-requires : tie.Need-dump-size-requires
-dump-size-requires c κs = checked_input_ok _ _ _ c.before.before.check.ensures c.if1.false
-
-returns-2 : tie.Need-returns-2
-returns-2 c = search rules
-
-pub write-size-spec : {M : Type 1} → statement M
-write-size-spec = tie.close (tie.spec check-requires returns dump-size-requires returns-2)
+pub write_size_spec : {M : Type 1} → statement M
+write_size_spec = tie.close (tie.spec check-checked-requires returns-then-checked-ne0 dump_size-requires returns)

@@ -10,5 +10,5 @@ returns : tie.Need-returns
 unfolding answer no_records_of row_count
 returns c = refl
 
-pub no-records-spec : {M : Type 1} → statement M
-no-records-spec = tie.close (tie.spec returns)
+pub no_records_spec : {M : Type 1} → statement M
+no_records_spec = tie.close (tie.spec returns)

@@ -13,93 +13,93 @@ use Rattle.reader_toy.specs.Toy.{toy}
 use Rattle.reader_toy.proofs.read.Statement.{statement}
 use Rattle.reader_toy.proofs.read.Tie as tie
 
-abbrev start : tie.Else1 → tie.Start
+abbrev start : tie.Else-dump-gt-LIMIT → tie.Start
 start c = c.before.before.before.before
 
 -- The dump is within the size limit.
-within : (c : tie.Else1) → length (start c).args.dump.now ≤ limit
+within : (c : tie.Else-dump-gt-LIMIT) → length (start c).args.dump.now ≤ limit
 unfolding limit
-within c = c.if1.false
+within c = c.if-dump-gt-LIMIT.false
 
 -- The header was read whole.
-header_whole : (c : tie.After-letter)
-    → run toy.header (start c.before.before.before).args.dump.now 0 ≡ whole c.letter.given.0.0 c.letter.given.0.1.0
-header_whole c = sym c.before.before.exactly.ensures ∙ ap outcome c.letter.given.1
+header_whole : (c : tie.In-Is)
+    → run toy.header (start c.before.before).args.dump.now 0 ≡ whole c.in-Is.letter c.in-Is.at
+header_whole c = sym c.exactly.ensures ∙ ap outcome c.in-Is.is
 
 -- The header stops.
-header-stops : (c : tie.After-w) → run toy.header (start c.before.before.before).args.dump.now 0 ≡ stops c.w.given.0.0
-header-stops c = sym c.before.before.exactly.ensures ∙ ap outcome c.w.given.1
+header-stops : (c : tie.In-Stops) → run toy.header (start c.before.before).args.dump.now 0 ≡ stops c.in-Stops.w
+header-stops c = sym c.exactly.ensures ∙ ap outcome c.in-Stops.is
 
-no-records-requires : tie.Need-no-records-requires
-no-records-requires c κs = search rules
+no_records-requires : tie.Need-no_records-requires
+no_records-requires c κs = search rules
 
-returns : tie.Need-returns
+returns-then-dump-gt-LIMIT : tie.Need-returns-then-dump-gt-LIMIT
 unfolding limit no_records_of overwrite
-returns c =
-    let a = c.before.before.before.before.before.args in
-    rw (read_over_limit toy a.dump.now (capacity (length a.rows.now) (length a.refs.now)) c.before.if1.true) (c.no_records.ensures, (refl, refl))
+returns-then-dump-gt-LIMIT c =
+    let a = c.args in
+    rw (read_over_limit toy a.dump.now (capacity (length a.rows.now) (length a.refs.now)) c.if-dump-gt-LIMIT.true) (c.no_records.ensures, (refl, refl))
 
 exactly-requires : tie.Need-exactly-requires
 exactly-requires c κs = search rules
 
-enum-known-letter : tie.Need-enum-known-letter
-enum-known-letter c = search rules
+enum_known-letter : tie.Need-enum_known-letter
+enum_known-letter c = search rules
 
-read-records-requires : tie.Need-read-records-requires
-read-records-requires c κs =
-    let header = c.before.before.before in
-    let small = header.before.before.before in
+read_records-requires : tie.Need-read_records-requires
+read_records-requires c κs =
+    let header = c.before.before in
+    let small = header.before.before in
     (end_in_bounds toy.header (start small).args.dump.now 0 _ _ (omega arith) (header_whole header), within small)
 
-enum-known-w : tie.Need-enum-known-w
-enum-known-w c = search rules
+enum_known-w : tie.Need-enum_known-w
+enum_known-w c = search rules
 
-reply-of-requires : tie.Need-reply-of-requires
-reply-of-requires c κs = search rules
+reply_of-requires : tie.Need-reply_of-requires
+reply_of-requires c κs = search rules
 
-missing-of-requires : tie.Need-missing-of-requires
-missing-of-requires c κs = search rules
+missing_of-requires : tie.Need-missing_of-requires
+missing_of-requires c κs = search rules
 
-no-records-requires-2 : tie.Need-no-records-requires-2
-no-records-requires-2 c κs = search rules
+no_records-requires-in-Stops : tie.Need-no_records-requires-in-Stops
+no_records-requires-in-Stops c κs = search rules
 
-same_length : tie.Need-same-length
-same_length c = search rules
+shape_of-rows : tie.Need-shape_of-rows
+shape_of-rows c = search rules
 
-same-length-2 : tie.Need-same-length-2
-same-length-2 c = search rules
+shape_of-refs : tie.Need-shape_of-refs
+shape_of-refs c = search rules
 
-returns-2 : tie.Need-returns-2
-returns-2 c =
+returns-in-Is : tie.Need-returns-in-Is
+returns-in-Is c =
     let done = c.before.before.before.before in
-    let header = done.before.before.before.before in
-    let small = header.before.before.before in
+    let header = done.before.before.before in
+    let small = header.before.before in
     let a = (start small).args in
-    rw (read_header_whole toy a.dump.now (capacity (length a.rows.now) (length a.refs.now)) _ _ (within small) (header_whole header)) done.read-records.ensures
+    rw (read_header_whole toy a.dump.now (capacity (length a.rows.now) (length a.refs.now)) _ _ (within small) (header_whole header)) done.read_records.ensures
 
-returns-3 : tie.Need-returns-3
+returns-in-Stops : tie.Need-returns-in-Stops
 unfolding no_records_of overwrite
-returns-3 c =
-    let header = c.before.before.before.before in
-    let small = header.before.before.before in
+returns-in-Stops c =
+    let header = c.before.before.before in
+    let small = header.before.before in
     let a = (start small).args in
-    rw (read_header_stops toy a.dump.now (capacity (length a.rows.now) (length a.refs.now)) _ (within small) (header-stops header), ← c.before.before.reply_of.ensures, ← c.before.missing_of.ensures)
-    (c.no-records2.ensures, (refl, refl))
+    rw (read_header_stops toy a.dump.now (capacity (length a.rows.now) (length a.refs.now)) _ (within small) (header-stops header), ← c.reply_of.ensures, ← c.missing_of.ensures)
+    (c.no_records-in-Stops.ensures, (refl, refl))
 
 pub read_spec : {M : Type 1} → statement M
 read_spec =
     tie.close
     (tie.spec
-    no-records-requires
-    returns
+    no_records-requires
+    returns-then-dump-gt-LIMIT
     exactly-requires
-    enum-known-letter
-    read-records-requires
-    enum-known-w
-    reply-of-requires
-    missing-of-requires
-    no-records-requires-2
-    same_length
-    same-length-2
-    returns-2
-    returns-3)
+    enum_known-letter
+    read_records-requires
+    enum_known-w
+    reply_of-requires
+    missing_of-requires
+    no_records-requires-in-Stops
+    shape_of-rows
+    shape_of-refs
+    returns-in-Is
+    returns-in-Stops)

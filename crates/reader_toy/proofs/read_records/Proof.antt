@@ -13,80 +13,80 @@ use Rattle.reader_toy.proofs.ToyStepLaws.{end_answer}
 use Rattle.reader_toy.proofs.read_records.Statement.{statement}
 use Rattle.reader_toy.proofs.read_records.Tie as tie
 
-abbrev invariant-loop : tie.invariant-loop
-invariant-loop s letter at rows₀ refs₀ cursor₀ rows refs cursor = LoopInvariant toy letter s at rows₀ refs₀ rows refs (cursor_of cursor) × (cursor.count ≤ cursor.at)
+abbrev invariant-loop-cursor : tie.invariant-loop-cursor
+invariant-loop-cursor s letter at rows₀ refs₀ cursor₀ rows refs cursor = LoopInvariant toy letter s at rows₀ refs₀ rows refs (cursor_of cursor) × (cursor.count ≤ cursor.at)
 
-abbrev decreases-loop : tie.decreases-loop
-decreases-loop s letter at rows₀ refs₀ cursor₀ rows refs cursor = length s - cursor.at
+abbrev decreases-loop-cursor : tie.decreases-loop-cursor
+decreases-loop-cursor s letter at rows₀ refs₀ cursor₀ rows refs cursor = length s - cursor.at
 
 -- The current iteration and the function's entry, seen from after the call of `step`.
-abbrev head : tie.After-step invariant-loop decreases-loop → tie.At-loop invariant-loop decreases-loop
+abbrev head : tie.After-step-done invariant-loop-cursor decreases-loop-cursor → tie.At-loop-cursor invariant-loop-cursor decreases-loop-cursor
 head c = c.before.before.before
 
-abbrev start : tie.After-step invariant-loop decreases-loop → tie.Start invariant-loop decreases-loop
+abbrev start : tie.After-step-done invariant-loop-cursor decreases-loop-cursor → tie.Start invariant-loop-cursor decreases-loop-cursor
 start c = (head c).before.before.before.before
 
 -- The contract of the step, for the result that it returned.
-did : (c : tie.After-step invariant-loop decreases-loop) (result : StepResult) → c.step.result.result ≡ result → let l = (head c).loop in let a = (start c).args in
-    StepContract a.letter a.s.now l.cursor l.rows l.refs c.step.new.1.1.0 c.step.new.1.1.1.0 c.step.result.cursor result
+did : (c : tie.After-step-done invariant-loop-cursor decreases-loop-cursor) (result : StepResult) → c.step-done.result.result ≡ result → let l = (head c).loop-cursor in let a = (start c).args in
+    StepContract a.letter a.s.now l.cursor l.rows l.refs c.step-done.new.rows c.step-done.new.refs c.step-done.result.cursor result
 did c result e =
-    let l = (head c).loop in
+    let l = (head c).loop-cursor in
     let a = (start c).args in
-    subst (StepContract a.letter a.s.now l.cursor l.rows l.refs c.step.new.1.1.0 c.step.new.1.1.1.0 c.step.result.cursor) e c.step.ensures
+    subst (StepContract a.letter a.s.now l.cursor l.rows l.refs c.step-done.new.rows c.step-done.new.refs c.step-done.result.cursor) e c.step-done.ensures
 
-loop-holds : tie.Need-loop-init invariant-loop decreases-loop
-loop-holds c =
-    let a = c.before.before.before.args in
+loop-cursor-init : tie.Need-loop-cursor-init invariant-loop-cursor decreases-loop-cursor
+loop-cursor-init c =
+    let a = c.args in
     (invariant_start toy lawful a.rows.now a.refs.now (omega arith), omega arith)
 
-step-requires : tie.Need-step-requires invariant-loop decreases-loop
-step-requires c κs = search rules
+step-done-requires : tie.Need-step-done-requires invariant-loop-cursor decreases-loop-cursor
+step-done-requires c κs = search rules
 
-enum_told : tie.Need-enum-told invariant-loop decreases-loop
-enum_told c = search rules
+enum_told-1 : tie.Need-enum_told-1 invariant-loop-cursor decreases-loop-cursor
+enum_told-1 c = search rules
 
-loop-less : tie.Need-loop-smaller invariant-loop decreases-loop
-loop-less c =
-    let stepped = c.before.before.before.before.before.before.before in
-    let g = (did stepped Continue c.enum_told.given.1).0 in
-    let f = step_further toy lawful (head stepped).loop.invariant.0 g in
+loop-cursor-smaller : tie.Need-loop-cursor-smaller invariant-loop-cursor decreases-loop-cursor
+loop-cursor-smaller c =
+    let stepped = c.before.before.before.before.before.before in
+    let g = (did stepped Continue c.in-Continue.is).0 in
+    let f = step_further toy lawful (head stepped).loop-cursor.invariant.0 g in
     let i = g.fits.at_in in
     omega arith
 
-loop-again : tie.Need-loop-preserved invariant-loop decreases-loop
-loop-again c =
-    let stepped = c.before.before.before.before.before.before.before in
-    let g = did stepped Continue c.enum_told.given.1 in
-    (invariant_next toy lawful (head stepped).loop.invariant.0 (start stepped).requires.1 g.0, g.1)
+loop-cursor-preserved : tie.Need-loop-cursor-preserved invariant-loop-cursor decreases-loop-cursor
+loop-cursor-preserved c =
+    let stepped = c.before.before.before.before.before.before in
+    let g = did stepped Continue c.in-Continue.is in
+    (invariant_next toy lawful (head stepped).loop-cursor.invariant.0 (start stepped).requires.1 g.0, g.1)
 
-enum-known-result : tie.Need-enum-known-result invariant-loop decreases-loop
-enum-known-result c = search rules
+enum_known-result : tie.Need-enum_known-result invariant-loop-cursor decreases-loop-cursor
+enum_known-result c = search rules
 
-same_length : tie.Need-same-length invariant-loop decreases-loop
-same_length c = search rules
+shape_of-rows-in-End : tie.Need-shape_of-rows-in-End invariant-loop-cursor decreases-loop-cursor
+shape_of-rows-in-End c = search rules
 
-same-length-2 : tie.Need-same-length-2 invariant-loop decreases-loop
-same-length-2 c = search rules
+shape_of-refs-in-End : tie.Need-shape_of-refs-in-End invariant-loop-cursor decreases-loop-cursor
+shape_of-refs-in-End c = search rules
 
-returns : tie.Need-returns invariant-loop decreases-loop
-returns c =
-    let stepped = c.before.before.before.before.before.before.before.before in
-    let g = did stepped (End _ _ _) c.before.result.given.1 in
-    let i = (head stepped).loop.invariant.0 in
+returns-in-End : tie.Need-returns-in-End invariant-loop-cursor decreases-loop-cursor
+returns-in-End c =
+    let stepped = c.before.before.before.before.before.before in
+    let g = did stepped (End _ _ _) c.in-End.is in
+    let i = (head stepped).loop-cursor.invariant.0 in
     (end_answer i g, (end_rows toy lawful i g, end_refs toy lawful i g))
 
-pub read-records-spec : {M : Type 1} → statement M
-read-records-spec =
+pub read_records_spec : {M : Type 1} → statement M
+read_records_spec =
     tie.close
     (tie.spec
-    invariant-loop
-    decreases-loop
-    loop-holds
-    step-requires
-    enum_told
-    loop-less
-    loop-again
-    enum-known-result
-    same_length
-    same-length-2
-    returns)
+    invariant-loop-cursor
+    decreases-loop-cursor
+    loop-cursor-init
+    step-done-requires
+    enum_told-1
+    loop-cursor-smaller
+    loop-cursor-preserved
+    enum_known-result
+    shape_of-rows-in-End
+    shape_of-refs-in-End
+    returns-in-End)

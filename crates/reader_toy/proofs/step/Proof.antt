@@ -11,103 +11,103 @@ use Rattle.reader_toy.proofs.step.Statement.{statement}
 use Rattle.reader_toy.proofs.step.Tie as tie
 
 -- The length that was read, and the offset after it.
-module _ (c : tie.After-n) where
+module _ (c : tie.In-Is) where
   abbrev begin : tie.Start
-  begin = c.before.before.before.before.before.before
+  begin = c.before.before.before.before.before
 
-  got : run (field 1) begin.args.s.now begin.args.k.at ≡ whole c.n.given.0.0 c.n.given.0.1.0
-  got = sym c.before.before.field.ensures.0 ∙ ap outcome c.n.given.1
+  got : run (field 1) begin.args.s.now begin.args.k.at ≡ whole c.in-Is.n c.in-Is.from
+  got = sym c.field.ensures.0 ∙ ap outcome c.in-Is.is
 
-  placed : c.n.given.0.1.0 ≤ length begin.args.s.now
-  placed = end_in_bounds (field 1) begin.args.s.now begin.args.k.at _ _ begin.pre.inside.at_in got
+  placed : c.in-Is.from ≤ length begin.args.s.now
+  placed = end_in_bounds (field 1) begin.args.s.now begin.args.k.at _ _ begin.requires.inside.at_in got
 
 field-requires : tie.Need-field-requires
 field-requires c κs = search rules
 
-enum-known-n : tie.Need-enum-known-n
-enum-known-n c = search rules
+enum_known-n : tie.Need-enum_known-n
+enum_known-n c = search rules
 
-end-step-requires : tie.Need-end-step-requires
-end-step-requires c κs = search rules
+end_step-requires : tie.Need-end_step-requires
+end_step-requires c κs = search rules
 
-returns : tie.Need-returns
-returns c =
+returns-then-n-eq0 : tie.Need-returns-then-n-eq0
+returns-then-n-eq0 c =
+    let read = c.before.before in
+    let start = begin read in
+    rw c.end_step.ensures (step_ends_end start.args.letter start.requires (got read) c.if-n-eq0.true)
+
+overflow_sub-left : tie.Need-overflow_sub-left
+overflow_sub-left c = placed c.before
+
+overflow_sub-len : tie.Need-overflow_sub-len
+overflow_sub-len c = search rules
+
+end_step-requires-then-left-len : tie.Need-end_step-requires-then-left-len
+end_step-requires-then-left-len c κs = search rules
+
+returns-then-left-len : tie.Need-returns-then-left-len
+returns-then-left-len c =
     let read = c.before.before.before in
     let start = begin read in
-    rw c.End-step.ensures (step_ends_end start.args.letter start.pre (got read) c.before.if1.true)
-
-sub-left : tie.Need-overflow-sub-left
-sub-left c = placed c.before.before
-
-sub-end-step : tie.Need-overflow-sub-end-step
-sub-end-step c = search rules
-
-end-step-requires-2 : tie.Need-end-step-requires-2
-end-step-requires-2 c κs = search rules
-
-returns-2 : tie.Need-returns-2
-returns-2 c =
-    let read = c.before.before.before.before in
-    let start = begin read in
     let placed-read = placed read in
-    let n = read.n.given.0.0 in
-    let from = read.n.given.0.1.0 in
+    let n = read.in-Is.n in
+    let from = read.in-Is.from in
     let e : n - (length start.args.s.now - from) ≡ from + n - length start.args.s.now = omega arith in
-    rw (c.end-step2.ensures, e) (step_ends_cut start.args.letter start.pre (got read) c.before.before.if1.false (omega arith))
+    rw (c.end_step-then-left-len.ensures, e) (step_ends_cut start.args.letter start.requires (got read) c.if-n-eq0.false (omega arith))
 
 store-requires : tie.Need-store-requires
 store-requires c κs =
-    let read = c.before.before.before.before.before in
+    let read = c.before.before.before.before in
     let start = begin read in
     let placed-read = placed read in
-    (start.pre, record_at start.args.letter start.pre (got read) c.before.before.before.if1.false (omega arith))
+    (start.requires, record_at start.args.letter start.requires (got read) c.if-n-eq0.false (omega arith))
 
-enum-known-w : tie.Need-enum-known-w
-enum-known-w c = search rules
+enum_known-w : tie.Need-enum_known-w
+enum_known-w c = search rules
 
-reply-of-requires : tie.Need-reply-of-requires
-reply-of-requires c κs = search rules
+reply_of-requires : tie.Need-reply_of-requires
+reply_of-requires c κs = search rules
 
-missing-of-requires : tie.Need-missing-of-requires
-missing-of-requires c κs = search rules
+missing_of-requires : tie.Need-missing_of-requires
+missing_of-requires c κs = search rules
 
-end-step-requires-3 : tie.Need-end-step-requires-3
-end-step-requires-3 c κs = search rules
+end_step-requires-in-Stops : tie.Need-end_step-requires-in-Stops
+end_step-requires-in-Stops c κs = search rules
 
-same_length : tie.Need-same-length
-same_length c = search rules
+shape_of-rows : tie.Need-shape_of-rows
+shape_of-rows c = search rules
 
-same-length-2 : tie.Need-same-length-2
-same-length-2 c = search rules
+shape_of-refs : tie.Need-shape_of-refs
+shape_of-refs c = search rules
 
-returns-3 : tie.Need-returns-3
-returns-3 c = search rules
+returns-else-left-len : tie.Need-returns-else-left-len
+returns-else-left-len c = search rules
 
-returns-4 : tie.Need-returns-4
-returns-4 c =
-    let stop = c.before.before.before.before in
-    let start = stop.before.before.before.before.before.before in
-    rw (c.end-step3.ensures, c.before.before.reply_of.ensures, c.before.missing_of.ensures)
-    (step_ends_stop start.args.letter start.requires _ (sym stop.before.before.field.ensures.0 ∙ ap outcome stop.w.given.1))
+returns-in-Stops : tie.Need-returns-in-Stops
+returns-in-Stops c =
+    let stop = c.before.before.before in
+    let start = stop.before.before.before.before.before in
+    rw (c.end_step-in-Stops.ensures, c.reply_of.ensures, c.missing_of.ensures)
+    (step_ends_stop start.args.letter start.requires _ (sym stop.field.ensures.0 ∙ ap outcome stop.in-Stops.is))
 
 pub step_spec : {M : Type 1} → statement M
 step_spec =
     tie.close
     (tie.spec
     field-requires
-    enum-known-n
-    end-step-requires
-    returns
-    sub-left
-    sub-end-step
-    end-step-requires-2
-    returns-2
+    enum_known-n
+    end_step-requires
+    returns-then-n-eq0
+    overflow_sub-left
+    overflow_sub-len
+    end_step-requires-then-left-len
+    returns-then-left-len
     store-requires
-    enum-known-w
-    reply-of-requires
-    missing-of-requires
-    end-step-requires-3
-    same_length
-    same-length-2
-    returns-3
-    returns-4)
+    enum_known-w
+    reply_of-requires
+    missing_of-requires
+    end_step-requires-in-Stops
+    shape_of-rows
+    shape_of-refs
+    returns-else-left-len
+    returns-in-Stops)

@@ -6,87 +6,87 @@ use Rattle.reader_toy.proofs.store.Statement.{statement}
 use Rattle.reader_toy.proofs.store.Tie as tie
 
 -- The function's entry, seen from after the call of `record_row_width`.
-abbrev start : tie.After-record-row-width → tie.Start
+abbrev start : tie.After-record_row_width → tie.Start
 start c = c.before.before.before.before.before.before
 
-shared-slice-read-b : tie.Need-shared-slice-read-b
-shared-slice-read-b c = search rules
+bounds-s-from : tie.Need-bounds-s-from
+bounds-s-from c = search rules
 
-mul-if1 : tie.Need-overflow-mul-if1
-mul-if1 c = search rules
+overflow_mul-k : tie.Need-overflow_mul-k
+overflow_mul-k c = search rules
 
-sub-if1 : tie.Need-overflow-sub-if1
-sub-if1 c = search rules
+overflow_sub-rows : tie.Need-overflow_sub-rows
+overflow_sub-rows c = search rules
 
-record-row-width-requires : tie.Need-record-row-width-requires
-record-row-width-requires c κs = search rules
+record_row_width-requires : tie.Need-record_row_width-requires
+record_row_width-requires c κs = search rules
 
-end-step-requires : tie.Need-end-step-requires
-end-step-requires c κs = search rules
+end_step-requires : tie.Need-end_step-requires
+end_step-requires c κs = search rules
+
+returns-then-rows-k : tie.Need-returns-then-rows-k
+returns-then-rows-k c =
+    let start = start c.before.before in
+    rw c.end_step.ensures (step_ends_rows start.args.letter start.requires.0 start.requires.1 (omega arith))
+
+overflow_sub-refs : tie.Need-overflow_sub-refs
+overflow_sub-refs c = search rules
+
+end_step-requires-then-refs-k : tie.Need-end_step-requires-then-refs-k
+end_step-requires-then-refs-k c κs = search rules
+
+returns-then-refs-k : tie.Need-returns-then-refs-k
+returns-then-refs-k c =
+    let start = start c.before.before.before.before in
+    rw c.end_step-then-refs-k.ensures (step_ends_refs start.args.letter start.requires.0 start.requires.1 (omega arith) (omega arith))
+
+store_row-count-requires : tie.Need-store_row-count-requires
+store_row-count-requires c κs = search rules
+
+store_refs-requires : tie.Need-store_refs-requires
+store_refs-requires c κs = search rules
+
+overflow_add-result : tie.Need-overflow_add-result
+overflow_add-result c = search rules
+
+overflow_add-result-2 : tie.Need-overflow_add-result-2
+overflow_add-result-2 c = search rules
+
+overflow_add-result-3 : tie.Need-overflow_add-result-3
+overflow_add-result-3 c = search rules
+
+shape_of-rows : tie.Need-shape_of-rows
+shape_of-rows c = search rules
+
+shape_of-refs : tie.Need-shape_of-refs
+shape_of-refs c = search rules
 
 returns : tie.Need-returns
 returns c =
-    let start = start c.before.before in
-    rw c.End-step.ensures (step_ends_rows start.args.letter start.pre.0 start.pre.1 (omega arith))
-
-sub-if2 : tie.Need-overflow-sub-if2
-sub-if2 c = search rules
-
-end-step-requires-2 : tie.Need-end-step-requires-2
-end-step-requires-2 c κs = search rules
-
-returns-2 : tie.Need-returns-2
-returns-2 c =
-    let start = start c.before.before.before.before in
-    rw c.end-step2.ensures (step_ends_refs start.args.letter start.pre.0 start.pre.1 (omega arith) (omega arith))
-
-store-row-requires : tie.Need-store-row-requires
-store-row-requires c κs = search rules
-
-store-refs-requires : tie.Need-store-refs-requires
-store-refs-requires c κs = search rules
-
-add-t14 : tie.Need-overflow-add-t14
-add-t14 c = search rules
-
-add-t23 : tie.Need-overflow-add-t23
-add-t23 c = search rules
-
-add-t15 : tie.Need-overflow-add-t15
-add-t15 c = search rules
-
-same_length : tie.Need-same-length
-same_length c = search rules
-
-same-length-2 : tie.Need-same-length-2
-same-length-2 c = search rules
-
-returns-3 : tie.Need-returns-3
-returns-3 c =
     let with-refs = c.before.before.before.before in
     let with_row = with-refs.before.before.before.before in
     let start = start with_row.before.before.before.before.before in
-    rw (with_row.store-row.ensures.0, with-refs.store-refs.ensures)
-    (step_continues start.args.letter start.pre.0 start.pre.1 _ with_row.store-row.ensures.1 (omega arith) (omega arith))
+    rw (with_row.store_row-count.ensures.0, with-refs.store_refs.ensures)
+    (step_continues start.args.letter start.requires.0 start.requires.1 _ with_row.store_row-count.ensures.1 (omega arith) (omega arith))
 
 pub store_spec : {M : Type 1} → statement M
 store_spec =
     tie.close
     (tie.spec
-    shared-slice-read-b
-    mul-if1
-    sub-if1
-    record-row-width-requires
-    end-step-requires
-    returns
-    sub-if2
-    end-step-requires-2
-    returns-2
-    store-row-requires
-    store-refs-requires
-    add-t14
-    add-t23
-    add-t15
-    same_length
-    same-length-2
-    returns-3)
+    bounds-s-from
+    overflow_mul-k
+    overflow_sub-rows
+    record_row_width-requires
+    end_step-requires
+    returns-then-rows-k
+    overflow_sub-refs
+    end_step-requires-then-refs-k
+    returns-then-refs-k
+    store_row-count-requires
+    store_refs-requires
+    overflow_add-result
+    overflow_add-result-2
+    overflow_add-result-3
+    shape_of-rows
+    shape_of-refs
+    returns)

@@ -10,72 +10,72 @@ use Rattle.reader_toy.proofs.StoreLaws.{sets_slice_next}
 use Rattle.reader_toy.proofs.store_refs.Statement.{statement}
 use Rattle.reader_toy.proofs.store_refs.Tie as tie
 
-abbrev invariant-loop : tie.invariant-loop
-invariant-loop s from n refs₀ to i₀ refs i =
+abbrev invariant-loop-i : tie.invariant-loop-i
+invariant-loop-i s from n refs₀ to i₀ refs i =
     (i ≤ n) × (length refs ≡ length refs₀) × (sets refs (to + i) (take (n - i) (drop (from + i) s)) ≡ sets refs₀ to (take n (drop from s)))
 
-abbrev decreases-loop : tie.decreases-loop
-decreases-loop s from n refs₀ to i₀ refs i = n - i
+abbrev decreases-loop-i : tie.decreases-loop-i
+decreases-loop-i s from n refs₀ to i₀ refs i = n - i
 
-loop-holds : tie.Need-loop-init invariant-loop decreases-loop
-loop-holds c = (omega arith, refl, simp (add-zero, sub-zero))
+loop-i-init : tie.Need-loop-i-init invariant-loop-i decreases-loop-i
+loop-i-init c = (omega arith, refl, simp (add-zero, sub-zero))
 
-add-refs : tie.Need-overflow-add-refs invariant-loop decreases-loop
-add-refs c = search rules
+overflow_add-refs : tie.Need-overflow_add-refs invariant-loop-i decreases-loop-i
+overflow_add-refs c = search rules
 
-shared-slice-read-refs : tie.Need-shared-slice-read-refs invariant-loop decreases-loop
-shared-slice-read-refs c = search rules
+bounds-s-from : tie.Need-bounds-s-from invariant-loop-i decreases-loop-i
+bounds-s-from c = search rules
 
-cast-refs : tie.Need-overflow-cast-refs invariant-loop decreases-loop
-cast-refs c =
-    omega (arith, c.shared-slice-known.given (c.before.before.before.args.from + c.before.before.loop.i))
+overflow_cast-refs : tie.Need-overflow_cast-refs invariant-loop-i decreases-loop-i
+overflow_cast-refs c =
+    omega (arith, c.shared_slice_known-1.given (c.args.from + c.loop-i.i))
 
-add-refs-2 : tie.Need-overflow-add-refs-2 invariant-loop decreases-loop
-add-refs-2 c = search rules
+overflow_add-refs-in-loop-i : tie.Need-overflow_add-refs-in-loop-i invariant-loop-i decreases-loop-i
+overflow_add-refs-in-loop-i c = search rules
 
-mul-refs : tie.Need-overflow-mul-refs invariant-loop decreases-loop
-mul-refs c = search rules
+offset_bounds-refs-to : tie.Need-offset_bounds-refs-to invariant-loop-i decreases-loop-i
+offset_bounds-refs-to c = search rules
 
-slice-write-refs : tie.Need-slice-write-refs invariant-loop decreases-loop
-slice-write-refs c = search rules
+bounds-refs-to : tie.Need-bounds-refs-to invariant-loop-i decreases-loop-i
+bounds-refs-to c = search rules
 
-add-i : tie.Need-overflow-add-i invariant-loop decreases-loop
-add-i c = search rules
+overflow_add-i : tie.Need-overflow_add-i invariant-loop-i decreases-loop-i
+overflow_add-i c = search rules
 
-loop-less : tie.Need-loop-smaller invariant-loop decreases-loop
-loop-less c = search rules
+loop-i-smaller : tie.Need-loop-i-smaller invariant-loop-i decreases-loop-i
+loop-i-smaller c = search rules
 
-loop-again : tie.Need-loop-preserved invariant-loop decreases-loop
-loop-again c =
+loop-i-preserved : tie.Need-loop-i-preserved invariant-loop-i decreases-loop-i
+loop-i-preserved c =
     let l = c.before.before in
-    let a = l.before.args in
-    let e = sets_slice_next l.loop.refs a.s.now a.from a.n a.to l.loop.i (omega arith) (omega arith) in
-    (omega arith, simp length-set l.loop.invariant.1, sym e ∙ l.loop.invariant.2)
+    let a = l.args in
+    let e = sets_slice_next l.loop-i.refs a.s.now a.from a.n a.to l.loop-i.i (omega arith) (omega arith) in
+    (omega arith, simp length-set l.loop-i.invariant.1, sym e ∙ l.loop-i.invariant.2)
 
-same_length : tie.Need-same-length invariant-loop decreases-loop
-same_length c = search rules
+shape_of-refs : tie.Need-shape_of-refs invariant-loop-i decreases-loop-i
+shape_of-refs c = search rules
 
-returns : tie.Need-returns invariant-loop decreases-loop
+returns : tie.Need-returns invariant-loop-i decreases-loop-i
 returns c =
     let l = c.before in
-    let e : l.before.args.n - l.loop.i ≡ 0 = omega arith in
-    rw e at l.loop.invariant.2
+    let e : l.args.n - l.loop-i.i ≡ 0 = omega arith in
+    rw e at l.loop-i.invariant.2
 
-pub store-refs-spec : {M : Type 1} → statement M
-store-refs-spec =
+pub store_refs_spec : {M : Type 1} → statement M
+store_refs_spec =
     tie.close
     (tie.spec
-    invariant-loop
-    decreases-loop
-    loop-holds
-    add-refs
-    shared-slice-read-refs
-    cast-refs
-    add-refs-2
-    mul-refs
-    slice-write-refs
-    add-i
-    loop-less
-    loop-again
-    same_length
+    invariant-loop-i
+    decreases-loop-i
+    loop-i-init
+    overflow_add-refs
+    bounds-s-from
+    overflow_cast-refs
+    overflow_add-refs-in-loop-i
+    offset_bounds-refs-to
+    bounds-refs-to
+    overflow_add-i
+    loop-i-smaller
+    loop-i-preserved
+    shape_of-refs
     returns)

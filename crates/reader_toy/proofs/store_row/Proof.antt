@@ -7,29 +7,29 @@ use Rattle.reader_toy.specs.Toy.{row}
 use Rattle.reader_toy.proofs.store_row.Statement.{statement}
 use Rattle.reader_toy.proofs.store_row.Tie as tie
 
-returns : tie.Need-returns
+returns-then-b-eq0 : tie.Need-returns-then-b-eq0
 unfolding row
-returns c = rw (eq-eqb _ _ c.if1.true) (refl, omega arith)
+returns-then-b-eq0 c = rw (eq-eqb _ _ c.if-b-eq0.true) (refl, omega arith)
 
-mul-store-row : tie.Need-overflow-mul-store-row
-mul-store-row c = search rules
+overflow_mul-k : tie.Need-overflow_mul-k
+overflow_mul-k c = search rules
 
-store-row-requires : tie.Need-store-row-requires
-store-row-requires c κs =
-    let l = rw (ne_eqb _ _ c.before.before.if1.false) at c.before.before.before.before.requires in
+store_row-requires : tie.Need-store_row-requires
+store_row-requires c κs =
+    let l = rw (ne_eqb _ _ c.if-b-eq0.false) at c.requires in
     (l, refl)
 
-add-result : tie.Need-overflow-add-result
-add-result c = search rules
+overflow_add-result : tie.Need-overflow_add-result
+overflow_add-result c = search rules
 
-same_length : tie.Need-same-length
-same_length c = search rules
+shape_of-rows : tie.Need-shape_of-rows
+shape_of-rows c = search rules
 
-returns-2 : tie.Need-returns-2
+returns : tie.Need-returns
 unfolding row
-returns-2 c =
-    rw (ne_eqb _ _ c.before.before.before.before.before.before.if1.false) (c.before.before.before.store-row.ensures, omega arith)
+returns c =
+    rw (ne_eqb _ _ c.if-b-eq0.false) (c.store_row.ensures, omega arith)
 
-pub store-row-spec : {M : Type 1} → statement M
-store-row-spec =
-    tie.close (tie.spec returns mul-store-row store-row-requires add-result same_length returns-2)
+pub store_row_spec : {M : Type 1} → statement M
+store_row_spec =
+    tie.close (tie.spec returns-then-b-eq0 overflow_mul-k store_row-requires overflow_add-result shape_of-rows returns)

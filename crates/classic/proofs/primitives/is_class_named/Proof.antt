@@ -5,28 +5,28 @@ use Rattle.classic.proofs.ClassRowTests.{not_class_named, class_name_two_bytes, 
 use Rattle.classic.proofs.primitives.is_class_named.Statement.{statement}
 use Rattle.classic.proofs.primitives.is_class_named.Tie as tie
 
-shared-slice-read-result : tie.Need-shared-slice-read-result
-shared-slice-read-result c = omega (arith, class_name_two_bytes c.before.before.before.before.before.args.row c.before.if1.true)
+bounds-names-at : tie.Need-bounds-names-at
+bounds-names-at c = omega (arith, class_name_two_bytes c.args.row c.if-row.true)
 
-add-result : tie.Need-overflow-add-result
-add-result c = search rules
+overflow_add-result : tie.Need-overflow_add-result
+overflow_add-result c = search rules
 
-shared-slice-read-result-2 : tie.Need-shared-slice-read-result-2
-shared-slice-read-result-2 c = let d = c.before.before in omega (arith, class_name_two_bytes d.before.before.before.before.args.row d.if1.true)
+bounds-names-at-then-row : tie.Need-bounds-names-at-then-row
+bounds-names-at-then-row c = let d = c.before.before in omega (arith, class_name_two_bytes d.args.row d.if-row.true)
 
-prim-letter-requires : tie.Need-prim-letter-requires
-prim-letter-requires c κs = search rules
+prim_letter-requires : tie.Need-prim_letter-requires
+prim_letter-requires c κs = search rules
+
+returns-then-row : tie.Need-returns-then-row
+returns-then-row c =
+    let d = c.before.before.before in
+    let s = d.before.before.before.before in
+    class_named_bytes s.args.names.now s.args.row s.args.prim s.requires.1 _ d.if-row.true c.prim_letter.ensures
 
 returns : tie.Need-returns
 returns c =
-    let d = c.before.before.before in
-    let s = d.before.before.before.before in
-    class_named_bytes s.args.names.now s.args.row s.args.prim s.requires.1 _ d.if1.true c.prim-letter.ensures
-
-returns-2 : tie.Need-returns-2
-returns-2 c =
     let s = c.before.before.before.before in
-    not_class_named s.args.names.now s.args.row s.args.prim s.requires.1 c.if1.false
+    not_class_named s.args.names.now s.args.row s.args.prim s.requires.1 c.if-row.false
 
-pub is-class-named-spec : {M : Type 1} → statement M
-is-class-named-spec = tie.close (tie.spec shared-slice-read-result add-result shared-slice-read-result-2 prim-letter-requires returns returns-2)
+pub is_class_named_spec : {M : Type 1} → statement M
+is_class_named_spec = tie.close (tie.spec bounds-names-at overflow_add-result bounds-names-at-then-row prim_letter-requires returns-then-row returns)

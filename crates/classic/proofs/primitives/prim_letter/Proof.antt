@@ -5,12 +5,12 @@ use Rattle.classic.specs.ClassicText.{letters}
 use Rattle.classic.proofs.primitives.prim_letter.Statement.{statement}
 use Rattle.classic.proofs.primitives.prim_letter.Tie as tie
 
-array-read-result : tie.Need-array-read-result
-array-read-result c = search rules
+bounds-i : tie.Need-bounds-i
+bounds-i c = search rules
 
 returns : tie.Need-returns
 unfolding letters
 returns c = refl
 
-pub prim-letter-spec : {M : Type 1} → statement M
-prim-letter-spec = tie.close (tie.spec array-read-result returns)
+pub prim_letter_spec : {M : Type 1} → statement M
+prim_letter_spec = tie.close (tie.spec bounds-i returns)

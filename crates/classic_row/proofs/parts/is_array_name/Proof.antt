@@ -7,17 +7,17 @@ use lib.Seq.{get_or-take, get_or-drop}
 use Rattle.classic_row.proofs.parts.is_array_name.Statement.{statement}
 use Rattle.classic_row.proofs.parts.is_array_name.Tie as tie
 
+returns-then-e-eq0 : tie.Need-returns-then-e-eq0
+returns-then-e-eq0 c = rw c.if-e-eq0.true
+
+bounds-names-at : tie.Need-bounds-names-at
+bounds-names-at c = search rules
+
 returns : tie.Need-returns
-returns c = rw c.if1.true
-
-shared-slice-read-result : tie.Need-shared-slice-read-result
-shared-slice-read-result c = search rules
-
-returns-2 : tie.Need-returns-2
-returns-2 c =
-    let e = c.before.before.before.args.e in
+returns c =
+    let e = c.args.e in
     let h : 0 < e.len = omega arith in
     rw (get_or-take, get_or-drop, add-zero)
 
-pub is-array-name-spec : {M : Type 1} → statement M
-is-array-name-spec = tie.close (tie.spec returns shared-slice-read-result returns-2)
+pub is_array_name_spec : {M : Type 1} → statement M
+is_array_name_spec = tie.close (tie.spec returns-then-e-eq0 bounds-names-at returns)

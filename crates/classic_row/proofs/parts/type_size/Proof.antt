@@ -9,38 +9,38 @@ use Rattle.classic_row.specs.RowText.{label_type}
 use Rattle.classic_row.proofs.parts.type_size.Statement.{statement}
 use Rattle.classic_row.proofs.parts.type_size.Tie as tie
 
-returns : tie.Need-returns
+returns-then-kind-eq4 : tie.Need-returns-then-kind-eq4
 unfolding label_type primitive_array_type
-returns c = rw c.if1.true
+returns-then-kind-eq4 c = rw c.if-kind-eq4.true
 
-is-array-name-requires : tie.Need-is-array-name-requires
-is-array-name-requires c κs = search rules
+is_array_name-requires : tie.Need-is_array_name-requires
+is_array_name-requires c κs = search rules
 
-add-result : tie.Need-overflow-add-result
-add-result c = search rules
+overflow_add-result : tie.Need-overflow_add-result
+overflow_add-result c = search rules
 
-returns-2 : tie.Need-returns-2
+returns-then-is_array_name : tie.Need-returns-then-is_array_name
 unfolding label_type object_array_type
-returns-2 c =
+returns-then-is_array_name c =
     let a = c.before.before in
-    rw (ne_eqb _ _ a.before.before.if1.false, a.before.if2.true, sym a.is-array-name.ensures ∙ c.before.if3.true)
+    rw (ne_eqb _ _ a.if-kind-eq4.false, a.if-kind-eq3.true, sym a.is_array_name.ensures ∙ c.if-is_array_name.true)
     (simp (length-take, length-drop) (omega arith))
 
-add-result-2 : tie.Need-overflow-add-result-2
-add-result-2 c = search rules
+overflow_add-result-then-kind-eq3 : tie.Need-overflow_add-result-then-kind-eq3
+overflow_add-result-then-kind-eq3 c = search rules
 
-returns-3 : tie.Need-returns-3
+returns-then-kind-eq3 : tie.Need-returns-then-kind-eq3
 unfolding label_type object_array_type
-returns-3 c =
+returns-then-kind-eq3 c =
     let a = c.before.before in
-    rw (ne_eqb _ _ a.before.before.if1.false, a.before.if2.true, sym a.is-array-name.ensures ∙ c.before.if3.false)
+    rw (ne_eqb _ _ a.if-kind-eq4.false, a.if-kind-eq3.true, sym a.is_array_name.ensures ∙ c.if-is_array_name.false)
     (simp (length-append, length-take, length-drop) (omega arith))
 
-returns-4 : tie.Need-returns-4
+returns : tie.Need-returns
 unfolding label_type
-returns-4 c = rw (ne_eqb _ _ c.before.if1.false, ne_eqb _ _ c.if2.false) (simp (length-take, length-drop) (omega arith))
+returns c = rw (ne_eqb _ _ c.if-kind-eq4.false, ne_eqb _ _ c.if-kind-eq3.false) (simp (length-take, length-drop) (omega arith))
 
-pub type-size-spec : {M : Type 1} → statement M
-type-size-spec =
+pub type_size_spec : {M : Type 1} → statement M
+type_size_spec =
     tie.close
-    (tie.spec returns is-array-name-requires add-result returns-2 add-result-2 returns-3 returns-4)
+    (tie.spec returns-then-kind-eq4 is_array_name-requires overflow_add-result returns-then-is_array_name overflow_add-result-then-kind-eq3 returns-then-kind-eq3 returns)

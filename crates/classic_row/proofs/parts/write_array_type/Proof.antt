@@ -29,78 +29,66 @@ unfolding object_array_type
 other n e = rw e
 
 -- The progress at the start of a branch and after each call.
-abbrev inner : tie.Then1 → WriteProgress
+abbrev inner : tie.Then-is_array_name → WriteProgress
 inner t =
     let s = t.before.before.before.before in
-    progress_start s.args.out.now s.args.at (ascii "[" ∷ name s ∷ []) (starting (name s) (sym t.before.is-array-name.ensures ∙ t.if1.true)) s.requires.1
+    progress_start s.args.out.now s.args.at (ascii "[" ∷ name s ∷ []) (starting (name s) (sym t.is_array_name.ensures ∙ t.if-is_array_name.true)) s.requires.1
 
-abbrev inner_first : tie.After-encode-bytes → WriteProgress
-inner_first p = progress_next (inner p.before.before.before) p.encode-bytes.ensures
+abbrev inner_first : tie.After-encode_bytes-inner → WriteProgress
+inner_first p = progress_next (inner p.before.before.before.before) p.encode_bytes-inner.ensures
 
-abbrev outer : tie.Else1 → WriteProgress
+abbrev outer : tie.Else-is_array_name → WriteProgress
 outer t =
     let s = t.before.before.before.before in
-    progress_start s.args.out.now s.args.at (ascii "[L" ∷ name s ∷ ascii ";" ∷ []) (other (name s) (sym t.before.is-array-name.ensures ∙ t.if1.false)) s.requires.1
+    progress_start s.args.out.now s.args.at (ascii "[L" ∷ name s ∷ ascii ";" ∷ []) (other (name s) (sym t.is_array_name.ensures ∙ t.if-is_array_name.false)) s.requires.1
 
-abbrev outer-first : tie.After-encode-bytes2 → WriteProgress
-outer-first p = progress_next (outer p.before.before.before) p.encode-bytes2.ensures
+abbrev outer-first : tie.After-encode_bytes-name → WriteProgress
+outer-first p = progress_next (outer p.before.before.before.before) p.encode_bytes-name.ensures
 
-abbrev outer-second : tie.After-encode-slice2 → WriteProgress
-outer-second q = progress_next (outer-first q.before.before.before.before) q.encode-slice2.ensures
+abbrev outer-second : tie.After-encode_slice-end → WriteProgress
+outer-second q = progress_next (outer-first q.before.before.before.before) q.encode_slice-end.ensures
 
-is-array-name-requires : tie.Need-is-array-name-requires
-is-array-name-requires c κs = search rules
+is_array_name-requires : tie.Need-is_array_name-requires
+is_array_name-requires c κs = search rules
 
-slice-aggregate-encode-bytes : tie.Need-slice-aggregate-encode-bytes
-slice-aggregate-encode-bytes c = search rules
+encode_bytes-inner-requires : tie.Need-encode_bytes-inner-requires
+encode_bytes-inner-requires c κs = next_part_fits (inner c.before.before.before)
 
-encode-bytes-requires : tie.Need-encode-bytes-requires
-encode-bytes-requires c κs = next_part_fits (inner c.before.before)
+encode_slice-requires : tie.Need-encode_slice-requires
+encode_slice-requires c κs = let p = c.before.before.before in (p.requires.0, next_part_fits (inner_first p))
 
-encode-slice-requires : tie.Need-encode-slice-requires
-encode-slice-requires c κs = let p = c.before.before.before in (p.before.before.before.before.before.before.before.requires.0, next_part_fits (inner_first p))
+shape_of-out-then-is_array_name : tie.Need-shape_of-out-then-is_array_name
+shape_of-out-then-is_array_name c = search rules
 
-same_length : tie.Need-same-length
-same_length c = search rules
+returns-then-is_array_name : tie.Need-returns-then-is_array_name
+returns-then-is_array_name c = let q = c.before.before in progress_done (progress_next (inner_first q.before.before.before.before) q.encode_slice.ensures) refl
+
+encode_bytes-name-requires : tie.Need-encode_bytes-name-requires
+encode_bytes-name-requires c κs = next_part_fits (outer c.before.before.before)
+
+encode_slice-end-requires : tie.Need-encode_slice-end-requires
+encode_slice-end-requires c κs = let p = c.before.before.before in (p.requires.0, next_part_fits (outer-first p))
+
+encode_bytes-requires : tie.Need-encode_bytes-requires
+encode_bytes-requires c κs = next_part_fits (outer-second c.before.before.before.before.before)
+
+shape_of-out : tie.Need-shape_of-out
+shape_of-out c = search rules
 
 returns : tie.Need-returns
-returns c = let q = c.before.before in progress_done (progress_next (inner_first q.before.before.before.before) q.encode-slice.ensures) refl
+returns c = let r = c.before.before in progress_done (progress_next (outer-second r.before.before.before.before.before.before) r.encode_bytes.ensures) refl
 
-slice-aggregate-encode-bytes-2 : tie.Need-slice-aggregate-encode-bytes-2
-slice-aggregate-encode-bytes-2 c = search rules
-
-encode-bytes-requires-2 : tie.Need-encode-bytes-requires-2
-encode-bytes-requires-2 c κs = next_part_fits (outer c.before.before)
-
-encode-slice-requires-2 : tie.Need-encode-slice-requires-2
-encode-slice-requires-2 c κs = let p = c.before.before.before in (p.before.before.before.before.before.before.before.requires.0, next_part_fits (outer-first p))
-
-slice-aggregate-encode-bytes-3 : tie.Need-slice-aggregate-encode-bytes-3
-slice-aggregate-encode-bytes-3 c = search rules
-
-encode-bytes-requires-3 : tie.Need-encode-bytes-requires-3
-encode-bytes-requires-3 c κs = next_part_fits (outer-second c.before.before.before.before)
-
-same-length-2 : tie.Need-same-length-2
-same-length-2 c = search rules
-
-returns-2 : tie.Need-returns-2
-returns-2 c = let r = c.before.before in progress_done (progress_next (outer-second r.before.before.before.before.before) r.encode-bytes3.ensures) refl
-
-pub write-array-type-spec : {M : Type 1} → statement M
-write-array-type-spec =
+pub write_array_type_spec : {M : Type 1} → statement M
+write_array_type_spec =
     tie.close
     (tie.spec
-    is-array-name-requires
-    slice-aggregate-encode-bytes
-    encode-bytes-requires
-    encode-slice-requires
-    same_length
-    returns
-    slice-aggregate-encode-bytes-2
-    encode-bytes-requires-2
-    encode-slice-requires-2
-    slice-aggregate-encode-bytes-3
-    encode-bytes-requires-3
-    same-length-2
-    returns-2)
+    is_array_name-requires
+    encode_bytes-inner-requires
+    encode_slice-requires
+    shape_of-out-then-is_array_name
+    returns-then-is_array_name
+    encode_bytes-name-requires
+    encode_slice-end-requires
+    encode_bytes-requires
+    shape_of-out
+    returns)

@@ -27,50 +27,46 @@ none c =
     let a = c.args in
     progress_start a.out.now a.at (parts a.bits a.names.now a.row a.e) (in_parts a.bits a.names.now a.row a.e) c.requires.1.1.1
 
-abbrev first : tie.After-write-address → WriteProgress
-first c = progress_next (none c.before.before.before.before) c.write-address.ensures
+abbrev first : tie.After-write_address-a → WriteProgress
+first c = progress_next (none c.before.before.before.before) c.write_address-a.ensures
 
-abbrev second : tie.After-write-text-decimal → WriteProgress
-second c = progress_next (first c.before.before.before.before.before) c.write-text-decimal.ensures
+abbrev second : tie.After-write_text_decimal-b → WriteProgress
+second c = progress_next (first c.before.before.before.before.before.before) c.write_text_decimal-b.ensures
 
-abbrev third : tie.After-write-kind-mark → WriteProgress
-third c = progress_next (second c.before.before.before.before) c.write-kind-mark.ensures
+abbrev third : tie.After-write_kind_mark-c → WriteProgress
+third c = progress_next (second c.before.before.before.before) c.write_kind_mark-c.ensures
 
-abbrev fourth : tie.After-write-type → WriteProgress
-fourth c = progress_next (third c.before.before.before.before) c.write-type.ensures
+abbrev fourth : tie.After-write_type → WriteProgress
+fourth c = progress_next (third c.before.before.before.before) c.write_type.ensures
 
-write-address-requires : tie.Need-write-address-requires
-write-address-requires c κs = let s = c.before.before.before in (s.requires.0, next_part_fits (none s))
+write_address-a-requires : tie.Need-write_address-a-requires
+write_address-a-requires c κs = let s = c.before.before.before in (s.requires.0, next_part_fits (none s))
 
-slice-aggregate-write-text-decimal : tie.Need-slice-aggregate-write-text-decimal
-slice-aggregate-write-text-decimal c = search rules
+write_text_decimal-b-requires : tie.Need-write_text_decimal-b-requires
+write_text_decimal-b-requires c κs = next_part_fits (first c.before.before.before.before.before)
 
-write-text-decimal-requires : tie.Need-write-text-decimal-requires
-write-text-decimal-requires c κs = next_part_fits (first c.before.before.before.before)
+write_kind_mark-c-requires : tie.Need-write_kind_mark-c-requires
+write_kind_mark-c-requires c κs = next_part_fits (second c.before.before.before)
 
-write-kind-mark-requires : tie.Need-write-kind-mark-requires
-write-kind-mark-requires c κs = next_part_fits (second c.before.before.before)
-
-write-type-requires : tie.Need-write-type-requires
-write-type-requires c κs =
+write_type-requires : tie.Need-write_type-requires
+write_type-requires c κs =
     let f = c.before.before.before in
-    let p = f.before.before.before.before.before.before.before.before.before.before.before.before.before.requires in
+    let p = f.requires in
     (p.1.0, (p.1.1.0, next_part_fits (third f)))
 
-same_length : tie.Need-same-length
-same_length c = search rules
+shape_of-out : tie.Need-shape_of-out
+shape_of-out c = search rules
 
 returns : tie.Need-returns
 returns c = progress_done (fourth c.before.before) refl
 
-pub write-first-line-spec : {M : Type 1} → statement M
-write-first-line-spec =
+pub write_first_line_spec : {M : Type 1} → statement M
+write_first_line_spec =
     tie.close
     (tie.spec
-    write-address-requires
-    slice-aggregate-write-text-decimal
-    write-text-decimal-requires
-    write-kind-mark-requires
-    write-type-requires
-    same_length
+    write_address-a-requires
+    write_text_decimal-b-requires
+    write_kind_mark-c-requires
+    write_type-requires
+    shape_of-out
     returns)

@@ -12,27 +12,27 @@ use Rattle.classic_row.proofs.parts.write_second_line.Tie as tie
 abbrev bytes_after : tie.Start → List ℕ
 bytes_after s = refs_text s.args.bits (refs_of s.args.refs.now s.args.row)
 
-write-address-requires : tie.Need-write-address-requires
-write-address-requires c κs =
+write_address-next-requires : tie.Need-write_address-next-requires
+write_address-next-requires c κs =
     let s = c.before.before.before in
     (s.requires.0, capacity_first s.args.out.now s.args.at (address s.args.bits s.args.class) (bytes_after s) s.requires.1.1)
 
-write-refs-requires : tie.Need-write-refs-requires
+write_refs-requires : tie.Need-write_refs-requires
 unfolding refs_of
-write-refs-requires c κs =
+write_refs-requires c κs =
     let p = c.before.before.before in
     let s = p.before.before.before.before in
-    (s.requires.0, (s.requires.1.0, capacity_after p.write-address.ensures (bytes_after s) s.requires.1.1))
+    (s.requires.0, (s.requires.1.0, capacity_after p.write_address-next.ensures (bytes_after s) s.requires.1.1))
 
-same_length : tie.Need-same-length
-same_length c = search rules
+shape_of-out : tie.Need-shape_of-out
+shape_of-out c = search rules
 
 returns : tie.Need-returns
 unfolding refs_of
 returns c =
     let q = c.before.before in
     let p = q.before.before.before.before in
-    writes_then p.write-address.ensures {ys = bytes_after p.before.before.before.before} q.write-refs.ensures
+    writes_then p.write_address-next.ensures {ys = bytes_after p.before.before.before.before} q.write_refs.ensures
 
-pub write-second-line-spec : {M : Type 1} → statement M
-write-second-line-spec = tie.close (tie.spec write-address-requires write-refs-requires same_length returns)
+pub write_second_line_spec : {M : Type 1} → statement M
+write_second_line_spec = tie.close (tie.spec write_address-next-requires write_refs-requires shape_of-out returns)

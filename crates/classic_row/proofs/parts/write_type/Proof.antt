@@ -10,85 +10,81 @@ use Rattle.classic_row.proofs.parts.write_type.Statement.{statement}
 use Rattle.classic_row.proofs.parts.write_type.Tie as tie
 
 -- The output has capacity for the type of a primitive array: `[` (91) and the letter.
-in_bounds : (t : tie.Then1) → let s = t.before.before.before in HasCapacity s.args.out.now s.args.at ((91 ∷ []) ++ (get_or letters s.args.prim 0 ∷ []))
+in_bounds : (t : tie.Then-kind-eq4) → let s = t.before.before.before in HasCapacity s.args.out.now s.args.at ((91 ∷ []) ++ (get_or letters s.args.prim 0 ∷ []))
 unfolding label_type primitive_array_type
-in_bounds t = rw t.if1.true at t.before.before.before.requires.1.1
+in_bounds t = rw t.if-kind-eq4.true at t.requires.1.1
 
-slice-aggregate-encode-bytes : tie.Need-slice-aggregate-encode-bytes
-slice-aggregate-encode-bytes c = search rules
-
-encode-bytes-requires : tie.Need-encode-bytes-requires
-encode-bytes-requires c κs =
-    let t = c.before.before in
+encode_bytes-name-requires : tie.Need-encode_bytes-name-requires
+encode_bytes-name-requires c κs =
+    let t = c.before.before.before in
     let s = t.before.before.before in
     capacity_first s.args.out.now s.args.at (91 ∷ []) (get_or letters s.args.prim 0 ∷ []) (in_bounds t)
 
-prim-letter-requires : tie.Need-prim-letter-requires
-prim-letter-requires c κs = search rules
+prim_letter-requires : tie.Need-prim_letter-requires
+prim_letter-requires c κs = search rules
 
-encode-byte-requires : tie.Need-encode-byte-requires
-encode-byte-requires c κs =
+encode_byte-requires : tie.Need-encode_byte-requires
+encode_byte-requires c κs =
     let p = c.before.before.before.before in
-    capacity_after p.encode-bytes.ensures (c.prim-letter.result ∷ []) (in_bounds p.before.before.before)
+    capacity_after p.encode_bytes-name.ensures (c.prim_letter.result ∷ []) (in_bounds p.before.before.before.before)
 
-same_length : tie.Need-same-length
-same_length c = search rules
+shape_of-out-then-kind-eq4 : tie.Need-shape_of-out-then-kind-eq4
+shape_of-out-then-kind-eq4 c = search rules
 
-returns : tie.Need-returns
+returns-then-kind-eq4 : tie.Need-returns-then-kind-eq4
 unfolding label_type primitive_array_type
-returns c =
+returns-then-kind-eq4 c =
     let q = c.before.before in
     let l = q.before in
     let p = l.before.before.before.before in
-    rw (p.before.before.before.if1.true, ← l.prim-letter.ensures) (writes_then p.encode-bytes.ensures q.encode-byte.ensures)
+    rw (p.if-kind-eq4.true, ← l.prim_letter.ensures) (writes_then p.encode_bytes-name.ensures q.encode_byte.ensures)
 
-write-array-type-requires : tie.Need-write-array-type-requires
+write_array_type-requires : tie.Need-write_array_type-requires
 unfolding label_type
-write-array-type-requires c κs =
+write_array_type-requires c κs =
     let t = c.before in
     let s = t.before.before.before.before in
-    (s.requires.1.0, rw (ne_eqb _ _ t.before.if1.false, t.if2.true) at s.requires.1.1)
+    (s.requires.1.0, rw (ne_eqb _ _ t.if-kind-eq4.false, t.if-kind-eq3.true) at s.requires.1.1)
 
-same-length-2 : tie.Need-same-length-2
-same-length-2 c = search rules
+shape_of-out-then-kind-eq3 : tie.Need-shape_of-out-then-kind-eq3
+shape_of-out-then-kind-eq3 c = search rules
 
-returns-2 : tie.Need-returns-2
+returns-then-kind-eq3 : tie.Need-returns-then-kind-eq3
 unfolding label_type
-returns-2 c =
+returns-then-kind-eq3 c =
     let q = c.before.before in
     let t = q.before.before in
-    rw (ne_eqb _ _ t.before.if1.false, t.if2.true) q.write-array-type.ensures
+    rw (ne_eqb _ _ t.if-kind-eq4.false, t.if-kind-eq3.true) q.write_array_type.ensures
 
-encode-slice-requires : tie.Need-encode-slice-requires
+encode_slice-requires : tie.Need-encode_slice-requires
 unfolding label_type
-encode-slice-requires c κs =
+encode_slice-requires c κs =
     let t = c.before in
     let s = t.before.before.before.before in
-    (s.requires.1.0, rw (ne_eqb _ _ t.before.if1.false, ne_eqb _ _ t.if2.false) at s.requires.1.1)
+    (s.requires.1.0, rw (ne_eqb _ _ t.if-kind-eq4.false, ne_eqb _ _ t.if-kind-eq3.false) at s.requires.1.1)
 
-same-length-3 : tie.Need-same-length-3
-same-length-3 c = search rules
+shape_of-out : tie.Need-shape_of-out
+shape_of-out c = search rules
 
-returns-3 : tie.Need-returns-3
+returns : tie.Need-returns
 unfolding label_type
-returns-3 c =
+returns c =
     let q = c.before.before in
     let t = q.before.before in
-    rw (ne_eqb _ _ t.before.if1.false, ne_eqb _ _ t.if2.false) q.encode-slice.ensures
+    rw (ne_eqb _ _ t.if-kind-eq4.false, ne_eqb _ _ t.if-kind-eq3.false) q.encode_slice.ensures
 
-pub write-type-spec : {M : Type 1} → statement M
-write-type-spec =
+pub write_type_spec : {M : Type 1} → statement M
+write_type_spec =
     tie.close
     (tie.spec
-    slice-aggregate-encode-bytes
-    encode-bytes-requires
-    prim-letter-requires
-    encode-byte-requires
-    same_length
-    returns
-    write-array-type-requires
-    same-length-2
-    returns-2
-    encode-slice-requires
-    same-length-3
-    returns-3)
+    encode_bytes-name-requires
+    prim_letter-requires
+    encode_byte-requires
+    shape_of-out-then-kind-eq4
+    returns-then-kind-eq4
+    write_array_type-requires
+    shape_of-out-then-kind-eq3
+    returns-then-kind-eq3
+    encode_slice-requires
+    shape_of-out
+    returns)

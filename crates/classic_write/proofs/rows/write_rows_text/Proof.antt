@@ -14,96 +14,96 @@ use Rattle.classic_write.specs.TextInvariants.{WriteLoop, write_loop_start, writ
 use Rattle.classic_write.proofs.rows.write_rows_text.Statement.{statement}
 use Rattle.classic_write.proofs.rows.write_rows_text.Tie as tie
 
-abbrev invariant-loop : tie.invariant-loop
-invariant-loop out₀ at bits names refs rows buckets certified classes n last₀ to₀ i₀ out last to i = WriteLoop bits names refs rows at out₀ i to out × LastSearchHolds (rows_of rows) last
+abbrev invariant-loop-i : tie.invariant-loop-i
+invariant-loop-i out₀ at bits names refs rows buckets certified classes n last₀ to₀ i₀ out last to i = WriteLoop bits names refs rows at out₀ i to out × LastSearchHolds (rows_of rows) last
 
-abbrev decreases-loop : tie.decreases-loop
-decreases-loop out₀ at bits names refs rows buckets certified classes n last₀ to₀ i₀ out last to i = n - i
+abbrev decreases-loop-i : tie.decreases-loop-i
+decreases-loop-i out₀ at bits names refs rows buckets certified classes n last₀ to₀ i₀ out last to i = n - i
 
 -- The start of the function, seen from an iteration of the loop.
-abbrev start : tie.In-loop invariant-loop decreases-loop → tie.Start invariant-loop decreases-loop
+abbrev start : tie.In-loop-i invariant-loop-i decreases-loop-i → tie.Start invariant-loop-i decreases-loop-i
 start c = c.before.before.before.before.before.before.before.before
 
-inside : (c : tie.In-loop invariant-loop decreases-loop) → c.before.loop.i < row_count (start c).args.rows.now
+inside : (c : tie.In-loop-i invariant-loop-i decreases-loop-i) → c.loop-i.i < row_count (start c).args.rows.now
 unfolding row_count
 inside c = omega arith
 
 -- The row of an iteration, seen from after the search for its class.
-abbrev row : tie.Joined1 invariant-loop decreases-loop → tie.After-row-at invariant-loop decreases-loop
+abbrev row : tie.Joined-row invariant-loop-i decreases-loop-i → tie.After-row_at-row invariant-loop-i decreases-loop-i
 row c = c.before.before.before
 
 -- There the last search is that after the row.
-searched : (c : tie.Joined1 invariant-loop decreases-loop) → let w = row c in
-    c.if1.new ≡ search_after (rows_of (start w.before).args.rows.now) w.row_at.result w.before.before.loop.last
-searched c = ⊎_elim (λ w. search_after_instance _ _ _ _ w.0.taken (w.2 ∙ w.1.ensures)) (λ w. search_after_other _ _ _ _ w.0.left w.1) c.if1.branch
+searched : (c : tie.Joined-row invariant-loop-i decreases-loop-i) → let w = row c in
+    c.if-row.last ≡ search_after (rows_of (start w.before).args.rows.now) w.row_at-row.result w.loop-i.last
+searched c = ⊎_elim (λ w. search_after_instance _ _ _ _ w.if-row.true (w.last-is ∙ w.search_class-last.ensures)) (λ w. search_after_other _ _ _ _ w.if-row.false w.last-is) c.if-row.branch-raw
 
-no-search-requires : tie.Need-no-search-requires invariant-loop decreases-loop
-no-search-requires c κs = search rules
+no_search-last-requires : tie.Need-no_search-last-requires invariant-loop-i decreases-loop-i
+no_search-last-requires c κs = search rules
 
-loop-holds : tie.Need-loop-init invariant-loop decreases-loop
-loop-holds c = (write_loop_start _ _ _ _ _ _ c.before.before.before.before.before.before.requires.1.1.1.1.1.1, rw c.no_search.ensures (no_search_holds _))
+loop-i-init : tie.Need-loop-i-init invariant-loop-i decreases-loop-i
+loop-i-init c = (write_loop_start _ _ _ _ _ _ c.requires.1.1.1.1.1.1, rw c.no_search-last.ensures (no_search_holds _))
 
-row-at-requires : tie.Need-row-at-requires invariant-loop decreases-loop
-row-at-requires c κs = inside c
+row_at-row-requires : tie.Need-row_at-row-requires invariant-loop-i decreases-loop-i
+row_at-row-requires c κs = inside c
 
-search-class-requires : tie.Need-search-class-requires invariant-loop decreases-loop
-search-class-requires c κs = let d = c.before.before.before.before in ((start d).requires.1.0, d.before.loop.invariant.1)
+search_class-last-requires : tie.Need-search_class-last-requires invariant-loop-i decreases-loop-i
+search_class-last-requires c κs = let d = c.before.before.before.before in ((start d).requires.1.0, d.loop-i.invariant.1)
 
 -- The row of an iteration is in bounds.
-in_bounds : (c : tie.After-row-at invariant-loop decreases-loop) → RowNumbersInBounds (start c.before).args.names.now c.row_at.result
-in_bounds c = row_in_bounds _ _ _ (inside c.before) c.row_at.ensures _ (start c.before).pre.1.1.1.0
+in_bounds : (c : tie.After-row_at-row invariant-loop-i decreases-loop-i) → RowNumbersInBounds (start c.before).args.names.now c.row_at-row.result
+in_bounds c = row_in_bounds _ _ _ (inside c.before) c.row_at-row.ensures _ (start c.before).requires.1.1.1.0
 
-class-of-requires : tie.Need-class-of-requires invariant-loop decreases-loop
-class-of-requires c κs = (in_bounds (row c)).prim_lt
+class_of-class-requires : tie.Need-class_of-class-requires invariant-loop-i decreases-loop-i
+class_of-class-requires c κs = (in_bounds (row c)).prim_lt
 
-write-row-text-requires : tie.Need-write-row-text-requires invariant-loop decreases-loop
-write-row-text-requires c κs =
+write_row_text-to-requires : tie.Need-write_row_text-to-requires invariant-loop-i decreases-loop-i
+write_row_text-to-requires c κs =
     let k = c.before in
     let j = k.before in
     let w = row j in
     let d = w.before in
-    let p = (start d).pre in
-    let e = w.row_at.ensures in
-    let shown = k.class_of.ensures ∙ class_from_is _ _ _ _ p.1.1.0 (in_bounds w).prim_lt in
-    (p.0, (p.1.1.1.0, (in_bounds w, (row_known_kind _ _ _ (inside d) e _ p.1.1.1.0, (search_after_found _ _ _ _ (searched j), (shown, (row_has_class _ _ _ (inside d) e p.1.1.1.1.0, (row_refs_in_bounds _ _ _ (inside d) e _ p.1.1.1.1.1.0, write_loop_capacity _ _ _ _ _ _ _ _ _ _ d.before.loop.inv.0 (inside d) e))))))))
+    let p = (start d).requires in
+    let e = w.row_at-row.ensures in
+    let shown = k.class_of-class.ensures ∙ class_from_is _ _ _ _ p.1.1.0 (in_bounds w).prim_lt in
+    (p.0, (p.1.1.1.0, (in_bounds w, (row_known_kind _ _ _ (inside d) e _ p.1.1.1.0, (search_after_found _ _ _ _ (searched j), (shown, (row_has_class _ _ _ (inside d) e p.1.1.1.1.0, (row_refs_in_bounds _ _ _ (inside d) e _ p.1.1.1.1.1.0, write_loop_capacity _ _ _ _ _ _ _ _ _ _ d.loop-i.invariant.0 (inside d) e))))))))
 
-add-i : tie.Need-overflow-add-i invariant-loop decreases-loop
-add-i c = let d = (row c.before.before.before.before.before).before in omega (arith, d.loop-test.taken, (start d).good.1.1.1.1.1.0)
+overflow_add-i : tie.Need-overflow_add-i invariant-loop-i decreases-loop-i
+overflow_add-i c = let d = (row c.before.before.before.before.before).before in omega (arith, d.loop-i-test.true, (start d).well_formed.1.1.1.1.1.0)
 
-loop-less : tie.Need-loop-smaller invariant-loop decreases-loop
-loop-less c = search rules
+loop-i-smaller : tie.Need-loop-i-smaller invariant-loop-i decreases-loop-i
+loop-i-smaller c = search rules
 
-loop-again : tie.Need-loop-preserved invariant-loop decreases-loop
-loop-again c =
+loop-i-preserved : tie.Need-loop-i-preserved invariant-loop-i decreases-loop-i
+loop-i-preserved c =
     let t = c.before.before in
     let j = t.before.before.before in
     let w = row j in
     let d = w.before in (
-      write_loop_step _ _ _ _ _ _ _ _ _ _ d.before.loop.inv.0 (inside d) w.row_at.ensures _ _ t.write-row-text.ensures,
-      search_after_holds _ _ _ _ d.before.loop.inv.1 (searched j),
+      write_loop_step _ _ _ _ _ _ _ _ _ _ d.loop-i.invariant.0 (inside d) w.row_at-row.ensures _ _ t.write_row_text-to.ensures,
+      search_after_holds _ _ _ _ d.loop-i.invariant.1 (searched j),
     )
 
-same_length : tie.Need-same-length invariant-loop decreases-loop
-same_length c = c.before.loop.invariant.0.rest.long
+shape_of-out : tie.Need-shape_of-out invariant-loop-i decreases-loop-i
+shape_of-out c = c.loop-i.invariant.0.rest.long
 
-returns : tie.Need-returns invariant-loop decreases-loop
+returns : tie.Need-returns invariant-loop-i decreases-loop-i
 unfolding row_count
-returns c = write_loop_end _ _ _ _ _ _ _ _ _ c.before.loop.invariant.0 (omega arith)
+returns c = write_loop_end _ _ _ _ _ _ _ _ _ c.loop-i.invariant.0 (omega arith)
 
-pub write-rows-text-spec : {M : Type 1} → statement M
-write-rows-text-spec =
+pub write_rows_text_spec : {M : Type 1} → statement M
+write_rows_text_spec =
     tie.close
     (tie.spec
-    invariant-loop
-    decreases-loop
-    no-search-requires
-    loop-holds
-    row-at-requires
-    search-class-requires
-    class-of-requires
-    write-row-text-requires
-    add-i
-    loop-less
-    loop-again
-    same_length
+    invariant-loop-i
+    decreases-loop-i
+    no_search-last-requires
+    loop-i-init
+    row_at-row-requires
+    search_class-last-requires
+    class_of-class-requires
+    write_row_text-to-requires
+    overflow_add-i
+    loop-i-smaller
+    loop-i-preserved
+    shape_of-out
     returns)

@@ -9,7 +9,7 @@ use Rattle.classic_write.proofs.trailers.trailers_size.Statement.{statement}
 use Rattle.classic_write.proofs.trailers.trailers_size.Tie as tie
 
 -- The start of the function, seen from where all digits are counted.
-abbrev start : tie.After-digit-count7 → tie.Start
+abbrev start : tie.After-digit_count-7 → tie.Start
 start c = c.before.before.before.before.before.before.before.before
 
 -- Each number is below 2^64, so it has at most 20 digits.
@@ -26,71 +26,71 @@ most c = (
   digit_count_le_20 _ (omega arith),
 )
 
-add-refs : tie.Need-overflow-add-refs
-add-refs c = let p = c.before.requires in omega arith
+overflow_add-refs : tie.Need-overflow_add-refs
+overflow_add-refs c = let p = c.requires in omega arith
 
-digit-count-requires : tie.Need-digit-count-requires
-digit-count-requires c κs = search rules
+digit_count-requires : tie.Need-digit_count-requires
+digit_count-requires c κs = search rules
 
-digit-count-requires-2 : tie.Need-digit-count-requires-2
-digit-count-requires-2 c κs = search rules
+digit_count-requires-2 : tie.Need-digit_count-requires-2
+digit_count-requires-2 c κs = search rules
 
-add-kinds : tie.Need-overflow-add-kinds
-add-kinds c = let m = most c.before.before.before in omega arith
+overflow_add-kinds : tie.Need-overflow_add-kinds
+overflow_add-kinds c = let m = most c.before.before.before in omega arith
 
-digit-count-requires-3 : tie.Need-digit-count-requires-3
-digit-count-requires-3 c κs = search rules
+digit_count-requires-3 : tie.Need-digit_count-requires-3
+digit_count-requires-3 c κs = search rules
 
-add-kinds-2 : tie.Need-overflow-add-kinds-2
-add-kinds-2 c = let m = most c.before.before.before.before in omega arith
+overflow_add-kinds-2 : tie.Need-overflow_add-kinds-2
+overflow_add-kinds-2 c = let m = most c.before.before.before.before in omega arith
 
-digit-count-requires-4 : tie.Need-digit-count-requires-4
-digit-count-requires-4 c κs = search rules
+digit_count-requires-4 : tie.Need-digit_count-requires-4
+digit_count-requires-4 c κs = search rules
 
-add-kinds-3 : tie.Need-overflow-add-kinds-3
-add-kinds-3 c = let m = most c.before.before.before.before.before in omega arith
+overflow_add-kinds-3 : tie.Need-overflow_add-kinds-3
+overflow_add-kinds-3 c = let m = most c.before.before.before.before.before in omega arith
 
-digit-count-requires-5 : tie.Need-digit-count-requires-5
-digit-count-requires-5 c κs = search rules
+digit_count-requires-5 : tie.Need-digit_count-requires-5
+digit_count-requires-5 c κs = search rules
 
-digit-count-requires-6 : tie.Need-digit-count-requires-6
-digit-count-requires-6 c κs = search rules
+digit_count-requires-6 : tie.Need-digit_count-requires-6
+digit_count-requires-6 c κs = search rules
 
-add-all : tie.Need-overflow-add-all
-add-all c = let m = most c.before.before.before.before.before.before.before in omega arith
+overflow_add-all : tie.Need-overflow_add-all
+overflow_add-all c = let m = most c.before.before.before.before.before.before.before in omega arith
 
-digit-count-requires-7 : tie.Need-digit-count-requires-7
-digit-count-requires-7 c κs = search rules
+digit_count-requires-7 : tie.Need-digit_count-requires-7
+digit_count-requires-7 c κs = search rules
 
-add-all-2 : tie.Need-overflow-add-all-2
-add-all-2 c = let m = most (start c) in omega arith
+overflow_add-all-2 : tie.Need-overflow_add-all-2
+overflow_add-all-2 c = let m = most (start c) in omega arith
 
-add-result : tie.Need-overflow-add-result
-add-result c = let m = most (start c) in omega arith
+overflow_add-result : tie.Need-overflow_add-result
+overflow_add-result c = let m = most (start c) in omega arith
 
-add-result-2 : tie.Need-overflow-add-result-2
-add-result-2 c = let m = most (start c) in omega arith
+overflow_add-result-2 : tie.Need-overflow_add-result-2
+overflow_add-result-2 c = let m = most (start c) in omega arith
 
 returns : tie.Need-returns
 returns c = let l = length_trailers (start c).args.t in omega arith
 
-pub trailers-size-spec : {M : Type 1} → statement M
-trailers-size-spec =
+pub trailers_size_spec : {M : Type 1} → statement M
+trailers_size_spec =
     tie.close
     (tie.spec
-    add-refs
-    digit-count-requires
-    digit-count-requires-2
-    add-kinds
-    digit-count-requires-3
-    add-kinds-2
-    digit-count-requires-4
-    add-kinds-3
-    digit-count-requires-5
-    digit-count-requires-6
-    add-all
-    digit-count-requires-7
-    add-all-2
-    add-result
-    add-result-2
+    overflow_add-refs
+    digit_count-requires
+    digit_count-requires-2
+    overflow_add-kinds
+    digit_count-requires-3
+    overflow_add-kinds-2
+    digit_count-requires-4
+    overflow_add-kinds-3
+    digit_count-requires-5
+    digit_count-requires-6
+    overflow_add-all
+    digit_count-requires-7
+    overflow_add-all-2
+    overflow_add-result
+    overflow_add-result-2
     returns)

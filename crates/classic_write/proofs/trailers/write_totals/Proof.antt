@@ -23,63 +23,47 @@ in_parts t = refl
 abbrev none : tie.Start → WriteProgress
 none c = progress_start c.args.out.now c.args.at (parts c.args.t) (in_parts c.args.t) c.requires.1
 
-abbrev first : tie.After-write-text-decimal → WriteProgress
-first c = progress_next (none c.before.before.before.before.before) c.write-text-decimal.ensures
+abbrev first : tie.After-write_text_decimal-a → WriteProgress
+first c = progress_next (none c.before.before.before.before.before.before) c.write_text_decimal-a.ensures
 
-abbrev second : tie.After-write-text-decimal2 → WriteProgress
-second c = progress_next (first c.before.before.before.before.before) c.write-text-decimal2.ensures
+abbrev second : tie.After-write_text_decimal-b → WriteProgress
+second c = progress_next (first c.before.before.before.before.before.before) c.write_text_decimal-b.ensures
 
-abbrev third : tie.After-write-text-decimal3 → WriteProgress
-third c = progress_next (second c.before.before.before.before.before) c.write-text-decimal3.ensures
+abbrev third : tie.After-write_text_decimal-c → WriteProgress
+third c = progress_next (second c.before.before.before.before.before.before) c.write_text_decimal-c.ensures
 
-abbrev fourth : tie.After-encode-bytes → WriteProgress
-fourth c = progress_next (third c.before.before.before.before.before) c.encode-bytes.ensures
+abbrev fourth : tie.After-encode_bytes → WriteProgress
+fourth c = progress_next (third c.before.before.before.before.before.before) c.encode_bytes.ensures
 
-add-refs : tie.Need-overflow-add-refs
-add-refs c = let p = c.before.before.requires in omega arith
+overflow_add-refs : tie.Need-overflow_add-refs
+overflow_add-refs c = let p = c.requires in omega arith
 
-slice-aggregate-write-text-decimal : tie.Need-slice-aggregate-write-text-decimal
-slice-aggregate-write-text-decimal c = search rules
+write_text_decimal-a-requires : tie.Need-write_text_decimal-a-requires
+write_text_decimal-a-requires c κs = next_part_fits (none c.before.before.before.before.before)
 
-write-text-decimal-requires : tie.Need-write-text-decimal-requires
-write-text-decimal-requires c κs = next_part_fits (none c.before.before.before.before)
+write_text_decimal-b-requires : tie.Need-write_text_decimal-b-requires
+write_text_decimal-b-requires c κs = next_part_fits (first c.before.before.before.before.before)
 
-slice-aggregate-write-text-decimal-2 : tie.Need-slice-aggregate-write-text-decimal-2
-slice-aggregate-write-text-decimal-2 c = search rules
+write_text_decimal-c-requires : tie.Need-write_text_decimal-c-requires
+write_text_decimal-c-requires c κs = next_part_fits (second c.before.before.before.before.before)
 
-write-text-decimal-requires-2 : tie.Need-write-text-decimal-requires-2
-write-text-decimal-requires-2 c κs = next_part_fits (first c.before.before.before.before)
+encode_bytes-requires : tie.Need-encode_bytes-requires
+encode_bytes-requires c κs = next_part_fits (third c.before.before.before.before.before)
 
-slice-aggregate-write-text-decimal-3 : tie.Need-slice-aggregate-write-text-decimal-3
-slice-aggregate-write-text-decimal-3 c = search rules
-
-write-text-decimal-requires-3 : tie.Need-write-text-decimal-requires-3
-write-text-decimal-requires-3 c κs = next_part_fits (second c.before.before.before.before)
-
-slice-aggregate-encode-bytes : tie.Need-slice-aggregate-encode-bytes
-slice-aggregate-encode-bytes c = search rules
-
-encode-bytes-requires : tie.Need-encode-bytes-requires
-encode-bytes-requires c κs = next_part_fits (third c.before.before.before.before)
-
-same_length : tie.Need-same-length
-same_length c = search rules
+shape_of-out : tie.Need-shape_of-out
+shape_of-out c = search rules
 
 returns : tie.Need-returns
 returns c = progress_done (fourth c.before.before) refl
 
-pub write-totals-spec : {M : Type 1} → statement M
-write-totals-spec =
+pub write_totals_spec : {M : Type 1} → statement M
+write_totals_spec =
     tie.close
     (tie.spec
-    add-refs
-    slice-aggregate-write-text-decimal
-    write-text-decimal-requires
-    slice-aggregate-write-text-decimal-2
-    write-text-decimal-requires-2
-    slice-aggregate-write-text-decimal-3
-    write-text-decimal-requires-3
-    slice-aggregate-encode-bytes
-    encode-bytes-requires
-    same_length
+    overflow_add-refs
+    write_text_decimal-a-requires
+    write_text_decimal-b-requires
+    write_text_decimal-c-requires
+    encode_bytes-requires
+    shape_of-out
     returns)

@@ -22,45 +22,45 @@ in_parts t = refl
 abbrev none : tie.Start → WriteProgress
 none c = progress_start c.args.out.now c.args.at (parts c.args.t) (in_parts c.args.t) c.requires.1
 
-abbrev first : tie.After-write-breakdown → WriteProgress
-first c = progress_next (none c.before.before.before) c.write-breakdown.ensures
+abbrev first : tie.After-write_breakdown-a → WriteProgress
+first c = progress_next (none c.before.before.before) c.write_breakdown-a.ensures
 
-abbrev second : tie.After-encode-byte → WriteProgress
-second c = progress_next (first c.before.before.before.before) c.encode-byte.ensures
+abbrev second : tie.After-encode_byte-b → WriteProgress
+second c = progress_next (first c.before.before.before.before) c.encode_byte-b.ensures
 
-abbrev third : tie.After-write-totals → WriteProgress
-third c = progress_next (second c.before.before.before.before) c.write-totals.ensures
+abbrev third : tie.After-write_totals-c → WriteProgress
+third c = progress_next (second c.before.before.before.before) c.write_totals-c.ensures
 
-abbrev fourth : tie.After-encode-byte2 → WriteProgress
-fourth c = progress_next (third c.before.before.before.before) c.encode-byte2.ensures
+abbrev fourth : tie.After-encode_byte → WriteProgress
+fourth c = progress_next (third c.before.before.before.before) c.encode_byte.ensures
 
-write-breakdown-requires : tie.Need-write-breakdown-requires
-write-breakdown-requires c κs = next_part_fits (none c.before.before)
+write_breakdown-a-requires : tie.Need-write_breakdown-a-requires
+write_breakdown-a-requires c κs = next_part_fits (none c.before.before)
 
-encode-byte-requires : tie.Need-encode-byte-requires
-encode-byte-requires c κs = next_part_fits (first c.before.before.before)
+encode_byte-b-requires : tie.Need-encode_byte-b-requires
+encode_byte-b-requires c κs = next_part_fits (first c.before.before.before)
 
-write-totals-requires : tie.Need-write-totals-requires
-write-totals-requires c κs =
+write_totals-c-requires : tie.Need-write_totals-c-requires
+write_totals-c-requires c κs =
     let d = c.before.before.before in
-    (d.before.before.before.before.before.before.before.requires.0, next_part_fits (second d))
+    (d.requires.0, next_part_fits (second d))
 
-encode-byte-requires-2 : tie.Need-encode-byte-requires-2
-encode-byte-requires-2 c κs = next_part_fits (third c.before.before.before)
+encode_byte-requires : tie.Need-encode_byte-requires
+encode_byte-requires c κs = next_part_fits (third c.before.before.before)
 
-same_length : tie.Need-same-length
-same_length c = search rules
+shape_of-out : tie.Need-shape_of-out
+shape_of-out c = search rules
 
 returns : tie.Need-returns
 returns c = progress_done (fourth c.before.before) refl
 
-pub write-trailers-spec : {M : Type 1} → statement M
-write-trailers-spec =
+pub write_trailers_spec : {M : Type 1} → statement M
+write_trailers_spec =
     tie.close
     (tie.spec
-    write-breakdown-requires
-    encode-byte-requires
-    write-totals-requires
-    encode-byte-requires-2
-    same_length
+    write_breakdown-a-requires
+    encode_byte-b-requires
+    write_totals-c-requires
+    encode_byte-requires
+    shape_of-out
     returns)

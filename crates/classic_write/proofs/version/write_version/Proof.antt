@@ -11,56 +11,52 @@ use Rattle.classic_write.proofs.version.write_version.Tie as tie
 abbrev none : tie.Start → WriteProgress
 none c = let a = c.args in progress_start a.out.now 0 (parts a.names.now a.vm) (version_in_parts a.names.now a.vm) c.requires.1
 
-abbrev label : tie.After-encode-bytes → WriteProgress
-label c = progress_next (none c.before.before.before.before.before) c.encode-bytes.ensures
+abbrev label : tie.After-encode_bytes-at → WriteProgress
+label c = progress_next (none c.before.before.before.before.before.before) c.encode_bytes-at.ensures
 
-abbrev string : tie.After-encode-slice → WriteProgress
-string c = let d = c.before.before in progress_next_eq (label d.before.before.before) c.encode-slice.ensures (rw d.if1.true)
+abbrev string : tie.After-encode_slice-end → WriteProgress
+string c = let d = c.before.before in progress_next_eq (label d.before.before.before) c.encode_slice-end.ensures (rw d.if-vm.true)
 
-abbrev no_string : tie.Else1 → WriteProgress
-no_string c = progress_next_eq (label c.before.before.before) (writes_none _ _) (rw c.if1.false)
+abbrev no_string : tie.Else-vm → WriteProgress
+no_string c = progress_next_eq (label c.before.before.before) (writes_none _ _) (rw c.if-vm.false)
 
-slice-aggregate-encode-bytes : tie.Need-slice-aggregate-encode-bytes
-slice-aggregate-encode-bytes c = search rules
+encode_bytes-at-requires : tie.Need-encode_bytes-at-requires
+encode_bytes-at-requires c κs = next_part_fits (none c.before.before.before.before.before)
 
-encode-bytes-requires : tie.Need-encode-bytes-requires
-encode-bytes-requires c κs = next_part_fits (none c.before.before.before.before)
-
-encode-slice-requires : tie.Need-encode-slice-requires
-encode-slice-requires c κs =
+encode_slice-end-requires : tie.Need-encode_slice-end-requires
+encode_slice-end-requires c κs =
     let d = c.before in
     let w = d.before.before.before in
-    let e = d.if1.true in
-    (w.before.before.before.before.before.requires.0.inside e, rw e at (next_part_fits (label w)))
+    let e = d.if-vm.true in
+    (w.requires.0.inside e, rw e at (next_part_fits (label w)))
 
-encode-byte-requires : tie.Need-encode-byte-requires
-encode-byte-requires c κs = next_part_fits (string c.before.before.before)
+encode_byte-requires : tie.Need-encode_byte-requires
+encode_byte-requires c κs = next_part_fits (string c.before.before.before)
 
-same_length : tie.Need-same-length
-same_length c = search rules
+shape_of-out-then-vm : tie.Need-shape_of-out-then-vm
+shape_of-out-then-vm c = search rules
+
+returns-then-vm : tie.Need-returns-then-vm
+returns-then-vm c = progress_done (progress_next (string c.before.before.before.before.before.before) c.encode_byte.ensures) refl
+
+encode_byte-requires-2 : tie.Need-encode_byte-requires-2
+encode_byte-requires-2 c κs = next_part_fits (no_string c.before)
+
+shape_of-out : tie.Need-shape_of-out
+shape_of-out c = search rules
 
 returns : tie.Need-returns
-returns c = progress_done (progress_next (string c.before.before.before.before.before.before) c.before.before.encode-byte.ensures) refl
+returns c = progress_done (progress_next (no_string c.before.before.before.before) c.encode_byte-2.ensures) refl
 
-encode-byte-requires-2 : tie.Need-encode-byte-requires-2
-encode-byte-requires-2 c κs = next_part_fits (no_string c.before)
-
-same-length-2 : tie.Need-same-length-2
-same-length-2 c = search rules
-
-returns-2 : tie.Need-returns-2
-returns-2 c = progress_done (progress_next (no_string c.before.before.before.before) c.before.before.encode-byte2.ensures) refl
-
-pub write-version-spec : {M : Type 1} → statement M
-write-version-spec =
+pub write_version_spec : {M : Type 1} → statement M
+write_version_spec =
     tie.close
     (tie.spec
-    slice-aggregate-encode-bytes
-    encode-bytes-requires
-    encode-slice-requires
-    encode-byte-requires
-    same_length
-    returns
-    encode-byte-requires-2
-    same-length-2
-    returns-2)
+    encode_bytes-at-requires
+    encode_slice-end-requires
+    encode_byte-requires
+    shape_of-out-then-vm
+    returns-then-vm
+    encode_byte-requires-2
+    shape_of-out
+    returns)

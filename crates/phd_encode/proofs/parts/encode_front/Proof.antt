@@ -20,37 +20,37 @@ unfolding encode_front
 in_parts before sh r g e = rw e
 
 -- The progress before the first field and after each.
-abbrev none : tie.After-raw-gap → WriteProgress
+abbrev none : tie.After-raw_gap → WriteProgress
 none c =
     let s = c.before.before.before in
     let a = s.args in
-    progress_start a.out.now a.at (parts c.raw-gap.result a.sh a.row) (in_parts a.before a.sh a.row _ c.raw-gap.ensures) s.requires
+    progress_start a.out.now a.at (parts c.raw_gap.result a.sh a.row) (in_parts a.before a.sh a.row _ c.raw_gap.ensures) s.requires
 
-abbrev gapped : tie.After-encode-be → WriteProgress
-gapped c = progress_next (none c.before) c.encode-be.ensures
+abbrev gapped : tie.After-encode_be-class → WriteProgress
+gapped c = progress_next (none c.before) c.encode_be-class.ensures
 
-abbrev class : tie.After-encode-be2 → WriteProgress
-class c = progress_next (gapped c.before.before.before.before) c.encode-be2.ensures
+abbrev class : tie.After-encode_be-len → WriteProgress
+class c = progress_next (gapped c.before.before.before.before) c.encode_be-len.ensures
 
-raw-gap-requires : tie.Need-raw-gap-requires
-raw-gap-requires c κs = search rules
+raw_gap-requires : tie.Need-raw_gap-requires
+raw_gap-requires c κs = search rules
 
-encode-be-requires : tie.Need-encode-be-requires
-encode-be-requires c κs = next_part_fits (none c)
+encode_be-class-requires : tie.Need-encode_be-class-requires
+encode_be-class-requires c κs = next_part_fits (none c)
 
-encode-be-requires-2 : tie.Need-encode-be-requires-2
-encode-be-requires-2 c κs = next_part_fits (gapped c.before.before.before)
+encode_be-len-requires : tie.Need-encode_be-len-requires
+encode_be-len-requires c κs = next_part_fits (gapped c.before.before.before)
 
-encode-be-requires-3 : tie.Need-encode-be-requires-3
-encode-be-requires-3 c κs = next_part_fits (class c.before.before.before)
+encode_be-requires : tie.Need-encode_be-requires
+encode_be-requires c κs = next_part_fits (class c.before.before.before)
 
-same_length : tie.Need-same-length
-same_length c = search rules
+shape_of-out : tie.Need-shape_of-out
+shape_of-out c = search rules
 
 returns : tie.Need-returns
-returns c = let p = c.before.before in progress_done (progress_next (class p.before.before.before.before) p.encode-be3.ensures) refl
+returns c = let p = c.before.before in progress_done (progress_next (class p.before.before.before.before) p.encode_be.ensures) refl
 
-pub encode-front-spec : {M : Type 1} → statement M
-encode-front-spec =
+pub encode_front_spec : {M : Type 1} → statement M
+encode_front_spec =
     tie.close
-    (tie.spec raw-gap-requires encode-be-requires encode-be-requires-2 encode-be-requires-3 same_length returns)
+    (tie.spec raw_gap-requires encode_be-class-requires encode_be-len-requires encode_be-requires shape_of-out returns)

@@ -21,37 +21,37 @@ unfolding encode_middle
 in_parts sh r b e = rw e
 
 -- The progress before the first field and after each.
-abbrev none : tie.After-hash-bytes-of → WriteProgress
+abbrev none : tie.After-hash_bytes_of-bytes → WriteProgress
 none c =
     let s = c.before.before in
     let a = s.args in
-    progress_start a.out.now a.at (parts a.sh a.row c.hash-bytes-of.result) (in_parts a.sh a.row _ c.hash-bytes-of.ensures) s.requires
+    progress_start a.out.now a.at (parts a.sh a.row c.hash_bytes_of-bytes.result) (in_parts a.sh a.row _ c.hash_bytes_of-bytes.ensures) s.requires
 
-abbrev inst : tie.After-encode-be → WriteProgress
-inst c = progress_next (none c.before.before) c.encode-be.ensures
+abbrev inst : tie.After-encode_be-hash → WriteProgress
+inst c = progress_next (none c.before.before) c.encode_be-hash.ensures
 
-abbrev hash : tie.After-encode-be2 → WriteProgress
-hash c = progress_next (inst c.before.before.before.before) c.encode-be2.ensures
+abbrev hash : tie.After-encode_be-superclass → WriteProgress
+hash c = progress_next (inst c.before.before.before.before) c.encode_be-superclass.ensures
 
-hash-bytes-of-requires : tie.Need-hash-bytes-of-requires
-hash-bytes-of-requires c κs = search rules
+hash_bytes_of-bytes-requires : tie.Need-hash_bytes_of-bytes-requires
+hash_bytes_of-bytes-requires c κs = search rules
 
-encode-be-requires : tie.Need-encode-be-requires
-encode-be-requires c κs = next_part_fits (none c.before)
+encode_be-hash-requires : tie.Need-encode_be-hash-requires
+encode_be-hash-requires c κs = next_part_fits (none c.before)
 
-encode-be-requires-2 : tie.Need-encode-be-requires-2
-encode-be-requires-2 c κs = next_part_fits (inst c.before.before.before)
+encode_be-superclass-requires : tie.Need-encode_be-superclass-requires
+encode_be-superclass-requires c κs = next_part_fits (inst c.before.before.before)
 
-encode-be-requires-3 : tie.Need-encode-be-requires-3
-encode-be-requires-3 c κs = next_part_fits (hash c.before.before.before)
+encode_be-requires : tie.Need-encode_be-requires
+encode_be-requires c κs = next_part_fits (hash c.before.before.before)
 
-same_length : tie.Need-same-length
-same_length c = search rules
+shape_of-out : tie.Need-shape_of-out
+shape_of-out c = search rules
 
 returns : tie.Need-returns
-returns c = let p = c.before.before in progress_done (progress_next (hash p.before.before.before.before) p.encode-be3.ensures) refl
+returns c = let p = c.before.before in progress_done (progress_next (hash p.before.before.before.before) p.encode_be.ensures) refl
 
-pub encode-middle-spec : {M : Type 1} → statement M
-encode-middle-spec =
+pub encode_middle_spec : {M : Type 1} → statement M
+encode_middle_spec =
     tie.close
-    (tie.spec hash-bytes-of-requires encode-be-requires encode-be-requires-2 encode-be-requires-3 same_length returns)
+    (tie.spec hash_bytes_of-bytes-requires encode_be-hash-requires encode_be-superclass-requires encode_be-requires shape_of-out returns)

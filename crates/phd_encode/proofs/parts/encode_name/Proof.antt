@@ -25,24 +25,24 @@ none c =
     let name = name_of a.names.now a.row in
     progress_start a.out.now a.at (parts a.sh a.row name) (in_parts a.sh a.row name) c.requires.1
 
-abbrev len : tie.After-encode-be → WriteProgress
-len c = progress_next (none c.before.before.before.before) c.encode-be.ensures
+abbrev len : tie.After-encode_be-name → WriteProgress
+len c = progress_next (none c.before.before.before.before) c.encode_be-name.ensures
 
-encode-be-requires : tie.Need-encode-be-requires
-encode-be-requires c κs = next_part_fits (none c.before.before.before)
+encode_be-name-requires : tie.Need-encode_be-name-requires
+encode_be-name-requires c κs = next_part_fits (none c.before.before.before)
 
-encode-slice-requires : tie.Need-encode-slice-requires
+encode_slice-requires : tie.Need-encode_slice-requires
 unfolding name_of
-encode-slice-requires c κs =
+encode_slice-requires c κs =
     let p = c.before.before.before in
-    (p.before.before.before.before.requires.0, next_part_fits (len p))
+    (p.requires.0, next_part_fits (len p))
 
-same_length : tie.Need-same-length
-same_length c = search rules
+shape_of-out : tie.Need-shape_of-out
+shape_of-out c = search rules
 
 returns : tie.Need-returns
 unfolding name_of
-returns c = let q = c.before.before in progress_done (progress_next (len q.before.before.before.before) q.encode-slice.ensures) refl
+returns c = let q = c.before.before in progress_done (progress_next (len q.before.before.before.before) q.encode_slice.ensures) refl
 
-pub encode-name-spec : {M : Type 1} → statement M
-encode-name-spec = tie.close (tie.spec encode-be-requires encode-slice-requires same_length returns)
+pub encode_name_spec : {M : Type 1} → statement M
+encode_name_spec = tie.close (tie.spec encode_be-name-requires encode_slice-requires shape_of-out returns)

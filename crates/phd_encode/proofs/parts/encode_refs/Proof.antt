@@ -25,24 +25,24 @@ none c =
     let refs = refs_of a.refs.now a.row in
     progress_start a.out.now a.at (parts a.sh a.row refs) (in_parts a.sh a.row refs) c.requires.1
 
-abbrev count : tie.After-encode-be → WriteProgress
-count c = progress_next (none c.before.before.before.before) c.encode-be.ensures
+abbrev count : tie.After-encode_be-list → WriteProgress
+count c = progress_next (none c.before.before.before.before) c.encode_be-list.ensures
 
-encode-be-requires : tie.Need-encode-be-requires
-encode-be-requires c κs = next_part_fits (none c.before.before.before)
+encode_be-list-requires : tie.Need-encode_be-list-requires
+encode_be-list-requires c κs = next_part_fits (none c.before.before.before)
 
-encode-ref-list-requires : tie.Need-encode-ref-list-requires
+encode_ref_list-requires : tie.Need-encode_ref_list-requires
 unfolding refs_of
-encode-ref-list-requires c κs =
+encode_ref_list-requires c κs =
     let p = c.before.before.before in
-    (p.before.before.before.before.requires.0, next_part_fits (count p))
+    (p.requires.0, next_part_fits (count p))
 
-same_length : tie.Need-same-length
-same_length c = search rules
+shape_of-out : tie.Need-shape_of-out
+shape_of-out c = search rules
 
 returns : tie.Need-returns
 unfolding refs_of
 returns c = let q = c.before.before in progress_done (progress_next (count q.before.before.before.before) q.encode_ref_list.ensures) refl
 
-pub encode-refs-spec : {M : Type 1} → statement M
-encode-refs-spec = tie.close (tie.spec encode-be-requires encode-ref-list-requires same_length returns)
+pub encode_refs_spec : {M : Type 1} → statement M
+encode_refs_spec = tie.close (tie.spec encode_be-list-requires encode_ref_list-requires shape_of-out returns)

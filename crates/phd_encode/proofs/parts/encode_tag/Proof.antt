@@ -25,34 +25,34 @@ in_parts p = rw append-nil
 abbrev none : tie.Start → WriteProgress
 none c = progress_start c.args.out.now c.args.at (parts c.args.p) (in_parts c.args.p) c.requires
 
-abbrev tag : tie.After-encode-be → WriteProgress
-tag c = progress_next (none c.before.before.before) c.encode-be.ensures
+abbrev tag : tie.After-encode_be-next → WriteProgress
+tag c = progress_next (none c.before.before.before) c.encode_be-next.ensures
 
-encode-be-requires : tie.Need-encode-be-requires
-encode-be-requires c κs = next_part_fits (none c.before.before)
+encode_be-next-requires : tie.Need-encode_be-next-requires
+encode_be-next-requires c κs = next_part_fits (none c.before.before)
 
-encode-be-requires-2 : tie.Need-encode-be-requires-2
-encode-be-requires-2 c κs = rw (lt-ltb _ _ c.before.if1.true) at (next_part_fits (tag c.before.before.before.before.before))
+encode_be-requires : tie.Need-encode_be-requires
+encode_be-requires c κs = rw (lt-ltb _ _ c.if-p-lt32.true) at (next_part_fits (tag c.before.before.before.before.before))
 
-same_length : tie.Need-same-length
-same_length c = search rules
+shape_of-out-then-p-lt32 : tie.Need-shape_of-out-then-p-lt32
+shape_of-out-then-p-lt32 c = search rules
 
-returns : tie.Need-returns
-returns c =
+returns-then-p-lt32 : tie.Need-returns-then-p-lt32
+returns-then-p-lt32 c =
     let q = c.before.before in
     let t = q.before.before in
-    progress_done (progress_next_eq (tag t.before.before.before.before) q.encode-be2.ensures (rw (lt-ltb _ _ t.if1.true))) refl
+    progress_done (progress_next_eq (tag t.before.before.before.before) q.encode_be.ensures (rw (lt-ltb _ _ t.if-p-lt32.true))) refl
 
-same-length-2 : tie.Need-same-length-2
-same-length-2 c = search rules
+shape_of-out : tie.Need-shape_of-out
+shape_of-out c = search rules
 
-returns-2 : tie.Need-returns-2
+returns : tie.Need-returns
 unfolding be
-returns-2 c =
+returns c =
     let p = c.before.before.before.before in
-    let a = p.before.before.before.args in
+    let a = p.args in
     progress_done (progress_next_eq (tag p) (writes_none _ _) (rw (le-ltb a.p.tag 0x20 (omega arith)))) refl
 
-pub encode-tag-spec : {M : Type 1} → statement M
-encode-tag-spec =
-    tie.close (tie.spec encode-be-requires encode-be-requires-2 same_length returns same-length-2 returns-2)
+pub encode_tag_spec : {M : Type 1} → statement M
+encode_tag_spec =
+    tie.close (tie.spec encode_be-next-requires encode_be-requires shape_of-out-then-p-lt32 returns-then-p-lt32 shape_of-out returns)

@@ -21,20 +21,20 @@ in_parts sh r = rw append-nil
 abbrev none : tie.Start → WriteProgress
 none c = let a = c.args in progress_start a.out.now a.at (parts a.sh a.row) (in_parts a.sh a.row) c.requires
 
-abbrev size : tie.After-encode-be → WriteProgress
-size c = progress_next (none c.before.before.before) c.encode-be.ensures
+abbrev size : tie.After-encode_be-truelen → WriteProgress
+size c = progress_next (none c.before.before.before) c.encode_be-truelen.ensures
 
-encode-be-requires : tie.Need-encode-be-requires
-encode-be-requires c κs = next_part_fits (none c.before.before)
+encode_be-truelen-requires : tie.Need-encode_be-truelen-requires
+encode_be-truelen-requires c κs = next_part_fits (none c.before.before)
 
-encode-be-requires-2 : tie.Need-encode-be-requires-2
-encode-be-requires-2 c κs = next_part_fits (size c.before.before.before)
+encode_be-requires : tie.Need-encode_be-requires
+encode_be-requires c κs = next_part_fits (size c.before.before.before)
 
-same_length : tie.Need-same-length
-same_length c = search rules
+shape_of-out : tie.Need-shape_of-out
+shape_of-out c = search rules
 
 returns : tie.Need-returns
-returns c = let p = c.before.before in progress_done (progress_next (size p.before.before.before.before) p.encode-be2.ensures) refl
+returns c = let p = c.before.before in progress_done (progress_next (size p.before.before.before.before) p.encode_be.ensures) refl
 
-pub encode-tail-spec : {M : Type 1} → statement M
-encode-tail-spec = tie.close (tie.spec encode-be-requires encode-be-requires-2 same_length returns)
+pub encode_tail_spec : {M : Type 1} → statement M
+encode_tail_spec = tie.close (tie.spec encode_be-truelen-requires encode_be-requires shape_of-out returns)

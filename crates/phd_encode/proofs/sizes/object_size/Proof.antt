@@ -9,69 +9,69 @@ use Rattle.phd_encode.proofs.sizes.object_size.Statement.{statement}
 use Rattle.phd_encode.proofs.sizes.object_size.Tie as tie
 
 -- The form is not the long one.
-not-long : (c : tie.Else1) → let a = c.before.before.before.args in needs_flag_byte a.row.hashkind || leb 2 a.gap || ltb 7 a.row.count ≡ false
-not-long c = rw c.before.before.needs_flag_byte.ensures at c.if1.false
+not-long : (c : tie.Else-needs_flag_byte-gap) → let a = c.args in needs_flag_byte a.row.hashkind || leb 2 a.gap || ltb 7 a.row.count ≡ false
+not-long c = rw c.needs_flag_byte.ensures at c.if-needs_flag_byte-gap.false
 
-needs-flag-byte-requires : tie.Need-needs-flag-byte-requires
-needs-flag-byte-requires c κs = search rules
+needs_flag_byte-requires : tie.Need-needs_flag_byte-requires
+needs_flag_byte-requires c κs = search rules
 
-add-make-size : tie.Need-overflow-add-make-size
-add-make-size c = search rules
+overflow_add-w : tie.Need-overflow_add-w
+overflow_add-w c = search rules
 
-add-make-size-2 : tie.Need-overflow-add-make-size-2
-add-make-size-2 c = search rules
+overflow_add-w-then-needs_flag_byte-gap : tie.Need-overflow_add-w-then-needs_flag_byte-gap
+overflow_add-w-then-needs_flag_byte-gap c = search rules
 
-make-size-requires : tie.Need-make-size-requires
-make-size-requires c κs = search rules
+make_size-requires : tie.Need-make_size-requires
+make_size-requires c κs = search rules
+
+returns-then-needs_flag_byte-gap : tie.Need-returns-then-needs_flag_byte-gap
+unfolding object_size
+returns-then-needs_flag_byte-gap c = let t = rw c.needs_flag_byte.ensures at c.if-needs_flag_byte-gap.true in rw t (encoded_size_ext _ _ _ c.make_size.ensures)
+
+find_slot-requires : tie.Need-find_slot-requires
+find_slot-requires c κs = search rules
+
+overflow_add-payload : tie.Need-overflow_add-payload
+overflow_add-payload c = search rules
+
+make_size-requires-then-row-find_slot : tie.Need-make_size-requires-then-row-find_slot
+make_size-requires-then-row-find_slot c κs = search rules
+
+returns-then-row-find_slot : tie.Need-returns-then-row-find_slot
+unfolding object_size
+returns-then-row-find_slot c =
+    let t = rw c.find_slot.ensures at c.if-row-find_slot.true in
+    rw (not-long c.before.before.before.before, t) (encoded_size_ext _ _ _ c.make_size-then-row-find_slot.ensures)
+
+overflow_add-w-2 : tie.Need-overflow_add-w-2
+overflow_add-w-2 c = search rules
+
+overflow_add-w-3 : tie.Need-overflow_add-w-3
+overflow_add-w-3 c = search rules
+
+make_size-requires-2 : tie.Need-make_size-requires-2
+make_size-requires-2 c κs = search rules
 
 returns : tie.Need-returns
 unfolding object_size
-returns c = let t = rw c.before.before.before.needs_flag_byte.ensures at c.before.if1.true in rw t (encoded_size_ext _ _ _ c.make_size.ensures)
+returns c =
+    let t = rw c.find_slot.ensures at c.if-row-find_slot.false in
+    rw (not-long c.before.before.before.before, t) (encoded_size_ext _ _ _ c.make_size-2.ensures)
 
-find-slot-requires : tie.Need-find-slot-requires
-find-slot-requires c κs = search rules
-
-add-make-size-3 : tie.Need-overflow-add-make-size-3
-add-make-size-3 c = search rules
-
-make-size-requires-2 : tie.Need-make-size-requires-2
-make-size-requires-2 c κs = search rules
-
-returns-2 : tie.Need-returns-2
-unfolding object_size
-returns-2 c =
-    let t = rw c.before.before.find_slot.ensures at c.before.if2.true in
-    rw (not-long c.before.before.before.before, t) (encoded_size_ext _ _ _ c.make-size2.ensures)
-
-add-make-size-4 : tie.Need-overflow-add-make-size-4
-add-make-size-4 c = search rules
-
-add-make-size-5 : tie.Need-overflow-add-make-size-5
-add-make-size-5 c = search rules
-
-make-size-requires-3 : tie.Need-make-size-requires-3
-make-size-requires-3 c κs = search rules
-
-returns-3 : tie.Need-returns-3
-unfolding object_size
-returns-3 c =
-    let t = rw c.before.before.find_slot.ensures at c.before.if2.false in
-    rw (not-long c.before.before.before.before, t) (encoded_size_ext _ _ _ c.make-size3.ensures)
-
-pub object-size-spec : {M : Type 1} → statement M
-object-size-spec =
+pub object_size_spec : {M : Type 1} → statement M
+object_size_spec =
     tie.close
     (tie.spec
-    needs-flag-byte-requires
-    add-make-size
-    add-make-size-2
-    make-size-requires
-    returns
-    find-slot-requires
-    add-make-size-3
-    make-size-requires-2
-    returns-2
-    add-make-size-4
-    add-make-size-5
-    make-size-requires-3
-    returns-3)
+    needs_flag_byte-requires
+    overflow_add-w
+    overflow_add-w-then-needs_flag_byte-gap
+    make_size-requires
+    returns-then-needs_flag_byte-gap
+    find_slot-requires
+    overflow_add-payload
+    make_size-requires-then-row-find_slot
+    returns-then-row-find_slot
+    overflow_add-w-2
+    overflow_add-w-3
+    make_size-requires-2
+    returns)

@@ -13,96 +13,96 @@ use Rattle.phd_encode.proofs.sizes.primitive_size.Statement.{statement}
 use Rattle.phd_encode.proofs.sizes.primitive_size.Tie as tie
 
 -- The width code of the gap and the length.
-pair_is : (c : tie.After-max) → let a = c.before.before.args in c.max.result ≡ max a.gap (width_code (pos a.row.len))
-pair_is c = rw c.before.number-code.ensures at c.max.ensures
+pair_is : (c : tie.After-max-paircode) → let a = c.args in c.max-paircode.result ≡ max a.gap (width_code (pos a.row.len))
+pair_is c = rw c.number_code.ensures at c.max-paircode.ensures
 
-pair_small : (c : tie.After-max) → c.max.result < 4
-pair_small c = rw (pair_is c) (max_lt c.before.before.args.gap _ 4 (omega arith) (code_lt _))
+pair_small : (c : tie.After-max-paircode) → c.max-paircode.result < 4
+pair_small c = rw (pair_is c) (max_lt c.args.gap _ 4 (omega arith) (code_lt _))
 
-wide-small : (c : tie.After-width-of) → c.width_of_lem.result ≤ 8
+wide-small : (c : tie.After-width_of) → c.width_of.result ≤ 8
 wide-small c =
-    let e = c.width_of_lem.ensures in
-    let l = width_le_8 c.before.before.before.max.result (pair_small c.before.before.before) in
+    let e = c.width_of.ensures in
+    let l = width_le_8 c.max-paircode.result (pair_small c.before.before.before) in
     omega arith
 
-number-code-requires : tie.Need-number-code-requires
-number-code-requires c κs = search rules
+number_code-requires : tie.Need-number_code-requires
+number_code-requires c κs = search rules
 
-max-requires : tie.Need-max-requires
-max-requires c κs = search rules
+max-paircode-requires : tie.Need-max-paircode-requires
+max-paircode-requires c κs = search rules
 
-needs-flag-byte-requires : tie.Need-needs-flag-byte-requires
-needs-flag-byte-requires c κs = search rules
+needs_flag_byte-requires : tie.Need-needs_flag_byte-requires
+needs_flag_byte-requires c κs = search rules
 
-add-make-size : tie.Need-overflow-add-make-size
-add-make-size c = search rules
+overflow_add-payload : tie.Need-overflow_add-payload
+overflow_add-payload c = search rules
 
-make-size-requires : tie.Need-make-size-requires
-make-size-requires c κs = search rules
+make_size-requires : tie.Need-make_size-requires
+make_size-requires c κs = search rules
+
+returns-then-paircode-eq0 : tie.Need-returns-then-paircode-eq0
+unfolding primitive_size
+returns-then-paircode-eq0 c =
+    let d = c.before.before.before in
+    rw (sym d.needs_flag_byte.ensures ∙ c.if-needs_flag_byte.true, ← pair_is d.before, eq-eqb _ _ c.if-paircode-eq0.true) (encoded_size_ext _ _ _ c.make_size.ensures)
+
+overflow_mul-w : tie.Need-overflow_mul-w
+overflow_mul-w c = search rules
+
+overflow_add-w : tie.Need-overflow_add-w
+overflow_add-w c = search rules
+
+overflow_add-w-then-needs_flag_byte : tie.Need-overflow_add-w-then-needs_flag_byte
+overflow_add-w-then-needs_flag_byte c = search rules
+
+make_size-requires-then-needs_flag_byte : tie.Need-make_size-requires-then-needs_flag_byte
+make_size-requires-then-needs_flag_byte c κs = search rules
+
+returns-then-needs_flag_byte : tie.Need-returns-then-needs_flag_byte
+unfolding primitive_size
+returns-then-needs_flag_byte c =
+    let d = c.before.before.before in
+    rw (sym d.needs_flag_byte.ensures ∙ c.if-needs_flag_byte.true, ← pair_is d.before, ne_eqb _ _ c.if-paircode-eq0.false) (encoded_size_ext _ _ _ c.make_size-then-needs_flag_byte.ensures)
+
+width_of-requires : tie.Need-width_of-requires
+width_of-requires c κs = pair_small c.before.before
+
+overflow_mul-width_of : tie.Need-overflow_mul-width_of
+overflow_mul-width_of c = let l = wide-small c in omega arith
+
+overflow_add-width_of : tie.Need-overflow_add-width_of
+overflow_add-width_of c = let l = wide-small c in omega arith
+
+overflow_add-width_of-2 : tie.Need-overflow_add-width_of-2
+overflow_add-width_of-2 c = let l = wide-small c in omega arith
+
+make_size-requires-2 : tie.Need-make_size-requires-2
+make_size-requires-2 c κs = search rules
 
 returns : tie.Need-returns
 unfolding primitive_size
 returns c =
     let d = c.before.before.before in
-    rw (sym d.needs_flag_byte.ensures ∙ c.before.before.if1.true, ← pair_is d.before, eq-eqb _ _ c.before.if2.true) (encoded_size_ext _ _ _ c.make_size.ensures)
+    rw (sym d.needs_flag_byte.ensures ∙ c.if-needs_flag_byte.false, ← pair_is d.before, ← c.width_of.ensures) (encoded_size_ext _ _ _ c.make_size-2.ensures)
 
-mul-make-size : tie.Need-overflow-mul-make-size
-mul-make-size c = search rules
-
-add-make-size-2 : tie.Need-overflow-add-make-size-2
-add-make-size-2 c = search rules
-
-add-make-size-3 : tie.Need-overflow-add-make-size-3
-add-make-size-3 c = search rules
-
-make-size-requires-2 : tie.Need-make-size-requires-2
-make-size-requires-2 c κs = search rules
-
-returns-2 : tie.Need-returns-2
-unfolding primitive_size
-returns-2 c =
-    let d = c.before.before.before in
-    rw (sym d.needs_flag_byte.ensures ∙ c.before.before.if1.true, ← pair_is d.before, ne_eqb _ _ c.before.if2.false) (encoded_size_ext _ _ _ c.make-size2.ensures)
-
-width-of-requires : tie.Need-width-of-requires
-width-of-requires c κs = pair_small c.before.before
-
-mul-make-size-2 : tie.Need-overflow-mul-make-size-2
-mul-make-size-2 c = let l = wide-small c in omega arith
-
-add-make-size-4 : tie.Need-overflow-add-make-size-4
-add-make-size-4 c = let l = wide-small c in omega arith
-
-add-make-size-5 : tie.Need-overflow-add-make-size-5
-add-make-size-5 c = let l = wide-small c in omega arith
-
-make-size-requires-3 : tie.Need-make-size-requires-3
-make-size-requires-3 c κs = search rules
-
-returns-3 : tie.Need-returns-3
-unfolding primitive_size
-returns-3 c =
-    let d = c.before.before.before in
-    rw (sym d.needs_flag_byte.ensures ∙ c.before.before.if1.false, ← pair_is d.before, ← c.before.width_of_lem.ensures) (encoded_size_ext _ _ _ c.make-size3.ensures)
-
-pub primitive-size-spec : {M : Type 1} → statement M
-primitive-size-spec =
+pub primitive_size_spec : {M : Type 1} → statement M
+primitive_size_spec =
     tie.close
     (tie.spec
-    number-code-requires
-    max-requires
-    needs-flag-byte-requires
-    add-make-size
-    make-size-requires
-    returns
-    mul-make-size
-    add-make-size-2
-    add-make-size-3
-    make-size-requires-2
-    returns-2
-    width-of-requires
-    mul-make-size-2
-    add-make-size-4
-    add-make-size-5
-    make-size-requires-3
-    returns-3)
+    number_code-requires
+    max-paircode-requires
+    needs_flag_byte-requires
+    overflow_add-payload
+    make_size-requires
+    returns-then-paircode-eq0
+    overflow_mul-w
+    overflow_add-w
+    overflow_add-w-then-needs_flag_byte
+    make_size-requires-then-needs_flag_byte
+    returns-then-needs_flag_byte
+    width_of-requires
+    overflow_mul-width_of
+    overflow_add-width_of
+    overflow_add-width_of-2
+    make_size-requires-2
+    returns)

@@ -18,56 +18,56 @@ abbrev input : tie.Start → PlanInput
 input c = let a = c.args in plan_input a.cache a.before a.row (refs_of a.refs.now a.row)
 
 -- The function's entry.
-abbrev start : tie.After-hash-bytes-of → tie.Start
+abbrev start : tie.After-hash_bytes_of → tie.Start
 start c = c.before.before.before
 
 -- The point after the hash's width is known.
-abbrev hashed : tie.After-width-of2 → tie.After-hash-bytes-of
+abbrev hashed : tie.After-width_of-2 → tie.After-hash_bytes_of
 hashed c = c.before.before.before.before.before
 
-gap_is : (c : tie.After-gap-code) → c.gap-code.result ≡ (input c.before.before).gap
+gap_is : (c : tie.After-gap_code-gap) → c.gap_code-gap.result ≡ (input c.before.before).gap
 unfolding plan_input
-gap_is c = c.gap-code.ensures
+gap_is c = c.gap_code-gap.ensures
 
-gap-small : (c : tie.After-gap-code) → c.gap-code.result < 4
-gap-small c = let e = gap_is c in let b = c.before.before.requires.0.1.gap_lt in omega arith
+gap-small : (c : tie.After-gap_code-gap) → c.gap_code-gap.result < 4
+gap-small c = let e = gap_is c in let b = c.requires.0.1.gap_lt in omega arith
 
-ref-code-is : (c : tie.After-refs-code) → c.refs_code.result ≡ (input c.before.before.before.before.before.before).refcode
+ref-code-is : (c : tie.After-refs_code-refcode) → c.refs_code-refcode.result ≡ (input c.before.before.before.before.before.before).refcode
 unfolding plan_input refs_of
-ref-code-is c = c.refs_code.ensures
+ref-code-is c = c.refs_code-refcode.ensures
 
-ref-code-small : (c : tie.After-refs-code) → c.refs_code.result < 4
-ref-code-small c = let e = ref-code-is c in let b = c.before.before.before.before.before.before.requires.0.1.ref_lt in omega arith
+ref-code-small : (c : tie.After-refs_code-refcode) → c.refs_code-refcode.result < 4
+ref-code-small c = let e = ref-code-is c in let b = c.requires.0.1.ref_lt in omega arith
 
-hash-small : (c : tie.After-hash-bytes-of) → c.hash-bytes-of.result ≤ 8
-hash-small c = let e = c.hash-bytes-of.ensures in let h = hash_bytes_le_8 (start c).args.row.hashkind in omega arith
+hash-small : (c : tie.After-hash_bytes_of) → c.hash_bytes_of.result ≤ 8
+hash-small c = let e = c.hash_bytes_of.ensures in let h = hash_bytes_le_8 (start c).args.row.hashkind in omega arith
 
 -- The gap takes at most 8 bytes.
-near-small : (c : tie.After-width-of) → c.width_of_lem.result ≤ 8
+near-small : (c : tie.After-width_of) → c.width_of.result ≤ 8
 near-small c =
     let g = c.before.before.before.before.before in
-    let e = c.width_of_lem.ensures in
-    let l = width_le_8 g.gap-code.result (gap-small g) in
+    let e = c.width_of.ensures in
+    let l = width_le_8 g.gap_code-gap.result (gap-small g) in
     omega arith
 
 -- The references take fewer than 2^34 bytes.
-refs-small : (c : tie.After-width-of2) → (start (hashed c)).args.row.count * c.width-of2.result < 2 ^ 34
+refs-small : (c : tie.After-width_of-2) → (start (hashed c)).args.row.count * c.width_of-2.result < 2 ^ 34
 unfolding plan_input
 refs-small c =
     let n = (start (hashed c)).args.row.count in
-    let e = c.width-of2.ensures in
-    let l = width_le_8 c.before.before.refs_code.result (ref-code-small c.before.before) in
+    let e = c.width_of-2.ensures in
+    let l = width_le_8 c.refs_code-refcode.result (ref-code-small c.before.before) in
     let k : n < 2 ^ 31 = (start (hashed c)).requires.0.1.count_lt in
-    let p : n * c.width-of2.result ≤ n * 8 = mul-le-mul_left n (omega arith) in
+    let p : n * c.width_of-2.result ≤ n * 8 = mul-le-mul_left n (omega arith) in
     omega arith
 
 -- The payload in the code is `payload_size`.
-rest-is : (c : tie.After-width-of2) → let r = (start (hashed c)).args.row in
-    c.before.width_of_lem.result + ((hashed c).hash-bytes-of.result + r.namelen) + r.count * c.width-of2.result ≡ payload_size (input (start (hashed c))) r
-rest-is c = cc (ref-code-is c.before.before, gap_is (hashed c).before, c.before.width_of_lem.ensures, (hashed c).hash-bytes-of.ensures)
+rest-is : (c : tie.After-width_of-2) → let r = (start (hashed c)).args.row in
+    c.width_of.result + ((hashed c).hash_bytes_of.result + r.namelen) + r.count * c.width_of-2.result ≡ payload_size (input (start (hashed c))) r
+rest-is c = cc (ref-code-is c.before.before, gap_is (hashed c).before, c.width_of.ensures, (hashed c).hash_bytes_of.ensures)
 
-rest-small : (c : tie.After-width-of2) → let r = (start (hashed c)).args.row in
-    c.before.width_of_lem.result + ((hashed c).hash-bytes-of.result + r.namelen) + r.count * c.width-of2.result < 2 ^ 35
+rest-small : (c : tie.After-width_of-2) → let r = (start (hashed c)).args.row in
+    c.width_of.result + ((hashed c).hash_bytes_of.result + r.namelen) + r.count * c.width_of-2.result < 2 ^ 35
 rest-small c =
     let a = near-small c.before in
     let b = hash-small (hashed c) in
@@ -75,18 +75,92 @@ rest-small c =
     let e = (start (hashed c)).requires.1 in
     omega arith
 
-gap-code-requires : tie.Need-gap-code-requires
-gap-code-requires c κs = search rules
+gap_code-gap-requires : tie.Need-gap_code-gap-requires
+gap_code-gap-requires c κs = search rules
 
-hash-bytes-of-requires : tie.Need-hash-bytes-of-requires
-hash-bytes-of-requires c κs = search rules
+hash_bytes_of-requires : tie.Need-hash_bytes_of-requires
+hash_bytes_of-requires c κs = search rules
 
-add-fixed : tie.Need-overflow-add-fixed
-add-fixed c = let h = hash-small c in omega arith
+overflow_add-fixed : tie.Need-overflow_add-fixed
+overflow_add-fixed c = let h = hash-small c in omega arith
 
-primitive-size-requires : tie.Need-primitive-size-requires
-primitive-size-requires c κs =
+primitive_size-requires : tie.Need-primitive_size-requires
+primitive_size-requires c κs =
     let d = c.before.before in
+    let h = hash-small d in
+    let e = (start d).requires.1 in
+    (e.0, gap-small d.before, omega arith)
+
+returns-then-row-gt3 : tie.Need-returns-then-row-gt3
+unfolding plan_input
+returns-then-row-gt3 c =
+    let d = c.before.before.before in
+    let s = start d in
+    rw (primitive_plan_size s.args.w (input s) s.args.row s.requires.0.1 (omega arith) (omega arith) (omega arith), ← d.hash_bytes_of.ensures, ← gap_is d.before) c.primitive_size.ensures
+
+refs_code-refcode-requires : tie.Need-refs_code-refcode-requires
+refs_code-refcode-requires c κs = search rules
+
+width_of-requires : tie.Need-width_of-requires
+width_of-requires c κs = gap-small c.before.before.before.before
+
+overflow_add-payload : tie.Need-overflow_add-payload
+overflow_add-payload c = let n = near-small c in let h = hash-small c.before.before.before.before in let e = (start c.before.before.before.before).requires.1 in omega arith
+
+width_of-requires-2 : tie.Need-width_of-requires-2
+width_of-requires-2 c κs = ref-code-small c.before
+
+overflow_mul-payload : tie.Need-overflow_mul-payload
+overflow_mul-payload c = let l = refs-small c in omega arith
+
+overflow_add-payload-2 : tie.Need-overflow_add-payload-2
+overflow_add-payload-2 c = let l = rest-small c in omega arith
+
+object_size-requires : tie.Need-object_size-requires
+object_size-requires c κs = let d = c.before.before in let l = rest-small d in ((start (hashed d)).requires.1.0, omega arith)
+
+returns-then-row-eq2 : tie.Need-returns-then-row-eq2
+unfolding plan_input
+returns-then-row-eq2 c =
+    let d = c.before.before.before in
+    let s = start (hashed d) in
+    rw (object_plan_size s.args.w (input s) s.args.row s.requires.0.1 c.if-row-eq2.true, ← rest-is d, ← gap_is (hashed d).before) c.object_size.ensures
+
+overflow_add-w : tie.Need-overflow_add-w
+overflow_add-w c = search rules
+
+overflow_add-w-then-row-eq1 : tie.Need-overflow_add-w-then-row-eq1
+overflow_add-w-then-row-eq1 c = let l = rest-small c.before.before.before.before in omega arith
+
+make_size-requires : tie.Need-make_size-requires
+make_size-requires c κs = search rules
+
+returns-then-row-eq1 : tie.Need-returns-then-row-eq1
+unfolding plan_input
+returns-then-row-eq1 c =
+    let d = c.before.before.before.before.before in
+    let s = start (hashed d) in
+    rw (class_plan_size s.args.w (input s) s.args.row s.requires.0.1 c.if-row-eq1.true, ← rest-is d) (encoded_size_ext _ _ _ c.make_size.ensures)
+
+overflow_add-w-then-row-eq3 : tie.Need-overflow_add-w-then-row-eq3
+overflow_add-w-then-row-eq3 c = let e = (start (hashed c.before.before.before.before.before.before)).requires.1 in omega arith
+
+overflow_add-w-then-row-eq3-2 : tie.Need-overflow_add-w-then-row-eq3-2
+overflow_add-w-then-row-eq3-2 c = let d = c.before.before.before.before.before.before in let e = (start (hashed d)).requires.1 in let l = rest-small d in omega arith
+
+make_size-requires-then-row-eq3 : tie.Need-make_size-requires-then-row-eq3
+make_size-requires-then-row-eq3 c κs = search rules
+
+returns-then-row-eq3 : tie.Need-returns-then-row-eq3
+unfolding plan_input
+returns-then-row-eq3 c =
+    let d = c.before.before.before.before.before.before.before in
+    let s = start (hashed d) in
+    rw (object_array_plan_size s.args.w (input s) s.args.row s.requires.0.1 c.if-row-eq3.true, ← rest-is d) (encoded_size_ext _ _ _ c.make_size-then-row-eq3.ensures)
+
+primitive_size-requires-2 : tie.Need-primitive_size-requires-2
+primitive_size-requires-2 c κs =
+    let d = hashed c.before.before.before.before.before.before in
     let h = hash-small d in
     let e = (start d).requires.1 in
     (e.0, gap-small d.before, omega arith)
@@ -94,109 +168,35 @@ primitive-size-requires c κs =
 returns : tie.Need-returns
 unfolding plan_input
 returns c =
-    let d = c.before.before.before in
-    let s = start d in
-    rw (primitive_plan_size s.args.w (input s) s.args.row s.pre.0.1 (omega arith) (omega arith) (omega arith), ← d.hash-bytes-of.ensures, ← gap_is d.before) c.primitive_size.ensures
-
-refs-code-requires : tie.Need-refs-code-requires
-refs-code-requires c κs = search rules
-
-width-of-requires : tie.Need-width-of-requires
-width-of-requires c κs = gap-small c.before.before.before.before
-
-add-payload : tie.Need-overflow-add-payload
-add-payload c = let n = near-small c in let h = hash-small c.before.before.before.before in let e = (start c.before.before.before.before).requires.1 in omega arith
-
-width-of-requires-2 : tie.Need-width-of-requires-2
-width-of-requires-2 c κs = ref-code-small c.before
-
-mul-payload : tie.Need-overflow-mul-payload
-mul-payload c = let l = refs-small c in omega arith
-
-add-payload-2 : tie.Need-overflow-add-payload-2
-add-payload-2 c = let l = rest-small c in omega arith
-
-object-size-requires : tie.Need-object-size-requires
-object-size-requires c κs = let d = c.before.before in let l = rest-small d in ((start (hashed d)).requires.1.0, omega arith)
-
-returns-2 : tie.Need-returns-2
-unfolding plan_input
-returns-2 c =
-    let d = c.before.before.before in
-    let s = start (hashed d) in
-    rw (object_plan_size s.args.w (input s) s.args.row s.pre.0.1 c.before.if2.true, ← rest-is d, ← gap_is (hashed d).before) c.object_size.ensures
-
-add-make-size : tie.Need-overflow-add-make-size
-add-make-size c = search rules
-
-add-make-size-2 : tie.Need-overflow-add-make-size-2
-add-make-size-2 c = let l = rest-small c.before.before.before.before in omega arith
-
-make-size-requires : tie.Need-make-size-requires
-make-size-requires c κs = search rules
-
-returns-3 : tie.Need-returns-3
-unfolding plan_input
-returns-3 c =
-    let d = c.before.before.before.before.before in
-    let s = start (hashed d) in
-    rw (class_plan_size s.args.w (input s) s.args.row s.pre.0.1 c.before.if3.true, ← rest-is d) (encoded_size_ext _ _ _ c.make_size.ensures)
-
-add-make-size-3 : tie.Need-overflow-add-make-size-3
-add-make-size-3 c = let e = (start (hashed c.before.before.before.before.before.before)).requires.1 in omega arith
-
-add-make-size-4 : tie.Need-overflow-add-make-size-4
-add-make-size-4 c = let d = c.before.before.before.before.before.before in let e = (start (hashed d)).requires.1 in let l = rest-small d in omega arith
-
-make-size-requires-2 : tie.Need-make-size-requires-2
-make-size-requires-2 c κs = search rules
-
-returns-4 : tie.Need-returns-4
-unfolding plan_input
-returns-4 c =
-    let d = c.before.before.before.before.before.before.before in
-    let s = start (hashed d) in
-    rw (object_array_plan_size s.args.w (input s) s.args.row s.pre.0.1 c.before.if4.true, ← rest-is d) (encoded_size_ext _ _ _ c.make-size2.ensures)
-
-primitive-size-requires-2 : tie.Need-primitive-size-requires-2
-primitive-size-requires-2 c κs =
-    let d = hashed c.before.before.before.before.before.before in
-    let h = hash-small d in
-    let e = (start d).pre.1 in
-    (e.0, gap-small d.before, omega arith)
-
-returns-5 : tie.Need-returns-5
-unfolding plan_input
-returns-5 c =
     let e = c.before.before.before in
     let d = hashed e.before.before.before.before in
     let s = start d in
-    rw (primitive_plan_size s.args.w (input s) s.args.row s.pre.0.1 e.if3.false e.before.before.if2.false c.before.if4.false, ← d.hash-bytes-of.ensures, ← gap_is d.before) c.primitive-size2.ensures
+    rw (primitive_plan_size s.args.w (input s) s.args.row s.requires.0.1 e.if-row-eq1.false e.if-row-eq2.false c.if-row-eq3.false, ← d.hash_bytes_of.ensures, ← gap_is d.before) c.primitive_size-2.ensures
 
-pub record-size-spec : {M : Type 1} → statement M
-record-size-spec =
+pub record_size_spec : {M : Type 1} → statement M
+record_size_spec =
     tie.close
     (tie.spec
-    gap-code-requires
-    hash-bytes-of-requires
-    add-fixed
-    primitive-size-requires
-    returns
-    refs-code-requires
-    width-of-requires
-    add-payload
-    width-of-requires-2
-    mul-payload
-    add-payload-2
-    object-size-requires
-    returns-2
-    add-make-size
-    add-make-size-2
-    make-size-requires
-    returns-3
-    add-make-size-3
-    add-make-size-4
-    make-size-requires-2
-    returns-4
-    primitive-size-requires-2
-    returns-5)
+    gap_code-gap-requires
+    hash_bytes_of-requires
+    overflow_add-fixed
+    primitive_size-requires
+    returns-then-row-gt3
+    refs_code-refcode-requires
+    width_of-requires
+    overflow_add-payload
+    width_of-requires-2
+    overflow_mul-payload
+    overflow_add-payload-2
+    object_size-requires
+    returns-then-row-eq2
+    overflow_add-w
+    overflow_add-w-then-row-eq1
+    make_size-requires
+    returns-then-row-eq1
+    overflow_add-w-then-row-eq3
+    overflow_add-w-then-row-eq3-2
+    make_size-requires-then-row-eq3
+    returns-then-row-eq3
+    primitive_size-requires-2
+    returns)

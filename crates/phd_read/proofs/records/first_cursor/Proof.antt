@@ -9,5 +9,5 @@ new-requires c κs = search rules
 returns : tie.Need-returns
 returns c = rw c.new.ensures
 
-pub first-cursor-spec : {M : Type 1} → statement M
-first-cursor-spec = tie.close (tie.spec new-requires returns)
+pub first_cursor_spec : {M : Type 1} → statement M
+first_cursor_spec = tie.close (tie.spec new-requires returns)

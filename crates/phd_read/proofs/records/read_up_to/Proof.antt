@@ -15,104 +15,104 @@ use Rattle.phd_read.proofs.LoopLaws.{continued_end}
 use Rattle.phd_read.proofs.records.read_up_to.Statement.{statement}
 use Rattle.phd_read.proofs.records.read_up_to.Tie as tie
 
-abbrev invariant-loop : tie.invariant-loop
-invariant-loop s header rows₀ refs₀ upto cursor₀ rows refs cursor = Continued header s cursor₀ rows₀ refs₀ upto rows refs cursor
+abbrev invariant-loop-cursor : tie.invariant-loop-cursor
+invariant-loop-cursor s header rows₀ refs₀ upto cursor₀ rows refs cursor = Continued header s cursor₀ rows₀ refs₀ upto rows refs cursor
 
-abbrev decreases-loop : tie.decreases-loop
-decreases-loop s header rows₀ refs₀ upto cursor₀ rows refs cursor = length s - cursor.at
+abbrev decreases-loop-cursor : tie.decreases-loop-cursor
+decreases-loop-cursor s header rows₀ refs₀ upto cursor₀ rows refs cursor = length s - cursor.at
 
 -- The iteration and the start of the function, from the point after the step.
-abbrev head : tie.After-step invariant-loop decreases-loop → tie.At-loop invariant-loop decreases-loop
+abbrev head : tie.After-step-stepped invariant-loop-cursor decreases-loop-cursor → tie.At-loop-cursor invariant-loop-cursor decreases-loop-cursor
 head c = c.before.before.before.before.before
 
-abbrev start : tie.After-step invariant-loop decreases-loop → tie.Start invariant-loop decreases-loop
+abbrev start : tie.After-step-stepped invariant-loop-cursor decreases-loop-cursor → tie.Start invariant-loop-cursor decreases-loop-cursor
 start c = c.before.before.before.before.before.before.before.before.before
 
 -- The contract of the step, for each result.
-module _ (c : tie.After-step invariant-loop decreases-loop) where
-  continued : c.step.result.result ≡ Continue → let l = head c in let a = (start c).args in
-      StepContinues a.header a.s.now l.loop.cursor l.loop.rows l.loop.refs c.step.new.1.1.0 c.step.new.1.1.1.0 c.step.result.cursor
+module _ (c : tie.After-step-stepped invariant-loop-cursor decreases-loop-cursor) where
+  continued : c.step-stepped.result.result ≡ Continue → let l = head c in let a = (start c).args in
+      StepContinues a.header a.s.now l.loop-cursor.cursor l.loop-cursor.rows l.loop-cursor.refs c.step-stepped.new.rows c.step-stepped.new.refs c.step-stepped.result.cursor
   continued e =
       let l = head c in
       let a = (start c).args in
-      subst (StepContract a.header a.s.now l.loop.cursor l.loop.rows l.loop.refs c.step.new.1.1.0 c.step.new.1.1.1.0 c.step.result.cursor) e c.step.ensures
+      subst (StepContract a.header a.s.now l.loop-cursor.cursor l.loop-cursor.rows l.loop-cursor.refs c.step-stepped.new.rows c.step-stepped.new.refs c.step-stepped.result.cursor) e c.step-stepped.ensures
 
-  ended : (reply place missing : ℕ) → c.step.result.result ≡ End reply place missing → let l = head c in let a = (start c).args in
-      StepEnds a.header a.s.now l.loop.cursor l.loop.rows l.loop.refs c.step.new.1.1.0 c.step.new.1.1.1.0 c.step.result.cursor reply place missing
+  ended : (reply place missing : ℕ) → c.step-stepped.result.result ≡ End reply place missing → let l = head c in let a = (start c).args in
+      StepEnds a.header a.s.now l.loop-cursor.cursor l.loop-cursor.rows l.loop-cursor.refs c.step-stepped.new.rows c.step-stepped.new.refs c.step-stepped.result.cursor reply place missing
   ended reply place missing e =
       let l = head c in
       let a = (start c).args in
-      subst (StepContract a.header a.s.now l.loop.cursor l.loop.rows l.loop.refs c.step.new.1.1.0 c.step.new.1.1.1.0 c.step.result.cursor) e c.step.ensures
+      subst (StepContract a.header a.s.now l.loop-cursor.cursor l.loop-cursor.rows l.loop-cursor.refs c.step-stepped.new.rows c.step-stepped.new.refs c.step-stepped.result.cursor) e c.step-stepped.ensures
 
-loop-holds : tie.Need-loop-init invariant-loop decreases-loop
-loop-holds c =
+loop-cursor-init : tie.Need-loop-cursor-init invariant-loop-cursor decreases-loop-cursor
+loop-cursor-init c =
     let b = c.before.before.before in
     record { steps = no_steps phd phd_lawful b.args.header b.args.s.now b.requires.0; at_most = inr refl }
 
-step-requires : tie.Need-step-requires invariant-loop decreases-loop
-step-requires c κs = (c.before.before.before.before.loop.invariant.steps.fits, c.before.before.before.before.before.before.before.before.requires.1)
+step-stepped-requires : tie.Need-step-stepped-requires invariant-loop-cursor decreases-loop-cursor
+step-stepped-requires c κs = (c.loop-cursor.invariant.steps.fits, c.requires.1)
 
-enum_told : tie.Need-enum-told invariant-loop decreases-loop
-enum_told c = search rules
+enum_told-1 : tie.Need-enum_told-1 invariant-loop-cursor decreases-loop-cursor
+enum_told-1 c = search rules
 
-loop-less : tie.Need-loop-smaller invariant-loop decreases-loop
-loop-less c =
-    let d = c.before.before.before.before.before.before.before in
-    let g = continued d c.enum_told.given.1 in
-    let f = step_at phd phd_lawful (start d).args.header (start d).args.s.now (head d).loop.invariant.steps.fits g in
+loop-cursor-smaller : tie.Need-loop-cursor-smaller invariant-loop-cursor decreases-loop-cursor
+loop-cursor-smaller c =
+    let d = c.before.before.before.before.before.before in
+    let g = continued d c.in-Continue.is in
+    let f = step_at phd phd_lawful (start d).args.header (start d).args.s.now (head d).loop-cursor.invariant.steps.fits g in
     let i = g.fits.at_in in
     omega arith
 
-loop-again : tie.Need-loop-preserved invariant-loop decreases-loop
-loop-again c =
-    let d = c.before.before.before.before.before.before.before in
-    let g = continued d c.enum_told.given.1 in
-    let w = (head d).loop.invariant.steps in
+loop-cursor-preserved : tie.Need-loop-cursor-preserved invariant-loop-cursor decreases-loop-cursor
+loop-cursor-preserved c =
+    let d = c.before.before.before.before.before.before in
+    let g = continued d c.in-Continue.is in
+    let w = (head d).loop-cursor.invariant.steps in
     let f = step_one_row phd phd_lawful (start d).args.header (start d).args.s.now w.fits g in
-    let t : (head d).loop.cursor.rows < (start d).args.upto = d.before.before.before.if1.true in
+    let t : (head d).loop-cursor.cursor.rows < (start d).args.upto = d.loop-cursor-test.true in
     record {
       steps = more_steps phd phd_lawful (start d).args.header (start d).args.s.now w (one_step phd phd_lawful (start d).args.header (start d).args.s.now w.fits g (start d).requires.2);
       at_most = inl (omega arith);
     }
 
-enum-known-result : tie.Need-enum-known-result invariant-loop decreases-loop
-enum-known-result c = search rules
+enum_known-result : tie.Need-enum_known-result invariant-loop-cursor decreases-loop-cursor
+enum_known-result c = search rules
 
-same_length : tie.Need-same-length invariant-loop decreases-loop
-same_length c = search rules
+shape_of-rows-in-End : tie.Need-shape_of-rows-in-End invariant-loop-cursor decreases-loop-cursor
+shape_of-rows-in-End c = search rules
 
-same-length-2 : tie.Need-same-length-2 invariant-loop decreases-loop
-same-length-2 c = search rules
+shape_of-refs-in-End : tie.Need-shape_of-refs-in-End invariant-loop-cursor decreases-loop-cursor
+shape_of-refs-in-End c = search rules
 
-returns : tie.Need-returns invariant-loop decreases-loop
-returns c =
-    let d = c.before.before.before.before.before.before.before.before in
-    continued_end (head d).loop.invariant (ended d _ _ _ c.before.result.given.1)
+returns-in-End : tie.Need-returns-in-End invariant-loop-cursor decreases-loop-cursor
+returns-in-End c =
+    let d = c.before.before.before.before.before.before in
+    continued_end (head d).loop-cursor.invariant (ended d _ _ _ c.in-End.is)
 
-same-length-3 : tie.Need-same-length-3 invariant-loop decreases-loop
-same-length-3 c = search rules
+shape_of-rows : tie.Need-shape_of-rows invariant-loop-cursor decreases-loop-cursor
+shape_of-rows c = search rules
 
-same-length-4 : tie.Need-same-length-4 invariant-loop decreases-loop
-same-length-4 c = search rules
+shape_of-refs : tie.Need-shape_of-refs invariant-loop-cursor decreases-loop-cursor
+shape_of-refs c = search rules
 
-returns-2 : tie.Need-returns-2 invariant-loop decreases-loop
-returns-2 c = (c.before.before.loop.invariant, c.if1.false)
+returns : tie.Need-returns invariant-loop-cursor decreases-loop-cursor
+returns c = (c.loop-cursor.invariant, c.loop-cursor-test.false)
 
-pub read-up-to-spec : {M : Type 1} → statement M
-read-up-to-spec =
+pub read_up_to_spec : {M : Type 1} → statement M
+read_up_to_spec =
     tie.close
     (tie.spec
-    invariant-loop
-    decreases-loop
-    loop-holds
-    step-requires
-    enum_told
-    loop-less
-    loop-again
-    enum-known-result
-    same_length
-    same-length-2
-    returns
-    same-length-3
-    same-length-4
-    returns-2)
+    invariant-loop-cursor
+    decreases-loop-cursor
+    loop-cursor-init
+    step-stepped-requires
+    enum_told-1
+    loop-cursor-smaller
+    loop-cursor-preserved
+    enum_known-result
+    shape_of-rows-in-End
+    shape_of-refs-in-End
+    returns-in-End
+    shape_of-rows
+    shape_of-refs
+    returns)

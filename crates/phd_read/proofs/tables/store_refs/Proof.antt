@@ -17,136 +17,136 @@ use Rattle.phd_read.proofs.InRangeLaws.{fast_path_tests, refs_bytes_le}
 use Rattle.phd_read.proofs.tables.store_refs.Statement.{statement}
 use Rattle.phd_read.proofs.tables.store_refs.Tie as tie
 
-abbrev invariant-loop : tie.invariant-loop
-invariant-loop s at w base top count table₀ to here₀ left₀ place₀ table here left place =
+abbrev invariant-loop-left : tie.invariant-loop-left
+invariant-loop-left s at w base top count table₀ to here₀ left₀ place₀ table here left place =
     (here ≤ length s) × (place + left ≤ length table) × (length table ≡ length table₀) × RefsAllRead (run (ref_list w base top left) s here)
     × (sets table place (values_of (run (ref_list w base top left) s here)) ≡ sets table₀ to (values_of (run (ref_list w base top count) s at)))
 
-abbrev decreases-loop : tie.decreases-loop
-decreases-loop s at w base top count table₀ to here₀ left₀ place₀ table here left place = left
+abbrev decreases-loop-left : tie.decreases-loop-left
+decreases-loop-left s at w base top count table₀ to here₀ left₀ place₀ table here left place = left
 
 -- The reference that an iteration read.
-got : (c : tie.After-a invariant-loop decreases-loop) → let l = c.before.before.before.before in let a = l.before.before.before.before.before.args in
-    run (ref_field a.w a.base a.top) a.s.now l.loop.here ≡ whole c.a.given.0.0 c.a.given.0.1.0
-got c = sym c.before.before.ref_field.ensures ∙ ap outcome c.a.given.1
+got : (c : tie.In-Is invariant-loop-left decreases-loop-left) → let l = c.before.before.before in let a = l.args in
+    run (ref_field a.w a.base a.top) a.s.now l.loop-left.here ≡ whole c.in-Is.a c.in-Is.next
+got c = sym c.ref_field.ensures ∙ ap outcome c.in-Is.is
 
 -- Bounds on the fast path.
-module _ (c : tie.Then1 invariant-loop decreases-loop) where
-  fast : let a = c.before.before.before.before.args in (1 ≤ a.w) × (a.count < 0x10000000) × (c.before.refs_in_range.result ≡ true)
-  fast = let a = c.before.before.before.before.args in fast_path_tests a.w a.count c.before.refs_in_range.result c.if1.true
+module _ (c : tie.Then-w-count invariant-loop-left decreases-loop-left) where
+  fast : let a = c.args in (1 ≤ a.w) × (a.count < 0x10000000) × (c.refs_in_range.result ≡ true)
+  fast = let a = c.args in fast_path_tests a.w a.count c.refs_in_range.result c.if-w-count.true
 
-  bytes-few : let a = c.before.before.before.before.args in a.count * a.w ≤ 0x80000000
+  bytes-few : let a = c.args in a.count * a.w ≤ 0x80000000
   bytes-few = refs_bytes_le _ _ (omega arith) fast.1
 
-refs-in-range-requires : tie.Need-refs-in-range-requires invariant-loop decreases-loop
-refs-in-range-requires c κs = search rules
+refs_in_range-requires : tie.Need-refs_in_range-requires invariant-loop-left decreases-loop-left
+refs_in_range-requires c κs = search rules
 
-mul-if2 : tie.Need-overflow-mul-if2 invariant-loop decreases-loop
-mul-if2 c = omega (arith, bytes-few c)
+overflow_mul-count : tie.Need-overflow_mul-count invariant-loop-left decreases-loop-left
+overflow_mul-count c = omega (arith, bytes-few c)
 
-add-if2 : tie.Need-overflow-add-if2 invariant-loop decreases-loop
-add-if2 c = omega (arith, bytes-few c)
+overflow_add-count : tie.Need-overflow_add-count invariant-loop-left decreases-loop-left
+overflow_add-count c = omega (arith, bytes-few c)
 
-sub-if2 : tie.Need-overflow-sub-if2 invariant-loop decreases-loop
-sub-if2 c = search rules
+overflow_sub-s : tie.Need-overflow_sub-s invariant-loop-left decreases-loop-left
+overflow_sub-s c = search rules
 
-store-refs-in-range-requires : tie.Need-store-refs-in-range-requires invariant-loop decreases-loop
-store-refs-in-range-requires c κs =
+store_refs_in_range-requires : tie.Need-store_refs_in_range-requires invariant-loop-left decreases-loop-left
+store_refs_in_range-requires c κs =
     let d = c.before.before in
     let q = fast d in
-    (q.0, sym d.before.refs_in_range.ensures ∙ q.2, omega arith, search rules, omega arith)
+    (q.0, sym d.refs_in_range.ensures ∙ q.2, omega arith, search rules, omega arith)
 
-same_length : tie.Need-same-length invariant-loop decreases-loop
-same_length c = search rules
+shape_of-table-then-count-w : tie.Need-shape_of-table-then-count-w invariant-loop-left decreases-loop-left
+shape_of-table-then-count-w c = search rules
 
-returns : tie.Need-returns invariant-loop decreases-loop
-returns c = search rules
+returns-then-count-w : tie.Need-returns-then-count-w invariant-loop-left decreases-loop-left
+returns-then-count-w c = search rules
 
-loop-holds : tie.Need-loop-init invariant-loop decreases-loop
-loop-holds c = search rules
+loop-left-init : tie.Need-loop-left-init invariant-loop-left decreases-loop-left
+loop-left-init c = search rules
 
-ref-field-requires : tie.Need-ref-field-requires invariant-loop decreases-loop
-ref-field-requires c κs = search rules
+ref_field-requires : tie.Need-ref_field-requires invariant-loop-left decreases-loop-left
+ref_field-requires c κs = search rules
 
-enum-known-a : tie.Need-enum-known-a invariant-loop decreases-loop
-enum-known-a c = search rules
+enum_known-a : tie.Need-enum_known-a invariant-loop-left decreases-loop-left
+enum_known-a c = search rules
 
-mul-table : tie.Need-overflow-mul-table invariant-loop decreases-loop
-mul-table c = search rules
+offset_bounds-table-place : tie.Need-offset_bounds-table-place invariant-loop-left decreases-loop-left
+offset_bounds-table-place c = search rules
 
-slice-write-table : tie.Need-slice-write-table invariant-loop decreases-loop
-slice-write-table c = search rules
+bounds-table-place : tie.Need-bounds-table-place invariant-loop-left decreases-loop-left
+bounds-table-place c = search rules
 
-enum_told : tie.Need-enum-told invariant-loop decreases-loop
-enum_told c = search rules
+enum_told-1 : tie.Need-enum_told-1 invariant-loop-left decreases-loop-left
+enum_told-1 c = search rules
 
-same-length-2 : tie.Need-same-length-2 invariant-loop decreases-loop
-same-length-2 c = search rules
+shape_of-table-in-Stops : tie.Need-shape_of-table-in-Stops invariant-loop-left decreases-loop-left
+shape_of-table-in-Stops c = search rules
 
-returns-2 : tie.Need-returns-2 invariant-loop decreases-loop
-returns-2 c =
-    let w = c.before.before in
+returns-in-Stops : tie.Need-returns-in-Stops invariant-loop-left decreases-loop-left
+returns-in-Stops c =
+    let w = c.before in
     let l = w.before.before in
-    let a = l.before.before.before.before.before.args in
-    absurd (no_ref_stops a.w a.base a.top a.s.now l.loop.here l.loop.left (omega arith) l.loop.invariant.3 _ (sym w.ref_field.ensures ∙ ap outcome c.enum_told.given.1))
+    let a = l.args in
+    absurd (no_ref_stops a.w a.base a.top a.s.now l.loop-left.here l.loop-left.left (omega arith) l.loop-left.invariant.3 _ (sym w.ref_field.ensures ∙ ap outcome c.in-Stops.is))
 
-add-place : tie.Need-overflow-add-place invariant-loop decreases-loop
-add-place c = search rules
+overflow_add-place : tie.Need-overflow_add-place invariant-loop-left decreases-loop-left
+overflow_add-place c = search rules
 
-sub-left : tie.Need-overflow-sub-left invariant-loop decreases-loop
-sub-left c = search rules
+overflow_sub-left : tie.Need-overflow_sub-left invariant-loop-left decreases-loop-left
+overflow_sub-left c = search rules
 
-loop-less : tie.Need-loop-smaller invariant-loop decreases-loop
-loop-less c = search rules
+loop-left-smaller : tie.Need-loop-left-smaller invariant-loop-left decreases-loop-left
+loop-left-smaller c = search rules
 
-loop-again : tie.Need-loop-preserved invariant-loop decreases-loop
-loop-again c =
-    let w = c.before.before.before in
+loop-left-preserved : tie.Need-loop-left-preserved invariant-loop-left decreases-loop-left
+loop-left-preserved c =
+    let w = c.before in
     let l = w.before.before in
-    let a = l.before.before.before.before.before.args in
-    let e = got c.before in
-    let v = values_next a.w a.base a.top a.s.now l.loop.here l.loop.left (omega arith) l.loop.invariant.3 _ _ e in (
-      end_in_bounds (ref_field a.w a.base a.top) a.s.now l.loop.here _ _ l.loop.invariant.0 e,
+    let a = l.args in
+    let e = got c in
+    let v = values_next a.w a.base a.top a.s.now l.loop-left.here l.loop-left.left (omega arith) l.loop-left.invariant.3 _ _ e in (
+      end_in_bounds (ref_field a.w a.base a.top) a.s.now l.loop-left.here _ _ l.loop-left.invariant.0 e,
       simp length-set (omega arith),
-      simp length-set l.loop.invariant.2,
+      simp length-set l.loop-left.invariant.2,
       v.0,
-      rw add-one (rw v.1 at l.loop.invariant.4),
+      rw add-one (rw v.1 at l.loop-left.invariant.4),
     )
 
-same-length-3 : tie.Need-same-length-3 invariant-loop decreases-loop
-same-length-3 c = search rules
+shape_of-table : tie.Need-shape_of-table invariant-loop-left decreases-loop-left
+shape_of-table c = search rules
 
-returns-3 : tie.Need-returns-3 invariant-loop decreases-loop
-returns-3 c =
+returns : tie.Need-returns invariant-loop-left decreases-loop-left
+returns c =
     let l = c.before in
-    let a = l.before.before.before.before.before.args in
-    let e : l.loop.left ≡ 0 = omega arith in
-    rw (e, ref_list_none a.w a.base a.top a.s.now l.loop.here) at l.loop.invariant.4
+    let a = l.args in
+    let e : l.loop-left.left ≡ 0 = omega arith in
+    rw (e, ref_list_none a.w a.base a.top a.s.now l.loop-left.here) at l.loop-left.invariant.4
 
-pub store-refs-spec : {M : Type 1} → statement M
-store-refs-spec =
+pub store_refs_spec : {M : Type 1} → statement M
+store_refs_spec =
     tie.close
     (tie.spec
-    invariant-loop
-    decreases-loop
-    refs-in-range-requires
-    mul-if2
-    add-if2
-    sub-if2
-    store-refs-in-range-requires
-    same_length
-    returns
-    loop-holds
-    ref-field-requires
-    enum-known-a
-    mul-table
-    slice-write-table
-    enum_told
-    same-length-2
-    returns-2
-    add-place
-    sub-left
-    loop-less
-    loop-again
-    same-length-3
-    returns-3)
+    invariant-loop-left
+    decreases-loop-left
+    refs_in_range-requires
+    overflow_mul-count
+    overflow_add-count
+    overflow_sub-s
+    store_refs_in_range-requires
+    shape_of-table-then-count-w
+    returns-then-count-w
+    loop-left-init
+    ref_field-requires
+    enum_known-a
+    offset_bounds-table-place
+    bounds-table-place
+    enum_told-1
+    shape_of-table-in-Stops
+    returns-in-Stops
+    overflow_add-place
+    overflow_sub-left
+    loop-left-smaller
+    loop-left-preserved
+    shape_of-table
+    returns)

@@ -17,87 +17,87 @@ use Rattle.phd_read.proofs.InRangeLaws.{mul_pred, in_range_next}
 use Rattle.phd_read.proofs.tables.store_refs_in_range.Statement.{statement}
 use Rattle.phd_read.proofs.tables.store_refs_in_range.Tie as tie
 
-abbrev invariant-loop : tie.invariant-loop
-invariant-loop s at w base top count table₀ to here₀ left₀ place₀ table here left place =
+abbrev invariant-loop-left : tie.invariant-loop-left
+invariant-loop-left s at w base top count table₀ to here₀ left₀ place₀ table here left place =
     (here + left * w + 4 ≤ length s) × (place + left ≤ length table) × (length table ≡ length table₀)
     × (sets table place (values_of (run (ref_list w base top left) s here)) ≡ sets table₀ to (values_of (run (ref_list w base top count) s at)))
 
-abbrev decreases-loop : tie.decreases-loop
-decreases-loop s at w base top count table₀ to here₀ left₀ place₀ table here left place = left
+abbrev decreases-loop-left : tie.decreases-loop-left
+decreases-loop-left s at w base top count table₀ to here₀ left₀ place₀ table here left place = left
 
-loop-holds : tie.Need-loop-init invariant-loop decreases-loop
-loop-holds c = search rules
+loop-left-init : tie.Need-loop-left-init invariant-loop-left decreases-loop-left
+loop-left-init c = search rules
 
-read-ref-unchecked-requires : tie.Need-read-ref-unchecked-requires invariant-loop decreases-loop
-read-ref-unchecked-requires c κs =
+read_ref_unchecked-requires : tie.Need-read_ref_unchecked-requires invariant-loop-left decreases-loop-left
+read_ref_unchecked-requires c κs =
     let l = c.before in
-    let a = l.before.before.before.args in
-    let is = l.before.before.before.requires.1 in
-    let m : l.loop.left * a.w ≡ (l.loop.left - 1) * a.w + a.w = mul_pred _ _ (omega arith) in
+    let a = l.args in
+    let is = l.requires.1 in
+    let m : l.loop-left.left * a.w ≡ (l.loop-left.left - 1) * a.w + a.w = mul_pred _ _ (omega arith) in
     let n : a.w ≤ 4 = refs_in_range_width a.w a.base a.top is in
     let b : gap_reach a.w < a.base = refs_in_range_low a.w a.base a.top is in
     let e : a.base + gap_reach a.w < a.top = refs_in_range_high a.w a.base a.top is in
     (omega arith, n, omega arith, b, omega arith)
 
-mul-table : tie.Need-overflow-mul-table invariant-loop decreases-loop
-mul-table c = search rules
+offset_bounds-table-place : tie.Need-offset_bounds-table-place invariant-loop-left decreases-loop-left
+offset_bounds-table-place c = search rules
 
-slice-write-table : tie.Need-slice-write-table invariant-loop decreases-loop
-slice-write-table c = search rules
+bounds-table-place : tie.Need-bounds-table-place invariant-loop-left decreases-loop-left
+bounds-table-place c = search rules
 
-add-here : tie.Need-overflow-add-here invariant-loop decreases-loop
-add-here c =
+overflow_add-here : tie.Need-overflow_add-here invariant-loop-left decreases-loop-left
+overflow_add-here c =
     let l = c.before.before in
-    let m : l.loop.left * l.before.before.before.args.w ≡ _ = mul_pred _ _ (omega arith) in
+    let m : l.loop-left.left * l.args.w ≡ _ = mul_pred _ _ (omega arith) in
     omega arith
 
-add-place : tie.Need-overflow-add-place invariant-loop decreases-loop
-add-place c = search rules
+overflow_add-place : tie.Need-overflow_add-place invariant-loop-left decreases-loop-left
+overflow_add-place c = search rules
 
-sub-left : tie.Need-overflow-sub-left invariant-loop decreases-loop
-sub-left c = search rules
+overflow_sub-left : tie.Need-overflow_sub-left invariant-loop-left decreases-loop-left
+overflow_sub-left c = search rules
 
-loop-less : tie.Need-loop-smaller invariant-loop decreases-loop
-loop-less c = search rules
+loop-left-smaller : tie.Need-loop-left-smaller invariant-loop-left decreases-loop-left
+loop-left-smaller c = search rules
 
-loop-again : tie.Need-loop-preserved invariant-loop decreases-loop
-loop-again c =
+loop-left-preserved : tie.Need-loop-left-preserved invariant-loop-left decreases-loop-left
+loop-left-preserved c =
     let l = c.before.before in
-    let a = l.before.before.before.args in
-    let is = l.before.before.before.requires.1 in
-    let h : 0 < l.loop.left = omega arith in
-    let m : l.loop.left * a.w ≡ (l.loop.left - 1) * a.w + a.w = mul_pred l.loop.left a.w h in
-    let v = in_range_next a.w a.base a.top a.s.now is l.loop.left l.loop.here h (omega arith) in (
+    let a = l.args in
+    let is = l.requires.1 in
+    let h : 0 < l.loop-left.left = omega arith in
+    let m : l.loop-left.left * a.w ≡ (l.loop-left.left - 1) * a.w + a.w = mul_pred l.loop-left.left a.w h in
+    let v = in_range_next a.w a.base a.top a.s.now is l.loop-left.left l.loop-left.here h (omega arith) in (
       omega arith,
       simp length-set (omega arith),
-      simp length-set l.loop.invariant.2,
-      rw (c.read-ref-unchecked.ensures, add-one) (rw v at l.loop.invariant.3),
+      simp length-set l.loop-left.invariant.2,
+      rw (c.read_ref_unchecked.ensures, add-one) (rw v at l.loop-left.invariant.3),
     )
 
-same_length : tie.Need-same-length invariant-loop decreases-loop
-same_length c = search rules
+shape_of-table : tie.Need-shape_of-table invariant-loop-left decreases-loop-left
+shape_of-table c = search rules
 
-returns : tie.Need-returns invariant-loop decreases-loop
+returns : tie.Need-returns invariant-loop-left decreases-loop-left
 returns c =
     let l = c.before in
-    let a = l.before.before.before.args in
-    let e : l.loop.left ≡ 0 = omega arith in
-    rw (e, ref_list_none a.w a.base a.top a.s.now l.loop.here) at l.loop.invariant.3
+    let a = l.args in
+    let e : l.loop-left.left ≡ 0 = omega arith in
+    rw (e, ref_list_none a.w a.base a.top a.s.now l.loop-left.here) at l.loop-left.invariant.3
 
-pub store-refs-in-range-spec : {M : Type 1} → statement M
-store-refs-in-range-spec =
+pub store_refs_in_range_spec : {M : Type 1} → statement M
+store_refs_in_range_spec =
     tie.close
     (tie.spec
-    invariant-loop
-    decreases-loop
-    loop-holds
-    read-ref-unchecked-requires
-    mul-table
-    slice-write-table
-    add-here
-    add-place
-    sub-left
-    loop-less
-    loop-again
-    same_length
+    invariant-loop-left
+    decreases-loop-left
+    loop-left-init
+    read_ref_unchecked-requires
+    offset_bounds-table-place
+    bounds-table-place
+    overflow_add-here
+    overflow_add-place
+    overflow_sub-left
+    loop-left-smaller
+    loop-left-preserved
+    shape_of-table
     returns)

@@ -9,26 +9,26 @@ use Rattle.phd_record.proofs.FastRecordLaws.{value_no_bytes}
 use Rattle.phd_record.proofs.fast.class_word.Statement.{statement}
 use Rattle.phd_record.proofs.fast.class_word.Tie as tie
 
+returns-then-w-eq0 : tie.Need-returns-then-w-eq0
+returns-then-w-eq0 c = value_no_bytes _ _ c.if-w-eq0.true
+
+be_u64-requires : tie.Need-be_u64-requires
+be_u64-requires c κs = search rules
+
+returns-then-w-eq8 : tie.Need-returns-then-w-eq8
+returns-then-w-eq8 c =
+    let a = c.args in
+    c.be_u64.ensures ∙ ap (λ (n : ℕ). value (take n (drop a.at a.s.now))) (sym c.if-w-eq8.true)
+
+be_u32-requires : tie.Need-be_u32-requires
+be_u32-requires c κs = search rules
+
 returns : tie.Need-returns
-returns c = value_no_bytes _ _ c.if1.true
-
-be-u64-requires : tie.Need-be-u64-requires
-be-u64-requires c κs = search rules
-
-returns-2 : tie.Need-returns-2
-returns-2 c =
-    let a = c.before.before.before.before.args in
-    c.be-u64.ensures ∙ ap (λ (n : ℕ). value (take n (drop a.at a.s.now))) (sym c.before.if2.true)
-
-be-u32-requires : tie.Need-be-u32-requires
-be-u32-requires c κs = search rules
-
-returns-3 : tie.Need-returns-3
-returns-3 c =
+returns c =
     let b = c.before.before.before.before in
     let a = b.args in
-    let e : a.w ≡ 4 = ⊎_elim (λ k. absurd (c.before.before.if1.false k)) (λ r. ⊎_elim (λ k. k) (λ k. absurd (c.before.if2.false k)) r) b.requires.1 in
-    c.be-u32.ensures.0 ∙ ap (λ (n : ℕ). value (take n (drop a.at a.s.now))) (sym e)
+    let e : a.w ≡ 4 = ⊎_elim (λ k. absurd (c.if-w-eq0.false k)) (λ r. ⊎_elim (λ k. k) (λ k. absurd (c.if-w-eq8.false k)) r) b.requires.1 in
+    c.be_u32.ensures.0 ∙ ap (λ (n : ℕ). value (take n (drop a.at a.s.now))) (sym e)
 
-pub class-word-spec : {M : Type 1} → statement M
-class-word-spec = tie.close (tie.spec returns be-u64-requires returns-2 be-u32-requires returns-3)
+pub class_word_spec : {M : Type 1} → statement M
+class_word_spec = tie.close (tie.spec returns-then-w-eq0 be_u64-requires returns-then-w-eq8 be_u32-requires returns)

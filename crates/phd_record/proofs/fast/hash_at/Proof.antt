@@ -4,14 +4,14 @@ use Rattle.phd_record.proofs.FastRecordLaws.{value_no_bytes}
 use Rattle.phd_record.proofs.fast.hash_at.Statement.{statement}
 use Rattle.phd_record.proofs.fast.hash_at.Tie as tie
 
+returns-then-n-eq0 : tie.Need-returns-then-n-eq0
+returns-then-n-eq0 c = value_no_bytes _ _ c.if-n-eq0.true
+
+be_upto4-requires : tie.Need-be_upto4-requires
+be_upto4-requires c κs = search rules
+
 returns : tie.Need-returns
-returns c = value_no_bytes _ _ c.if1.true
+returns c = search rules
 
-be-upto4-requires : tie.Need-be-upto4-requires
-be-upto4-requires c κs = search rules
-
-returns-2 : tie.Need-returns-2
-returns-2 c = search rules
-
-pub hash-at-spec : {M : Type 1} → statement M
-hash-at-spec = tie.close (tie.spec returns be-upto4-requires returns-2)
+pub hash_at_spec : {M : Type 1} → statement M
+hash_at_spec = tie.close (tie.spec returns-then-n-eq0 be_upto4-requires returns)

@@ -12,155 +12,155 @@ use Rattle.phd_record.proofs.ArrayLaws.{array_after_front}
 use Rattle.phd_record.proofs.fast.read_array_from_hash.Statement.{statement}
 use Rattle.phd_record.proofs.fast.read_array_from_hash.Tie as tie
 
-hash-le-4 : (c : tie.After-hash-bytes-of) → c.hash-bytes-of.result ≤ 4
-hash-le-4 c = rw c.hash-bytes-of.ensures (hash_bytes_le_4 _)
+hash-le-4 : (c : tie.After-hash_bytes_of-hb) → c.hash_bytes_of-hb.result ≤ 4
+hash-le-4 c = rw c.hash_bytes_of-hb.ensures (hash_bytes_le_4 _)
 
-abbrev hash-of : tie.After-n → tie.After-hash-bytes-of
-hash-of c = c.before.before.before.before
+abbrev hash-of : tie.In-Just → tie.After-hash_bytes_of-hb
+hash-of c = c.before.before.before
 
 -- The references take at most 2^33 bytes.
-refs_bytes_le : (c : tie.After-n) → let b = (hash-of c).before.before in c.n.given.0.0 * b.args.sh.refwidth ≤ 2 ^ 31 * 4
+refs_bytes_le : (c : tie.In-Just) → let b = (hash-of c).before.before in c.in-Just.n * b.args.sh.refwidth ≤ 2 ^ 31 * 4
 refs_bytes_le c =
     let b = (hash-of c).before.before in
-    let l : c.n.given.0.0 < 2 ^ 31 = to_count_lt _ _ (sym c.before.before.count-of4.ensures ∙ c.n.given.1) in
-    mul-le-mul {n₂ = 2 ^ 31} (omega arith) (refs_in_range_width b.args.sh.refwidth b.args.front.address b.args.top b.pre.2)
+    let l : c.in-Just.n < 2 ^ 31 = to_count_lt _ _ (sym c.count_of4.ensures ∙ c.in-Just.is) in
+    mul-le-mul {n₂ = 2 ^ 31} (omega arith) (refs_in_range_width b.args.sh.refwidth b.args.front.address b.args.top b.requires.2)
 
-hash-bytes-of-requires : tie.Need-hash-bytes-of-requires
-hash-bytes-of-requires c κs = search rules
+hash_bytes_of-hb-requires : tie.Need-hash_bytes_of-hb-requires
+hash_bytes_of-hb-requires c κs = search rules
 
-hash-at-requires : tie.Need-hash-at-requires
-hash-at-requires c κs = (hash-le-4 c, omega arith)
+hash_at-requires : tie.Need-hash_at-requires
+hash_at-requires c κs = (hash-le-4 c, omega arith)
 
-add-count-of4 : tie.Need-overflow-add-count-of4
-add-count-of4 c = omega (arith, hash-le-4 c.before)
+overflow_add-at : tie.Need-overflow_add-at
+overflow_add-at c = omega (arith, hash-le-4 c.before)
 
-count-of4-requires : tie.Need-count-of4-requires
-count-of4-requires c κs = (omega arith, omega (arith, hash-le-4 c.before))
+count_of4-requires : tie.Need-count_of4-requires
+count_of4-requires c κs = (omega arith, omega (arith, hash-le-4 c.before))
 
-enum-known-n : tie.Need-enum-known-n
-enum-known-n c = search rules
+enum_known-n : tie.Need-enum_known-n
+enum_known-n c = search rules
 
-enum_told : tie.Need-enum-told
-enum_told c = search rules
+enum_told-1 : tie.Need-enum_told-1
+enum_told-1 c = search rules
 
 miss-requires : tie.Need-miss-requires
 miss-requires c κs = search rules
 
-returns : tie.Need-returns
-returns c = miss_agrees _ _ _ _ c.miss.ensures
+returns-in_default : tie.Need-returns-in_default
+returns-in_default c = miss_agrees _ _ _ _ c.miss.ensures
 
-add-place : tie.Need-overflow-add-place
-add-place c = omega (arith, hash-le-4 (hash-of c.before))
+overflow_add-place : tie.Need-overflow_add-place
+overflow_add-place c = omega (arith, hash-le-4 (hash-of c))
 
-add-place-2 : tie.Need-overflow-add-place-2
-add-place-2 c = omega (arith, hash-le-4 (hash-of c.before))
+overflow_add-place-2 : tie.Need-overflow_add-place-2
+overflow_add-place-2 c = omega (arith, hash-le-4 (hash-of c))
 
-mul-end : tie.Need-overflow-mul-end
-mul-end c = omega (arith, refs_bytes_le c.before.before)
+overflow_mul-end : tie.Need-overflow_mul-end
+overflow_mul-end c = omega (arith, refs_bytes_le c.before)
 
-add_end : tie.Need-overflow-add-end
-add_end c =
-    let n = c.before.before in
-    omega (arith, refs_bytes_le n, hash-le-4 (hash-of n), (hash-of n).before.before.well-formed.0.1)
+overflow_add-end : tie.Need-overflow_add-end
+overflow_add-end c =
+    let n = c.before in
+    omega (arith, refs_bytes_le n, hash-le-4 (hash-of n), (hash-of n).well_formed.0.1)
 
-add-if1 : tie.Need-overflow-add-if1
-add-if1 c =
-    let n = c.before.before in
-    omega (arith, refs_bytes_le n, hash-le-4 (hash-of n), (hash-of n).before.before.well-formed.0.1)
+overflow_add-end-2 : tie.Need-overflow_add-end-2
+overflow_add-end-2 c =
+    let n = c.before in
+    omega (arith, refs_bytes_le n, hash-le-4 (hash-of n), (hash-of n).well_formed.0.1)
 
-miss-requires-2 : tie.Need-miss-requires-2
-miss-requires-2 c κs = search rules
+miss-requires-then-s-end : tie.Need-miss-requires-then-s-end
+miss-requires-then-s-end c κs = search rules
 
-returns-2 : tie.Need-returns-2
-returns-2 c = miss_agrees _ _ _ _ c.miss2.ensures
+returns-then-s-end : tie.Need-returns-then-s-end
+returns-then-s-end c = miss_agrees _ _ _ _ c.miss-then-s-end.ensures
 
-add-count-of4-2 : tie.Need-overflow-add-count-of4-2
-add-count-of4-2 c = search rules
+overflow_add-end-3 : tie.Need-overflow_add-end-3
+overflow_add-end-3 c = search rules
 
-count-of4-requires-2 : tie.Need-count-of4-requires-2
-count-of4-requires-2 c κs = search rules
+count_of4-requires-2 : tie.Need-count_of4-requires-2
+count_of4-requires-2 c κs = search rules
 
-enum-known-truelen : tie.Need-enum-known-truelen
-enum-known-truelen c = search rules
+enum_known-truelen : tie.Need-enum_known-truelen
+enum_known-truelen c = search rules
 
-enum-told-2 : tie.Need-enum-told-2
-enum-told-2 c = search rules
+enum_told-in_default-count_of4 : tie.Need-enum_told-in_default-count_of4
+enum_told-in_default-count_of4 c = search rules
 
-miss-requires-3 : tie.Need-miss-requires-3
-miss-requires-3 c κs = search rules
+miss-requires-in_default-count_of4 : tie.Need-miss-requires-in_default-count_of4
+miss-requires-in_default-count_of4 c κs = search rules
 
-returns-3 : tie.Need-returns-3
-returns-3 c = miss_agrees _ _ _ _ c.miss3.ensures
+returns-in_default-count_of4 : tie.Need-returns-in_default-count_of4
+returns-in_default-count_of4 c = miss_agrees _ _ _ _ c.miss-in_default-count_of4.ensures
 
-miss-requires-4 : tie.Need-miss-requires-4
-miss-requires-4 c κs = search rules
+miss-requires-then-truelen-n : tie.Need-miss-requires-then-truelen-n
+miss-requires-then-truelen-n c κs = search rules
 
-returns-4 : tie.Need-returns-4
-returns-4 c = miss_agrees _ _ _ _ c.miss4.ensures
+returns-then-truelen-n : tie.Need-returns-then-truelen-n
+returns-then-truelen-n c = miss_agrees _ _ _ _ c.miss-then-truelen-n.ensures
 
-be-u32-requires : tie.Need-be-u32-requires
-be-u32-requires c κs = search rules
+be_u32-requires : tie.Need-be_u32-requires
+be_u32-requires c κs = search rules
 
-add-make-record : tie.Need-overflow-add-make-record
-add-make-record c = search rules
+overflow_add-end-4 : tie.Need-overflow_add-end-4
+overflow_add-end-4 c = search rules
 
-no-name-requires : tie.Need-no-name-requires
-no-name-requires c κs = search rules
+no_name-requires : tie.Need-no_name-requires
+no_name-requires c κs = search rules
 
-make-record-requires : tie.Need-make-record-requires
-make-record-requires c κs = search rules
+make_record-requires : tie.Need-make_record-requires
+make_record-requires c κs = search rules
 
 hit-requires : tie.Need-hit-requires
 hit-requires c κs = search rules
 
-returns-5 : tie.Need-returns-5
-returns-5 c =
+returns : tie.Need-returns
+returns c =
     let k = c.before.before in
     let z = k.before in
     let o = z.before in
-    let t = o.before.before in
-    let i = t.before.before.before in
-    let n = i.before.before.before in
-    let h = n.before.before.before in
+    let t = o.before in
+    let i = t.before.before in
+    let n = i.before.before in
+    let h = n.before.before in
     let b = h.before in
-    let a = b.before.before.args in
-    λ _. c.hit.ensures.1 ∙ c.before.make_record.ensures
+    let a = b.args in
+    λ _. c.hit.ensures.1 ∙ c.make_record.ensures
     ∙ sym
-    (array_after_front a.top a.cache a.origin a.hk a.sh a.front a.s.now a.at b.hash-bytes-of.result h.hash_at.result
-    n.n.given.0.0 z.be-u32.result t.truelen.given.0.0 k.no_name.result b.before.before.requires.1 b.hash-bytes-of.ensures b.before.before.requires.2
-    h.hash_at.ensures (sym n.before.before.count-of4.ensures ∙ n.n.given.1) i.if1.false z.be-u32.ensures.0
-    (sym t.before.before.count-of42.ensures ∙ t.truelen.given.1) o.if2.false k.no_name.ensures)
+    (array_after_front a.top a.cache a.origin a.hk a.sh a.front a.s.now a.at b.hash_bytes_of-hb.result h.hash_at.result
+    n.in-Just.n z.be_u32.result t.in-Just-count_of4.truelen k.no_name.result b.requires.1 b.hash_bytes_of-hb.ensures b.requires.2
+    h.hash_at.ensures (sym n.count_of4.ensures ∙ n.in-Just.is) i.if-s-end.false z.be_u32.ensures.0
+    (sym t.count_of4-2.ensures ∙ t.in-Just-count_of4.is) o.if-truelen-n.false k.no_name.ensures)
 
-pub read-array-from-hash-spec : {M : Type 1} → statement M
-read-array-from-hash-spec =
+pub read_array_from_hash_spec : {M : Type 1} → statement M
+read_array_from_hash_spec =
     tie.close
     (tie.spec
-    hash-bytes-of-requires
-    hash-at-requires
-    add-count-of4
-    count-of4-requires
-    enum-known-n
-    enum_told
+    hash_bytes_of-hb-requires
+    hash_at-requires
+    overflow_add-at
+    count_of4-requires
+    enum_known-n
+    enum_told-1
     miss-requires
-    returns
-    add-place
-    add-place-2
-    mul-end
-    add_end
-    add-if1
-    miss-requires-2
-    returns-2
-    add-count-of4-2
-    count-of4-requires-2
-    enum-known-truelen
-    enum-told-2
-    miss-requires-3
-    returns-3
-    miss-requires-4
-    returns-4
-    be-u32-requires
-    add-make-record
-    no-name-requires
-    make-record-requires
+    returns-in_default
+    overflow_add-place
+    overflow_add-place-2
+    overflow_mul-end
+    overflow_add-end
+    overflow_add-end-2
+    miss-requires-then-s-end
+    returns-then-s-end
+    overflow_add-end-3
+    count_of4-requires-2
+    enum_known-truelen
+    enum_told-in_default-count_of4
+    miss-requires-in_default-count_of4
+    returns-in_default-count_of4
+    miss-requires-then-truelen-n
+    returns-then-truelen-n
+    be_u32-requires
+    overflow_add-end-4
+    no_name-requires
+    make_record-requires
     hit-requires
-    returns-5)
+    returns)

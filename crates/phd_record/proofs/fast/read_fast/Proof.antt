@@ -12,77 +12,77 @@ use Rattle.phd_record.proofs.FastRecordLaws.{entry_body, miss_agrees}
 use Rattle.phd_record.proofs.fast.read_fast.Statement.{statement}
 use Rattle.phd_record.proofs.fast.read_fast.Tie as tie
 
-abbrev start : tie.After-be-upto4 → tie.Start
+abbrev start : tie.After-be_upto4-tag → tie.Start
 start c = c.before.before
 
 -- The origin of the record.
-abbrev origin-of : tie.After-be-upto4 → Origin
+abbrev origin-of : tie.After-be_upto4-tag → Origin
 origin-of c = let a = (start c).args in origin_at a.at a.index
 
 -- A tag other than the end tag is followed by the body of a record.
-entry-is-body : (c : tie.After-be-upto4) → (c.be-upto4.result ≡ 3 → ⊥) → let a = (start c).args in
+entry-is-body : (c : tie.After-be_upto4-tag) → (c.be_upto4-tag.result ≡ 3 → ⊥) → let a = (start c).args in
     run (entry a.header a.before a.cache a.index) a.s.now a.at
-    ≡ run (record_body a.header a.before a.cache (origin-of c) c.be-upto4.result) a.s.now (a.at + 1)
+    ≡ run (record_body a.header a.before a.cache (origin-of c) c.be_upto4-tag.result) a.s.now (a.at + 1)
 entry-is-body c n =
     let a = (start c).args in
-    entry_body a.header a.before a.cache a.index c.be-upto4.result a.s.now a.at (omega arith) c.be-upto4.ensures.0 n
+    entry_body a.header a.before a.cache a.index c.be_upto4-tag.result a.s.now a.at (omega arith) c.be_upto4-tag.ensures.0 n
 
-be-upto4-requires : tie.Need-be-upto4-requires
-be-upto4-requires c κs = search rules
+be_upto4-tag-requires : tie.Need-be_upto4-tag-requires
+be_upto4-tag-requires c κs = search rules
 
-add-read-object : tie.Need-overflow-add-read-object
-add-read-object c = search rules
+overflow_add-at : tie.Need-overflow_add-at
+overflow_add-at c = search rules
 
-read-object-requires : tie.Need-read-object-requires
-read-object-requires c κs = search rules
+read_object-requires : tie.Need-read_object-requires
+read_object-requires c κs = search rules
 
-returns : tie.Need-returns
-returns c = λ x. c.read-object.ensures x ∙ ap (record_read_of (start c.before.before).args.cache) (sym (entry-is-body c.before.before (λ e. omega arith)))
+returns-then-tag-ge64 : tie.Need-returns-then-tag-ge64
+returns-then-tag-ge64 c = λ x. c.read_object.ensures x ∙ ap (record_read_of (start c.before.before).args.cache) (sym (entry-is-body c.before.before (λ e. omega arith)))
 
-add-read-primitive : tie.Need-overflow-add-read-primitive
-add-read-primitive c = search rules
+overflow_add-at-then-tag-ge32 : tie.Need-overflow_add-at-then-tag-ge32
+overflow_add-at-then-tag-ge32 c = search rules
 
-read-primitive-requires : tie.Need-read-primitive-requires
-read-primitive-requires c κs = search rules
+read_primitive-requires : tie.Need-read_primitive-requires
+read_primitive-requires c κs = search rules
 
-returns-2 : tie.Need-returns-2
-returns-2 c =
-    λ x. c.read-primitive.ensures x ∙ ap (record_read_of (start c.before.before.before).args.cache) (sym (entry-is-body c.before.before.before (λ e. omega arith)))
+returns-then-tag-ge32 : tie.Need-returns-then-tag-ge32
+returns-then-tag-ge32 c =
+    λ x. c.read_primitive.ensures x ∙ ap (record_read_of (start c.before.before.before).args.cache) (sym (entry-is-body c.before.before.before (λ e. omega arith)))
 
-add-read-array : tie.Need-overflow-add-read-array
-add-read-array c = search rules
+overflow_add-at-then-tag-eq8 : tie.Need-overflow_add-at-then-tag-eq8
+overflow_add-at-then-tag-eq8 c = search rules
 
-read-array-requires : tie.Need-read-array-requires
-read-array-requires c κs = search rules
+read_array-requires : tie.Need-read_array-requires
+read_array-requires c κs = search rules
 
-returns-3 : tie.Need-returns-3
-returns-3 c =
+returns-then-tag-eq8 : tie.Need-returns-then-tag-eq8
+returns-then-tag-eq8 c =
     let d = c.before.before.before.before in
     let a = (start d).args in
-    let t : d.be-upto4.result ≡ 8 = omega arith in
-    λ x. c.read-array.ensures x
+    let t : d.be_upto4-tag.result ≡ 8 = omega arith in
+    λ x. c.read_array.ensures x
     ∙ ap (λ (n : ℕ). record_read_of a.cache (run (record_body a.header a.before a.cache (origin-of d) n) a.s.now (a.at + 1))) (sym t)
     ∙ ap (record_read_of a.cache) (sym (entry-is-body d (λ e. omega arith)))
 
 miss-requires : tie.Need-miss-requires
 miss-requires c κs = search rules
 
-returns-4 : tie.Need-returns-4
-returns-4 c = miss_agrees _ _ _ _ c.miss.ensures
+returns : tie.Need-returns
+returns c = miss_agrees _ _ _ _ c.miss.ensures
 
-pub read-fast-spec : {M : Type 1} → statement M
-read-fast-spec =
+pub read_fast_spec : {M : Type 1} → statement M
+read_fast_spec =
     tie.close
     (tie.spec
-    be-upto4-requires
-    add-read-object
-    read-object-requires
-    returns
-    add-read-primitive
-    read-primitive-requires
-    returns-2
-    add-read-array
-    read-array-requires
-    returns-3
+    be_upto4-tag-requires
+    overflow_add-at
+    read_object-requires
+    returns-then-tag-ge64
+    overflow_add-at-then-tag-ge32
+    read_primitive-requires
+    returns-then-tag-ge32
+    overflow_add-at-then-tag-eq8
+    read_array-requires
+    returns-then-tag-eq8
     miss-requires
-    returns-4)
+    returns)

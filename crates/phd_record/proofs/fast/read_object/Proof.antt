@@ -12,133 +12,133 @@ use Rattle.phd_record.proofs.FastRecordLaws.{ObjectShape, object_shape, object_c
 use Rattle.phd_record.proofs.fast.read_object.Statement.{statement}
 use Rattle.phd_record.proofs.fast.read_object.Tie as tie
 
-abbrev bytes-at : tie.After-shape-of → tie.After-hash-bytes-of
+abbrev bytes-at : tie.After-shape_of-sh → tie.After-hash_bytes_of-hb
 bytes-at c = c.before.before.before
 
-abbrev start : tie.After-shape-of → tie.Start
+abbrev start : tie.After-shape_of-sh → tie.Start
 start c = (bytes-at c).before.before.before.before
 
 -- The sizes of the parts, and enough bytes for them and 20 more.
-module _ (c : tie.After-shape-of) where
+module _ (c : tie.After-shape_of-sh) where
   wide : ClassWidth ((start c).args.header.bits / 8)
   wide = bits_class_width _ (start c).requires.1
 
-  object : ObjectShape c.shape_of.result
-  object = rw c.shape_of.ensures (object_shape _ _ _ (start c).requires.2 c.before.object_form.ensures wide)
+  object : ObjectShape c.shape_of-sh.result
+  object = rw c.shape_of-sh.ensures (object_shape _ _ _ (start c).requires.2 c.object_form.ensures wide)
 
-  class-width-is : ClassWidth c.shape_of.result.class
+  class-width-is : ClassWidth c.shape_of-sh.result.class
   class-width-is =
-      rw (ap (λ (q : Shape). q.class) c.shape_of.ensures) (object_class_width _ _ _ (start c).requires.2 c.before.object_form.ensures wide)
+      rw (ap (λ (q : Shape). q.class) c.shape_of-sh.ensures) (object_class_width _ _ _ (start c).requires.2 c.object_form.ensures wide)
 
-  hash-le-4 : (bytes-at c).hash-bytes-of.result ≤ 4
-  hash-le-4 = rw (bytes-at c).hash-bytes-of.ensures (hash_bytes_le_4 _)
+  hash-le-4 : (bytes-at c).hash_bytes_of-hb.result ≤ 4
+  hash-le-4 = rw (bytes-at c).hash_bytes_of-hb.ensures (hash_bytes_le_4 _)
 
-  in_bounds : let sh = c.shape_of.result in
-      (start c).args.at + sh.gap + sh.class + (bytes-at c).hash-bytes-of.result + sh.count * sh.refwidth + 20 ≤ length (start c).args.s.now
+  in_bounds : let sh = c.shape_of-sh.result in
+      (start c).args.at + sh.gap + sh.class + (bytes-at c).hash_bytes_of-hb.result + sh.count * sh.refwidth + 20 ≤ length (start c).args.s.now
   in_bounds = omega (arith, object.gap, object.class, object.refs, hash-le-4, (start c).requires.0)
 
-  fits : let sh = c.shape_of.result in
-      (start c).args.at + sh.gap + sh.class + (bytes-at c).hash-bytes-of.result + sh.count * sh.refwidth + 20 < 2 ^ 64
-  fits = omega (arith, in_bounds, (start c).well-formed.0.0)
+  fits : let sh = c.shape_of-sh.result in
+      (start c).args.at + sh.gap + sh.class + (bytes-at c).hash_bytes_of-hb.result + sh.count * sh.refwidth + 20 < 2 ^ 64
+  fits = omega (arith, in_bounds, (start c).well_formed.0.0)
 
-abbrev shape_at : tie.After-known-told → tie.After-shape-of
-shape_at c = c.before.before.before.before
+abbrev shape_at : tie.In-Just → tie.After-shape_of-sh
+shape_at c = c.before.before
 
-abbrev slot-known : tie.Else1 → tie.After-known-told
-slot-known c = c.before.before.before.before.before.before
+abbrev slot-known : tie.Else-not-refs_in_range → tie.In-Just
+slot-known c = c.before.before.before.before
 
-abbrev parts : tie.Else1 → tie.After-shape-of
+abbrev parts : tie.Else-not-refs_in_range → tie.After-shape_of-sh
 parts c = shape_at (slot-known c)
 
-max-address-of-requires : tie.Need-max-address-of-requires
-max-address-of-requires c κs = search rules
+max_address_of-top-requires : tie.Need-max_address_of-top-requires
+max_address_of-top-requires c κs = search rules
 
-hash-kind-of-requires : tie.Need-hash-kind-of-requires
-hash-kind-of-requires c κs = search rules
+hash_kind_of-hk-requires : tie.Need-hash_kind_of-hk-requires
+hash_kind_of-hk-requires c κs = search rules
 
-hash-bytes-of-requires : tie.Need-hash-bytes-of-requires
-hash-bytes-of-requires c κs = search rules
+hash_bytes_of-hb-requires : tie.Need-hash_bytes_of-hb-requires
+hash_bytes_of-hb-requires c κs = search rules
 
-object-form-requires : tie.Need-object-form-requires
-object-form-requires c κs = search rules
+object_form-requires : tie.Need-object_form-requires
+object_form-requires c κs = search rules
 
-shape-of-requires : tie.Need-shape-of-requires
-shape-of-requires c κs = search rules
+shape_of-sh-requires : tie.Need-shape_of-sh-requires
+shape_of-sh-requires c κs = search rules
 
-slot-class-of-requires : tie.Need-slot-class-of-requires
-slot-class-of-requires c κs = search rules
+slot_class_of-requires : tie.Need-slot_class_of-requires
+slot_class_of-requires c κs = search rules
 
-enum-known-known : tie.Need-enum-known-known
-enum-known-known c = search rules
+enum_known-known : tie.Need-enum_known-known
+enum_known-known c = search rules
 
-enum_told : tie.Need-enum-told
-enum_told c = search rules
+enum_told-1 : tie.Need-enum_told-1
+enum_told-1 c = search rules
 
 miss-requires : tie.Need-miss-requires
 miss-requires c κs = search rules
 
-returns : tie.Need-returns
-returns c = miss_agrees _ _ _ _ c.miss.ensures
+returns-in_default : tie.Need-returns-in_default
+returns-in_default c = miss_agrees _ _ _ _ c.miss.ensures
 
-address-by-gap2-requires : tie.Need-address-by-gap2-requires
-address-by-gap2-requires c κs = ((object (shape_at c)).gap, omega (arith, (start (shape_at c)).requires.0))
+address_by_gap2-requires : tie.Need-address_by_gap2-requires
+address_by_gap2-requires c κs = ((object (shape_at c)).gap, omega (arith, (start (shape_at c)).requires.0))
 
-enum-known-address : tie.Need-enum-known-address
-enum-known-address c = search rules
+enum_known-address : tie.Need-enum_known-address
+enum_known-address c = search rules
 
-enum-told-2 : tie.Need-enum-told-2
-enum-told-2 c = search rules
+enum_told-in_default-address_by_gap2 : tie.Need-enum_told-in_default-address_by_gap2
+enum_told-in_default-address_by_gap2 c = search rules
 
-miss-requires-2 : tie.Need-miss-requires-2
-miss-requires-2 c κs = search rules
+miss-requires-in_default-address_by_gap2 : tie.Need-miss-requires-in_default-address_by_gap2
+miss-requires-in_default-address_by_gap2 c κs = search rules
 
-returns-2 : tie.Need-returns-2
-returns-2 c = miss_agrees _ _ _ _ c.miss2.ensures
+returns-in_default-address_by_gap2 : tie.Need-returns-in_default-address_by_gap2
+returns-in_default-address_by_gap2 c = miss_agrees _ _ _ _ c.miss-in_default-address_by_gap2.ensures
 
-refs-in-range-requires : tie.Need-refs-in-range-requires
-refs-in-range-requires c κs = search rules
+refs_in_range-requires : tie.Need-refs_in_range-requires
+refs_in_range-requires c κs = search rules
 
-miss-requires-3 : tie.Need-miss-requires-3
-miss-requires-3 c κs = search rules
+miss-requires-then-not-refs_in_range : tie.Need-miss-requires-then-not-refs_in_range
+miss-requires-then-not-refs_in_range c κs = search rules
 
-returns-3 : tie.Need-returns-3
-returns-3 c = miss_agrees _ _ _ _ c.miss3.ensures
+returns-then-not-refs_in_range : tie.Need-returns-then-not-refs_in_range
+returns-then-not-refs_in_range c = miss_agrees _ _ _ _ c.miss-then-not-refs_in_range.ensures
 
-add-class-word : tie.Need-overflow-add-class-word
-add-class-word c = omega (arith, fits (parts c.before))
+overflow_add-at : tie.Need-overflow_add-at
+overflow_add-at c = omega (arith, fits (parts c.before))
 
-class-word-requires : tie.Need-class-word-requires
-class-word-requires c κs = let d = parts c.before in (omega (arith, in_bounds d), class-width-is d)
+class_word-class-requires : tie.Need-class_word-class-requires
+class_word-class-requires c κs = let d = parts c.before in (omega (arith, in_bounds d), class-width-is d)
 
-add-from : tie.Need-overflow-add-from
-add-from c = omega (arith, fits (parts c.before.before.before))
+overflow_add-from : tie.Need-overflow_add-from
+overflow_add-from c = omega (arith, fits (parts c.before.before.before))
 
-add-from-2 : tie.Need-overflow-add-from-2
-add-from-2 c = omega (arith, fits (parts c.before.before.before.before))
+overflow_add-from-2 : tie.Need-overflow_add-from-2
+overflow_add-from-2 c = omega (arith, fits (parts c.before.before.before.before))
 
-hash-at-requires : tie.Need-hash-at-requires
-hash-at-requires c κs = let d = parts c.before.before.before.before in (hash-le-4 d, omega (arith, in_bounds d))
+hash_at-hash-requires : tie.Need-hash_at-hash-requires
+hash_at-hash-requires c κs = let d = parts c.before.before.before.before in (hash-le-4 d, omega (arith, in_bounds d))
 
-add-place : tie.Need-overflow-add-place
-add-place c = omega (arith, fits (parts c.before.before.before.before.before))
+overflow_add-place : tie.Need-overflow_add-place
+overflow_add-place c = omega (arith, fits (parts c.before.before.before.before.before))
 
-mul-end : tie.Need-overflow-mul-end
-mul-end c = omega (arith, fits (parts c.before.before.before.before.before.before))
+overflow_mul-end : tie.Need-overflow_mul-end
+overflow_mul-end c = omega (arith, fits (parts c.before.before.before.before.before.before))
 
-add_end : tie.Need-overflow-add-end
-add_end c = omega (arith, fits (parts c.before.before.before.before.before.before))
+overflow_add-end : tie.Need-overflow_add-end
+overflow_add-end c = omega (arith, fits (parts c.before.before.before.before.before.before))
 
-no-name-requires : tie.Need-no-name-requires
-no-name-requires c κs = search rules
+no_name-requires : tie.Need-no_name-requires
+no_name-requires c κs = search rules
 
-make-record-requires : tie.Need-make-record-requires
-make-record-requires c κs = search rules
+make_record-requires : tie.Need-make_record-requires
+make_record-requires c κs = search rules
 
 hit-requires : tie.Need-hit-requires
 hit-requires c κs = search rules
 
-returns-4 : tie.Need-returns-4
-returns-4 c =
+returns : tie.Need-returns
+returns c =
     let hashed = c.before.before.before.before in
     let w = hashed.before.before.before in
     let e = w.before.before in
@@ -147,63 +147,63 @@ returns-4 c =
     let kind = (bytes-at d).before in
     let b = start d in
     let a = b.args in
-    let sh = d.shape_of.result in
-    let hb = (bytes-at d).hash-bytes-of.result in
+    let sh = d.shape_of-sh.result in
+    let hb = (bytes-at d).hash_bytes_of-hb.result in
     let from = a.at + sh.gap + sh.class in
     let place = from + hb in
-    λ x. c.hit.ensures.1 ∙ c.before.make_record.ensures
-    ∙ object_record_read kind.before.max-address-of.result a.before a.cache a.origin t.before.known.given.0.0
-    kind.hash-kind-of.result hb sh a.s.now a.at e.before.before.before.address.given.0.0 w.class-word.result from
-    hashed.hash_at.result place (place + sh.count * sh.refwidth) (object d)
-    (bytes-at d).hash-bytes-of.ensures
-    (sym e.before.before.before.before.before.address-by-gap2.ensures ∙ e.before.before.before.address.given.1)
-    w.class-word.ensures
+    λ x. c.hit.ensures.1 ∙ c.make_record.ensures
+    ∙ object_record_read kind.max_address_of-top.result a.before a.cache a.origin t.in-Just.known
+    kind.hash_kind_of-hk.result hb sh a.s.now a.at e.in-Just-address_by_gap2.address w.class_word-class.result from
+    hashed.hash_at-hash.result place (place + sh.count * sh.refwidth) (object d)
+    (bytes-at d).hash_bytes_of-hb.ensures
+    (sym e.address_by_gap2.ensures ∙ e.in-Just-address_by_gap2.is)
+    w.class_word-class.ensures
     refl
-    hashed.hash_at.ensures
+    hashed.hash_at-hash.ensures
     refl
     refl
-    (sym e.before.refs_in_range.ensures ∙ not-false _ e.if1.false)
+    (sym e.refs_in_range.ensures ∙ e.if-not-refs_in_range.false)
     (omega (arith, in_bounds d))
-    a.header a.tag d.before.object_form.result c.before.before.no_name.result
-    kind.before.max-address-of.ensures
-    kind.hash-kind-of.ensures
-    d.shape_of.ensures
-    c.before.before.no_name.ensures
-    (omega (arith, b.pre.2))
-    d.before.object_form.ensures
-    (sym t.before.before.before.slot-class-of.ensures ∙ t.before.known.given.1)
+    a.header a.tag d.object_form.result c.no_name.result
+    kind.max_address_of-top.ensures
+    kind.hash_kind_of-hk.ensures
+    d.shape_of-sh.ensures
+    c.no_name.ensures
+    (omega (arith, b.requires.2))
+    d.object_form.ensures
+    (sym t.slot_class_of.ensures ∙ t.in-Just.is)
 
-pub read-object-spec : {M : Type 1} → statement M
-read-object-spec =
+pub read_object_spec : {M : Type 1} → statement M
+read_object_spec =
     tie.close
     (tie.spec
-    max-address-of-requires
-    hash-kind-of-requires
-    hash-bytes-of-requires
-    object-form-requires
-    shape-of-requires
-    slot-class-of-requires
-    enum-known-known
-    enum_told
+    max_address_of-top-requires
+    hash_kind_of-hk-requires
+    hash_bytes_of-hb-requires
+    object_form-requires
+    shape_of-sh-requires
+    slot_class_of-requires
+    enum_known-known
+    enum_told-1
     miss-requires
-    returns
-    address-by-gap2-requires
-    enum-known-address
-    enum-told-2
-    miss-requires-2
-    returns-2
-    refs-in-range-requires
-    miss-requires-3
-    returns-3
-    add-class-word
-    class-word-requires
-    add-from
-    add-from-2
-    hash-at-requires
-    add-place
-    mul-end
-    add_end
-    no-name-requires
-    make-record-requires
+    returns-in_default
+    address_by_gap2-requires
+    enum_known-address
+    enum_told-in_default-address_by_gap2
+    miss-requires-in_default-address_by_gap2
+    returns-in_default-address_by_gap2
+    refs_in_range-requires
+    miss-requires-then-not-refs_in_range
+    returns-then-not-refs_in_range
+    overflow_add-at
+    class_word-class-requires
+    overflow_add-from
+    overflow_add-from-2
+    hash_at-hash-requires
+    overflow_add-place
+    overflow_mul-end
+    overflow_add-end
+    no_name-requires
+    make_record-requires
     hit-requires
-    returns-4)
+    returns)

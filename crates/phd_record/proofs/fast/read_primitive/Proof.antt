@@ -11,165 +11,165 @@ use Rattle.phd_record.proofs.fast.read_primitive.Statement.{statement}
 use Rattle.phd_record.proofs.fast.read_primitive.Tie as tie
 
 -- The gap has at most 4 bytes, so the length and the hash do too, and enough bytes follow.
-abbrev shape_of : tie.Else1 → tie.After-shape-of
+abbrev shape_of : tie.Else-sh-gt4 → tie.After-shape_of-sh
 shape_of c = c.before.before
 
-abbrev hash-of : tie.Else1 → tie.After-hash-bytes-of
+abbrev hash-of : tie.Else-sh-gt4 → tie.After-hash_bytes_of-hb
 hash-of c = (shape_of c).before.before
 
-abbrev start : tie.Else1 → tie.Start
+abbrev start : tie.Else-sh-gt4 → tie.Start
 start c = (hash-of c).before.before.before.before
 
-module _ (c : tie.Else1) where
-  like : PrimitiveShape (shape_of c).shape_of.result
-  like = rw (shape_of c).shape_of.ensures (primitive_shape _ _ _)
+module _ (c : tie.Else-sh-gt4) where
+  like : PrimitiveShape (shape_of c).shape_of-sh.result
+  like = rw (shape_of c).shape_of-sh.ensures (primitive_shape _ _ _)
 
-  short : (shape_of c).shape_of.result.len ≤ 4
-  short = omega (arith, like.len, c.if1.false)
+  short : (shape_of c).shape_of-sh.result.len ≤ 4
+  short = omega (arith, like.len, c.if-sh-gt4.false)
 
-  hash-le-4 : (hash-of c).hash-bytes-of.result ≤ 4
-  hash-le-4 = rw (hash-of c).hash-bytes-of.ensures (hash_bytes_le_4 _)
+  hash-le-4 : (hash-of c).hash_bytes_of-hb.result ≤ 4
+  hash-le-4 = rw (hash-of c).hash_bytes_of-hb.ensures (hash_bytes_le_4 _)
 
-  in_bounds : let sh = (shape_of c).shape_of.result in let a = (start c).args in
-      a.at + sh.gap + sh.len + (hash-of c).hash-bytes-of.result + 70 ≤ length a.s.now
-  in_bounds = omega (arith, short, hash-le-4, c.if1.false, (start c).requires.0)
+  in_bounds : let sh = (shape_of c).shape_of-sh.result in let a = (start c).args in
+      a.at + sh.gap + sh.len + (hash-of c).hash_bytes_of-hb.result + 70 ≤ length a.s.now
+  in_bounds = omega (arith, short, hash-le-4, c.if-sh-gt4.false, (start c).requires.0)
 
-  fits : let sh = (shape_of c).shape_of.result in let a = (start c).args in
-      a.at + sh.gap + sh.len + (hash-of c).hash-bytes-of.result + 70 < 2 ^ 64
-  fits = omega (arith, in_bounds, (start c).well-formed.0.0)
+  fits : let sh = (shape_of c).shape_of-sh.result in let a = (start c).args in
+      a.at + sh.gap + sh.len + (hash-of c).hash_bytes_of-hb.result + 70 < 2 ^ 64
+  fits = omega (arith, in_bounds, (start c).well_formed.0.0)
 
-abbrev else-of : tie.After-struct-known3 → tie.Else1
-else-of c = c.before.before.before.before.before
+abbrev else-of : tie.After-struct_known-3-1 → tie.Else-sh-gt4
+else-of c = c.before.before.before
 
-abbrev from-of : tie.After-struct-known4 → tie.After-struct-known3
-from-of c = c.before.before.before.before.before
+abbrev from-of : tie.After-struct_known-4-1 → tie.After-struct_known-3-1
+from-of c = c.before.before.before
 
-max-address-of-requires : tie.Need-max-address-of-requires
-max-address-of-requires c κs = search rules
+max_address_of-top-requires : tie.Need-max_address_of-top-requires
+max_address_of-top-requires c κs = search rules
 
-hash-kind-of-requires : tie.Need-hash-kind-of-requires
-hash-kind-of-requires c κs = search rules
+hash_kind_of-hk-requires : tie.Need-hash_kind_of-hk-requires
+hash_kind_of-hk-requires c κs = search rules
 
-hash-bytes-of-requires : tie.Need-hash-bytes-of-requires
-hash-bytes-of-requires c κs = search rules
+hash_bytes_of-hb-requires : tie.Need-hash_bytes_of-hb-requires
+hash_bytes_of-hb-requires c κs = search rules
 
-shape-of-requires : tie.Need-shape-of-requires
-shape-of-requires c κs = search rules
+shape_of-sh-requires : tie.Need-shape_of-sh-requires
+shape_of-sh-requires c κs = search rules
 
 miss-requires : tie.Need-miss-requires
 miss-requires c κs = search rules
 
-returns : tie.Need-returns
-returns c = miss_agrees _ _ _ _ c.miss.ensures
+returns-then-sh-gt4 : tie.Need-returns-then-sh-gt4
+returns-then-sh-gt4 c = miss_agrees _ _ _ _ c.miss.ensures
 
-address-by-gap4-requires : tie.Need-address-by-gap4-requires
-address-by-gap4-requires c κs = search rules
+address_by_gap4-requires : tie.Need-address_by_gap4-requires
+address_by_gap4-requires c κs = search rules
 
-enum-known-address : tie.Need-enum-known-address
-enum-known-address c = search rules
+enum_known-address : tie.Need-enum_known-address
+enum_known-address c = search rules
 
-enum_told : tie.Need-enum-told
-enum_told c = search rules
+enum_told-1 : tie.Need-enum_told-1
+enum_told-1 c = search rules
 
-miss-requires-2 : tie.Need-miss-requires-2
-miss-requires-2 c κs = search rules
+miss-requires-in_default : tie.Need-miss-requires-in_default
+miss-requires-in_default c κs = search rules
 
-returns-2 : tie.Need-returns-2
-returns-2 c = miss_agrees _ _ _ _ c.miss2.ensures
+returns-in_default : tie.Need-returns-in_default
+returns-in_default c = miss_agrees _ _ _ _ c.miss-in_default.ensures
 
-add-count-of4 : tie.Need-overflow-add-count-of4
-add-count-of4 c = omega (arith, fits (else-of c))
+overflow_add-at : tie.Need-overflow_add-at
+overflow_add-at c = omega (arith, fits (else-of c))
 
-count-of4-requires : tie.Need-count-of4-requires
-count-of4-requires c κs = (short (else-of c), omega (arith, in_bounds (else-of c)))
+count_of4-requires : tie.Need-count_of4-requires
+count_of4-requires c κs = (short (else-of c), omega (arith, in_bounds (else-of c)))
 
-enum-known-len : tie.Need-enum-known-len
-enum-known-len c = search rules
+enum_known-len : tie.Need-enum_known-len
+enum_known-len c = search rules
 
-enum-told-2 : tie.Need-enum-told-2
-enum-told-2 c = search rules
+enum_told-in_default-count_of4 : tie.Need-enum_told-in_default-count_of4
+enum_told-in_default-count_of4 c = search rules
 
-miss-requires-3 : tie.Need-miss-requires-3
-miss-requires-3 c κs = search rules
+miss-requires-in_default-count_of4 : tie.Need-miss-requires-in_default-count_of4
+miss-requires-in_default-count_of4 c κs = search rules
 
-returns-3 : tie.Need-returns-3
-returns-3 c = miss_agrees _ _ _ _ c.miss3.ensures
+returns-in_default-count_of4 : tie.Need-returns-in_default-count_of4
+returns-in_default-count_of4 c = miss_agrees _ _ _ _ c.miss-in_default-count_of4.ensures
 
-add-from : tie.Need-overflow-add-from
-add-from c = omega (arith, fits (else-of (from-of c)))
+overflow_add-from : tie.Need-overflow_add-from
+overflow_add-from c = omega (arith, fits (else-of (from-of c)))
 
-add-from-2 : tie.Need-overflow-add-from-2
-add-from-2 c = omega (arith, fits (else-of (from-of c.before)))
+overflow_add-from-2 : tie.Need-overflow_add-from-2
+overflow_add-from-2 c = omega (arith, fits (else-of (from-of c.before)))
 
-hash-at-requires : tie.Need-hash-at-requires
-hash-at-requires c κs = (hash-le-4 (else-of (from-of c.before)), omega (arith, in_bounds (else-of (from-of c.before))))
+hash_at-hash-requires : tie.Need-hash_at-hash-requires
+hash_at-hash-requires c κs = (hash-le-4 (else-of (from-of c.before)), omega (arith, in_bounds (else-of (from-of c.before))))
 
-add-place : tie.Need-overflow-add-place
-add-place c = omega (arith, fits (else-of (from-of c.before.before)))
+overflow_add-place : tie.Need-overflow_add-place
+overflow_add-place c = omega (arith, fits (else-of (from-of c.before.before)))
 
-be-u32-requires : tie.Need-be-u32-requires
-be-u32-requires c κs = omega (arith, in_bounds (else-of (from-of c.before.before)))
+be_u32-size-requires : tie.Need-be_u32-size-requires
+be_u32-size-requires c κs = omega (arith, in_bounds (else-of (from-of c.before.before)))
 
-add-make-record : tie.Need-overflow-add-make-record
-add-make-record c = omega (arith, fits (else-of (from-of c.before.before.before)))
+overflow_add-place-2 : tie.Need-overflow_add-place-2
+overflow_add-place-2 c = omega (arith, fits (else-of (from-of c.before.before.before)))
 
-no-name-requires : tie.Need-no-name-requires
-no-name-requires c κs = search rules
+no_name-requires : tie.Need-no_name-requires
+no_name-requires c κs = search rules
 
-make-record-requires : tie.Need-make-record-requires
-make-record-requires c κs = search rules
+make_record-requires : tie.Need-make_record-requires
+make_record-requires c κs = search rules
 
 hit-requires : tie.Need-hit-requires
 hit-requires c κs = search rules
 
-returns-4 : tie.Need-returns-4
-returns-4 c =
+returns : tie.Need-returns
+returns c =
     let k = c.before.before in
     let z = k.before in
     let q = z.before in
     let f = from-of q.before.before in
-    let n = q.before.before.before.before in
+    let n = q.before.before.before in
     let e = else-of f in
     let a = (start e).args in
-    let d = f.before.before in
+    let d = f.before in
     let y = shape_of e in
     let w = hash-of e in
-    λ _. c.hit.ensures.1 ∙ c.before.make_record.ensures
+    λ _. c.hit.ensures.1 ∙ c.make_record.ensures
     ∙ sym
-    (primitive_whole a.header a.before a.cache a.origin a.s.now a.at w.before.before.max-address-of.result w.before.hash-kind-of.result y.shape_of.result
-    a.tag w.hash-bytes-of.result d.address.given.0.0 n.len.given.0.0 q.hash_at.result z.be-u32.result k.no_name.result
-    (start e).pre.2 (start e).pre.3 w.before.before.max-address-of.ensures w.before.hash-kind-of.ensures y.shape_of.ensures w.hash-bytes-of.ensures
-    (omega (arith, in_bounds e)) (sym d.before.before.address-by-gap4.ensures ∙ d.address.given.1) (sym n.before.before.count-of4.ensures ∙ n.len.given.1)
-    q.hash_at.ensures z.be-u32.ensures.0 k.no_name.ensures)
+    (primitive_whole a.header a.before a.cache a.origin a.s.now a.at w.max_address_of-top.result w.hash_kind_of-hk.result y.shape_of-sh.result
+    a.tag w.hash_bytes_of-hb.result d.in-Just.address n.in-Just-count_of4.len q.hash_at-hash.result z.be_u32-size.result k.no_name.result
+    (start e).requires.2 (start e).requires.3 w.max_address_of-top.ensures w.hash_kind_of-hk.ensures y.shape_of-sh.ensures w.hash_bytes_of-hb.ensures
+    (omega (arith, in_bounds e)) (sym d.address_by_gap4.ensures ∙ d.in-Just.is) (sym n.count_of4.ensures ∙ n.in-Just-count_of4.is)
+    q.hash_at-hash.ensures z.be_u32-size.ensures.0 k.no_name.ensures)
 
-pub read-primitive-spec : {M : Type 1} → statement M
-read-primitive-spec =
+pub read_primitive_spec : {M : Type 1} → statement M
+read_primitive_spec =
     tie.close
     (tie.spec
-    max-address-of-requires
-    hash-kind-of-requires
-    hash-bytes-of-requires
-    shape-of-requires
+    max_address_of-top-requires
+    hash_kind_of-hk-requires
+    hash_bytes_of-hb-requires
+    shape_of-sh-requires
     miss-requires
-    returns
-    address-by-gap4-requires
-    enum-known-address
-    enum_told
-    miss-requires-2
-    returns-2
-    add-count-of4
-    count-of4-requires
-    enum-known-len
-    enum-told-2
-    miss-requires-3
-    returns-3
-    add-from
-    add-from-2
-    hash-at-requires
-    add-place
-    be-u32-requires
-    add-make-record
-    no-name-requires
-    make-record-requires
+    returns-then-sh-gt4
+    address_by_gap4-requires
+    enum_known-address
+    enum_told-1
+    miss-requires-in_default
+    returns-in_default
+    overflow_add-at
+    count_of4-requires
+    enum_known-len
+    enum_told-in_default-count_of4
+    miss-requires-in_default-count_of4
+    returns-in_default-count_of4
+    overflow_add-from
+    overflow_add-from-2
+    hash_at-hash-requires
+    overflow_add-place
+    be_u32-size-requires
+    overflow_add-place-2
+    no_name-requires
+    make_record-requires
     hit-requires
-    returns-4)
+    returns)

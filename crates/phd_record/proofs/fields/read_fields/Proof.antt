@@ -13,138 +13,138 @@ use Rattle.phd_record.proofs.fields.read_fields.Statement.{statement}
 use Rattle.phd_record.proofs.fields.read_fields.Tie as tie
 
 -- The front part was read.
-abbrev start : tie.After-f → tie.Start
-start c = c.before.before.before.before
+abbrev start : tie.In-Is → tie.Start
+start c = c.before.before.before
 
-module _ (c : tie.After-f) where
+module _ (c : tie.In-Is) where
   got-front : let a = (start c).args in
-      run (front a.top a.before a.sh) a.s.now a.at ≡ whole c.f.given.0.0 c.f.given.0.1.0
-  got-front = sym c.before.before.read-front.ensures ∙ ap front_outcome c.f.given.1
+      run (front a.top a.before a.sh) a.s.now a.at ≡ whole c.in-Is.f c.in-Is.n
+  got-front = sym c.read_front.ensures ∙ ap front_outcome c.in-Is.is
 
-  in-front : let a = (start c).args in c.f.given.0.1.0 ≤ length a.s.now
+  in-front : let a = (start c).args in c.in-Is.n ≤ length a.s.now
   in-front = let a = (start c).args in end_in_bounds (front a.top a.before a.sh) a.s.now a.at _ _ (omega arith) got-front
 
 -- The bytes of the hash follow from its kind.
-hashed : (c : tie.After-read-middle) → let w = c.before.before.before in let a = (start w).args in
-    run (middle a.sh (hash_bytes a.hk)) a.s.now w.f.given.0.1.0
-    ≡ run (middle a.sh c.before.hash-bytes-of.result) a.s.now w.f.given.0.1.0
-hashed c = rw c.before.hash-bytes-of.ensures
+hashed : (c : tie.After-read_middle) → let w = c.before.before in let a = (start w).args in
+    run (middle a.sh (hash_bytes a.hk)) a.s.now w.in-Is.n
+    ≡ run (middle a.sh c.hash_bytes_of-hb.result) a.s.now w.in-Is.n
+hashed c = rw c.hash_bytes_of-hb.ensures
 
 -- The middle part was read.
-abbrev front_of : tie.After-q → tie.After-f
-front_of c = c.before.before.before.before.before
+abbrev front_of : tie.In-Is-read_middle → tie.In-Is
+front_of c = c.before.before.before
 
-module _ (c : tie.After-q) where
+module _ (c : tie.In-Is-read_middle) where
   got-middle : let a = (start (front_of c)).args in
-      run (middle a.sh (hash_bytes a.hk)) a.s.now (front_of c).f.given.0.1.0 ≡ whole c.q.given.0.0 c.q.given.0.1.0
-  got-middle = hashed c.before.before ∙ sym c.before.before.read-middle.ensures ∙ ap middle_outcome c.q.given.1
+      run (middle a.sh (hash_bytes a.hk)) a.s.now (front_of c).in-Is.n ≡ whole c.in-Is-read_middle.q c.in-Is-read_middle.n
+  got-middle = hashed c.before ∙ sym c.read_middle.ensures ∙ ap middle_outcome c.in-Is-read_middle.is
 
-  in-middle : let a = (start (front_of c)).args in c.q.given.0.1.0 ≤ length a.s.now
-  in-middle = let a = (start (front_of c)).args in end_in_bounds (middle a.sh (hash_bytes a.hk)) a.s.now (front_of c).f.given.0.1.0 _ _ (in-front (front_of c)) got-middle
+  in-middle : let a = (start (front_of c)).args in c.in-Is-read_middle.n ≤ length a.s.now
+  in-middle = let a = (start (front_of c)).args in end_in_bounds (middle a.sh (hash_bytes a.hk)) a.s.now (front_of c).in-Is.n _ _ (in-front (front_of c)) got-middle
 
 -- The name was read.
-abbrev middle_of : tie.After-name → tie.After-q
-middle_of c = c.before.before.before.before
+abbrev middle_of : tie.In-Is-class_name → tie.In-Is-read_middle
+middle_of c = c.before.before
 
-module _ (c : tie.After-name) where
+module _ (c : tie.In-Is-class_name) where
   got-name : let a = (start (front_of (middle_of c))).args in
-      run (class_name a.sh.name) a.s.now (middle_of c).q.given.0.1.0 ≡ whole c.name.given.0.0 c.name.given.0.1.0
-  got-name = sym c.before.before.class_name.ensures ∙ ap string_outcome c.name.given.1
+      run (class_name a.sh.name) a.s.now (middle_of c).in-Is-read_middle.n ≡ whole c.in-Is-class_name.name c.in-Is-class_name.n
+  got-name = sym c.class_name.ensures ∙ ap string_outcome c.in-Is-class_name.is
 
-  in-name : let a = (start (front_of (middle_of c))).args in c.name.given.0.1.0 ≤ length a.s.now
-  in-name = let a = (start (front_of (middle_of c))).args in end_in_bounds (class_name a.sh.name) a.s.now (middle_of c).q.given.0.1.0 _ _ (in-middle (middle_of c)) got-name
+  in-name : let a = (start (front_of (middle_of c))).args in c.in-Is-class_name.n ≤ length a.s.now
+  in-name = let a = (start (front_of (middle_of c))).args in end_in_bounds (class_name a.sh.name) a.s.now (middle_of c).in-Is-read_middle.n _ _ (in-middle (middle_of c)) got-name
 
-read-front-requires : tie.Need-read-front-requires
-read-front-requires c κs = search rules
+read_front-requires : tie.Need-read_front-requires
+read_front-requires c κs = search rules
 
-enum-known-f : tie.Need-enum-known-f
-enum-known-f c = search rules
+enum_known-f : tie.Need-enum_known-f
+enum_known-f c = search rules
 
-enum-known-w : tie.Need-enum-known-w
-enum-known-w c = search rules
+enum_known-w : tie.Need-enum_known-w
+enum_known-w c = search rules
 
-no-record-requires : tie.Need-no-record-requires
-no-record-requires c κs = search rules
+no_record-requires : tie.Need-no_record-requires
+no_record-requires c κs = search rules
 
-returns : tie.Need-returns
+returns-in-Stops : tie.Need-returns-in-Stops
 unfolding fields record_read_of
-returns c =
-    let d = c.before.before.before.before in
-    rw (c.no_record.ensures, run_then, ← d.read-front.ensures, c.before.before.w.given.1)
+returns-in-Stops c =
+    let d = c.before.before in
+    rw (c.no_record.ensures, run_then, ← d.read_front.ensures, c.in-Stops.is)
 
-hash-bytes-of-requires : tie.Need-hash-bytes-of-requires
-hash-bytes-of-requires c κs = search rules
+hash_bytes_of-hb-requires : tie.Need-hash_bytes_of-hb-requires
+hash_bytes_of-hb-requires c κs = search rules
 
-read-middle-requires : tie.Need-read-middle-requires
-read-middle-requires c κs =
-    let w = c.before.before in
-    (in-front w, (start w).requires.1, rw c.hash-bytes-of.ensures (hash_bytes_le_8 _))
-
-enum-known-q : tie.Need-enum-known-q
-enum-known-q c = search rules
-
-enum-known-w-2 : tie.Need-enum-known-w-2
-enum-known-w-2 c = search rules
-
-no-record-requires-2 : tie.Need-no-record-requires-2
-no-record-requires-2 c κs = search rules
-
-returns-2 : tie.Need-returns-2
-unfolding fields record_read_of
-returns-2 c =
-    let d = c.before.before.before.before in
-    let w = d.before.before.before in
-    rw (c.no-record2.ensures, run_then, got-front w, run_then, hashed d, ← d.read-middle.ensures, c.before.before.w2.given.1)
-
-class-name-requires : tie.Need-class-name-requires
-class-name-requires c κs = in-middle c.before
-
-enum-known-name : tie.Need-enum-known-name
-enum-known-name c = search rules
-
-read-from-ref-count-requires : tie.Need-read-from-ref-count-requires
-read-from-ref-count-requires c κs =
+read_middle-requires : tie.Need-read_middle-requires
+read_middle-requires c κs =
     let w = c.before in
+    (in-front w, (start w).requires.1, rw c.hash_bytes_of-hb.ensures (hash_bytes_le_8 _))
+
+enum_known-q : tie.Need-enum_known-q
+enum_known-q c = search rules
+
+enum_known-w-in-Stops-read_middle : tie.Need-enum_known-w-in-Stops-read_middle
+enum_known-w-in-Stops-read_middle c = search rules
+
+no_record-requires-in-Stops-read_middle : tie.Need-no_record-requires-in-Stops-read_middle
+no_record-requires-in-Stops-read_middle c κs = search rules
+
+returns-in-Stops-read_middle : tie.Need-returns-in-Stops-read_middle
+unfolding fields record_read_of
+returns-in-Stops-read_middle c =
+    let d = c.before.before in
+    let w = d.before.before in
+    rw (c.no_record-in-Stops-read_middle.ensures, run_then, got-front w, run_then, hashed d, ← d.read_middle.ensures, c.in-Stops-read_middle.is)
+
+class_name-requires : tie.Need-class_name-requires
+class_name-requires c κs = in-middle c
+
+enum_known-name : tie.Need-enum_known-name
+enum_known-name c = search rules
+
+read_from_ref_count-requires : tie.Need-read_from_ref_count-requires
+read_from_ref_count-requires c κs =
+    let w = c in
     (in-name w, (start (front_of (middle_of w))).requires.1)
 
-enum-known-w-3 : tie.Need-enum-known-w-3
-enum-known-w-3 c = search rules
+enum_known-w-in-Stops-class_name : tie.Need-enum_known-w-in-Stops-class_name
+enum_known-w-in-Stops-class_name c = search rules
 
-no-record-requires-3 : tie.Need-no-record-requires-3
-no-record-requires-3 c κs = search rules
+no_record-requires-in-Stops-class_name : tie.Need-no_record-requires-in-Stops-class_name
+no_record-requires-in-Stops-class_name c κs = search rules
 
-returns-3 : tie.Need-returns-3
+returns-in-Is-class_name : tie.Need-returns-in-Is-class_name
 unfolding fields record_read_of
-returns-3 c =
-    let w = c.before.before in
-    rw (c.read-from-ref-count.ensures, run_then, got-front (front_of (middle_of w)), run_then, got-middle (middle_of w), run_then, got-name w)
+returns-in-Is-class_name c =
+    let w = c.before in
+    rw (c.read_from_ref_count.ensures, run_then, got-front (front_of (middle_of w)), run_then, got-middle (middle_of w), run_then, got-name w)
 
-returns-4 : tie.Need-returns-4
+returns-in-Stops-class_name : tie.Need-returns-in-Stops-class_name
 unfolding fields record_read_of
-returns-4 c =
-    let d = c.before.before.before.before in
-    let w = d.before.before in
-    rw (c.no-record3.ensures, run_then, got-front (front_of w), run_then, got-middle w, run_then, ← d.class_name.ensures, c.before.before.w3.given.1)
+returns-in-Stops-class_name c =
+    let d = c.before.before in
+    let w = d.before in
+    rw (c.no_record-in-Stops-class_name.ensures, run_then, got-front (front_of w), run_then, got-middle w, run_then, ← d.class_name.ensures, c.in-Stops-class_name.is)
 
-pub read-fields-spec : {M : Type 1} → statement M
-read-fields-spec =
+pub read_fields_spec : {M : Type 1} → statement M
+read_fields_spec =
     tie.close
     (tie.spec
-    read-front-requires
-    enum-known-f
-    enum-known-w
-    no-record-requires
-    returns
-    hash-bytes-of-requires
-    read-middle-requires
-    enum-known-q
-    enum-known-w-2
-    no-record-requires-2
-    returns-2
-    class-name-requires
-    enum-known-name
-    read-from-ref-count-requires
-    enum-known-w-3
-    no-record-requires-3
-    returns-3
-    returns-4)
+    read_front-requires
+    enum_known-f
+    enum_known-w
+    no_record-requires
+    returns-in-Stops
+    hash_bytes_of-hb-requires
+    read_middle-requires
+    enum_known-q
+    enum_known-w-in-Stops-read_middle
+    no_record-requires-in-Stops-read_middle
+    returns-in-Stops-read_middle
+    class_name-requires
+    enum_known-name
+    read_from_ref_count-requires
+    enum_known-w-in-Stops-class_name
+    no_record-requires-in-Stops-class_name
+    returns-in-Is-class_name
+    returns-in-Stops-class_name)

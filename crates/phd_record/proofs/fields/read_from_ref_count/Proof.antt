@@ -16,135 +16,135 @@ use Rattle.phd_record.proofs.fields.read_from_ref_count.Statement.{statement}
 use Rattle.phd_record.proofs.fields.read_from_ref_count.Tie as tie
 
 -- The reference count was read.
-abbrev start : tie.After-k → tie.Start
-start c = c.before.before.before.before
+abbrev start : tie.In-Is → tie.Start
+start c = c.before.before.before
 
-module _ (c : tie.After-k) where
+module _ (c : tie.In-Is) where
   got-count : let a = (start c).args in
-      run (ref_count a.sh.countwidth a.sh.count) a.s.now a.at ≡ whole c.k.given.0.0 c.k.given.0.1.0
-  got-count = sym c.before.before.ref_count.ensures ∙ ap outcome c.k.given.1
+      run (ref_count a.sh.countwidth a.sh.count) a.s.now a.at ≡ whole c.in-Is.k c.in-Is.p
+  got-count = sym c.ref_count.ensures ∙ ap outcome c.in-Is.is
 
-  in_count : let a = (start c).args in c.k.given.0.1.0 ≤ length a.s.now
+  in_count : let a = (start c).args in c.in-Is.p ≤ length a.s.now
   in_count = let a = (start c).args in end_in_bounds (ref_count a.sh.countwidth a.sh.count) a.s.now a.at _ _ (omega arith) got-count
 
 -- Reading stops in the references.
-refs-stop : (c : tie.After-check-refs) (w : Stop) → c.check-refs.result ≡ Stops w → let k = c.before.before in let a = (start k).args in
-    run (ref_list a.sh.refwidth a.v.address a.top k.k.given.0.0) a.s.now k.k.given.0.1.0 ≡ stops w
-refs-stop c w e = refs_read_stops _ _ (sym c.check-refs.ensures ∙ e)
+refs-stop : (c : tie.After-check_refs) (w : Stop) → c.check_refs.result ≡ Stops w → let k = c.before in let a = (start k).args in
+    run (ref_list a.sh.refwidth a.v.address a.top k.in-Is.k) a.s.now k.in-Is.p ≡ stops w
+refs-stop c w e = refs_read_stops _ _ (sym c.check_refs.ensures ∙ e)
 
 -- The references were read, with values that the code does not keep.
-abbrev count_of : tie.After-e → tie.After-k
-count_of c = c.before.before.before.before
+abbrev count_of : tie.In-Is-check_refs → tie.In-Is
+count_of c = c.before.before
 
-module _ (c : tie.After-e) where
+module _ (c : tie.In-Is-check_refs) where
   refs : let k = count_of c in let a = (start k).args in
-      (rs : List ℕ) × (run (ref_list a.sh.refwidth a.v.address a.top k.k.given.0.0) a.s.now k.k.given.0.1.0 ≡ whole rs c.e.given.0.0)
-  refs = refs_read_whole _ _ (sym c.before.before.check-refs.ensures ∙ c.e.given.1)
+      (rs : List ℕ) × (run (ref_list a.sh.refwidth a.v.address a.top k.in-Is.k) a.s.now k.in-Is.p ≡ whole rs c.in-Is-check_refs.e)
+  refs = refs_read_whole _ _ (sym c.check_refs.ensures ∙ c.in-Is-check_refs.is)
 
   got-refs : let k = count_of c in let a = (start k).args in
-      run (spanned_refs a.sh.refwidth a.v.address a.top k.k.given.0.0) a.s.now k.k.given.0.1.0
-      ≡ whole (record { span = record { place = k.k.given.0.1.0; width = a.sh.refwidth; count = k.k.given.0.0 }; list = refs.0 }) c.e.given.0.0
+      run (spanned_refs a.sh.refwidth a.v.address a.top k.in-Is.k) a.s.now k.in-Is.p
+      ≡ whole (record { span = record { place = k.in-Is.p; width = a.sh.refwidth; count = k.in-Is.k }; list = refs.0 }) c.in-Is-check_refs.e
   unfolding spanned_refs
   got-refs = rw (run_then, run_position, run_then, refs.1, run_yield)
 
-  in-refs : let a = (start (count_of c)).args in c.e.given.0.0 ≤ length a.s.now
+  in-refs : let a = (start (count_of c)).args in c.in-Is-check_refs.e ≤ length a.s.now
   in-refs =
       let k = count_of c in
       let a = (start k).args in
-      end_in_bounds (spanned_refs a.sh.refwidth a.v.address a.top k.k.given.0.0) a.s.now k.k.given.0.1.0 _ _ (in_count k) got-refs
+      end_in_bounds (spanned_refs a.sh.refwidth a.v.address a.top k.in-Is.k) a.s.now k.in-Is.p _ _ (in_count k) got-refs
 
 -- The tail was read.
-abbrev refs-at : tie.After-t → tie.After-e
-refs-at c = c.before.before.before.before
+abbrev refs-at : tie.In-Is-read_tail → tie.In-Is-check_refs
+refs-at c = c.before.before
 
-module _ (c : tie.After-t) where
+module _ (c : tie.In-Is-read_tail) where
   got-tail : let a = (start (count_of (refs-at c))).args in
-      run (tail a.sh.size a.sh.truelen (count_of (refs-at c)).k.given.0.0) a.s.now (refs-at c).e.given.0.0 ≡ whole c.t.given.0.0 c.t.given.0.1.0
-  got-tail = sym c.before.before.read-tail.ensures ∙ ap tail_outcome c.t.given.1
+      run (tail a.sh.size a.sh.truelen (count_of (refs-at c)).in-Is.k) a.s.now (refs-at c).in-Is-check_refs.e ≡ whole c.in-Is-read_tail.t c.in-Is-read_tail.next
+  got-tail = sym c.read_tail.ensures ∙ ap tail_outcome c.in-Is-read_tail.is
 
-ref-count-requires : tie.Need-ref-count-requires
-ref-count-requires c κs = search rules
+ref_count-requires : tie.Need-ref_count-requires
+ref_count-requires c κs = search rules
 
-enum-known-k : tie.Need-enum-known-k
-enum-known-k c = search rules
+enum_known-k : tie.Need-enum_known-k
+enum_known-k c = search rules
 
-enum-known-w : tie.Need-enum-known-w
-enum-known-w c = search rules
+enum_known-w : tie.Need-enum_known-w
+enum_known-w c = search rules
 
-no-record-requires : tie.Need-no-record-requires
-no-record-requires c κs = search rules
+no_record-requires : tie.Need-no_record-requires
+no_record-requires c κs = search rules
 
-returns : tie.Need-returns
+returns-in-Stops : tie.Need-returns-in-Stops
 unfolding from_ref_count record_read_of
-returns c =
-    let d = c.before.before.before.before in
-    rw (c.no_record.ensures, run_then, ← d.ref_count.ensures, c.before.before.w.given.1)
+returns-in-Stops c =
+    let d = c.before.before in
+    rw (c.no_record.ensures, run_then, ← d.ref_count.ensures, c.in-Stops.is)
 
-check-refs-requires : tie.Need-check-refs-requires
-check-refs-requires c κs = (in_count c.before, omega arith)
+check_refs-requires : tie.Need-check_refs-requires
+check_refs-requires c κs = (in_count c, omega arith)
 
-enum-known-e : tie.Need-enum-known-e
-enum-known-e c = search rules
+enum_known-e : tie.Need-enum_known-e
+enum_known-e c = search rules
 
-enum-known-w-2 : tie.Need-enum-known-w-2
-enum-known-w-2 c = search rules
+enum_known-w-in-Stops-check_refs : tie.Need-enum_known-w-in-Stops-check_refs
+enum_known-w-in-Stops-check_refs c = search rules
 
-no-record-requires-2 : tie.Need-no-record-requires-2
-no-record-requires-2 c κs = search rules
+no_record-requires-in-Stops-check_refs : tie.Need-no_record-requires-in-Stops-check_refs
+no_record-requires-in-Stops-check_refs c κs = search rules
 
-returns-2 : tie.Need-returns-2
+returns-in-Stops-check_refs : tie.Need-returns-in-Stops-check_refs
 unfolding from_ref_count spanned_refs record_read_of
-returns-2 c =
-    let d = c.before.before.before.before in
-    let w = d.before.before in
-    rw (c.no-record2.ensures, run_then, got-count w, run_then, run_then, run_position, run_then, refs-stop d _ c.before.before.w2.given.1)
+returns-in-Stops-check_refs c =
+    let d = c.before.before in
+    let w = d.before in
+    rw (c.no_record-in-Stops-check_refs.ensures, run_then, got-count w, run_then, run_then, run_position, run_then, refs-stop d _ c.in-Stops-check_refs.is)
 
-read-tail-requires : tie.Need-read-tail-requires
-read-tail-requires c κs = (in-refs c.before, omega arith, omega arith)
+read_tail-requires : tie.Need-read_tail-requires
+read_tail-requires c κs = (in-refs c, omega arith, omega arith)
 
-enum-known-t : tie.Need-enum-known-t
-enum-known-t c = search rules
+enum_known-t : tie.Need-enum_known-t
+enum_known-t c = search rules
 
-make-record-requires : tie.Need-make-record-requires
-make-record-requires c κs = search rules
+make_record-requires : tie.Need-make_record-requires
+make_record-requires c κs = search rules
 
-enum-known-w-3 : tie.Need-enum-known-w-3
-enum-known-w-3 c = search rules
+enum_known-w-in-Stops-read_tail : tie.Need-enum_known-w-in-Stops-read_tail
+enum_known-w-in-Stops-read_tail c = search rules
 
-no-record-requires-3 : tie.Need-no-record-requires-3
-no-record-requires-3 c κs = search rules
+no_record-requires-in-Stops-read_tail : tie.Need-no_record-requires-in-Stops-read_tail
+no_record-requires-in-Stops-read_tail c κs = search rules
 
-returns-3 : tie.Need-returns-3
+returns-in-Is-read_tail : tie.Need-returns-in-Is-read_tail
 unfolding from_ref_count record_read_of make_record
-returns-3 c =
-    let w = c.before.before in
+returns-in-Is-read_tail c =
+    let w = c.before in
     rw (c.make_record.ensures, run_then, got-count (count_of (refs-at w)), run_then, got-refs (refs-at w), run_then, got-tail w, run_yield)
 
-returns-4 : tie.Need-returns-4
+returns-in-Stops-read_tail : tie.Need-returns-in-Stops-read_tail
 unfolding from_ref_count record_read_of
-returns-4 c =
-    let d = c.before.before.before.before in
-    let w = d.before.before in
-    rw (c.no-record3.ensures, run_then, got-count (count_of w), run_then, got-refs w, run_then, ← d.read-tail.ensures, c.before.before.w3.given.1)
+returns-in-Stops-read_tail c =
+    let d = c.before.before in
+    let w = d.before in
+    rw (c.no_record-in-Stops-read_tail.ensures, run_then, got-count (count_of w), run_then, got-refs w, run_then, ← d.read_tail.ensures, c.in-Stops-read_tail.is)
 
-pub read-from-ref-count-spec : {M : Type 1} → statement M
-read-from-ref-count-spec =
+pub read_from_ref_count_spec : {M : Type 1} → statement M
+read_from_ref_count_spec =
     tie.close
     (tie.spec
-    ref-count-requires
-    enum-known-k
-    enum-known-w
-    no-record-requires
-    returns
-    check-refs-requires
-    enum-known-e
-    enum-known-w-2
-    no-record-requires-2
-    returns-2
-    read-tail-requires
-    enum-known-t
-    make-record-requires
-    enum-known-w-3
-    no-record-requires-3
-    returns-3
-    returns-4)
+    ref_count-requires
+    enum_known-k
+    enum_known-w
+    no_record-requires
+    returns-in-Stops
+    check_refs-requires
+    enum_known-e
+    enum_known-w-in-Stops-check_refs
+    no_record-requires-in-Stops-check_refs
+    returns-in-Stops-check_refs
+    read_tail-requires
+    enum_known-t
+    make_record-requires
+    enum_known-w-in-Stops-read_tail
+    no_record-requires-in-Stops-read_tail
+    returns-in-Is-read_tail
+    returns-in-Stops-read_tail)

@@ -4,22 +4,22 @@ use Rattle.phd.specs.Phd.{row}
 use Rattle.phd_record.proofs.parts.make_row.Statement.{statement}
 use Rattle.phd_record.proofs.parts.make_row.Tie as tie
 
-field-or-requires : tie.Need-field-or-requires
-field-or-requires c κs = search rules
+field_or-upper-requires : tie.Need-field_or-upper-requires
+field_or-upper-requires c κs = search rules
 
-field-or-requires-2 : tie.Need-field-or-requires-2
-field-or-requires-2 c κs = search rules
+field_or-class-requires : tie.Need-field_or-class-requires
+field_or-class-requires c κs = search rules
 
-field-or-requires-3 : tie.Need-field-or-requires-3
-field-or-requires-3 c κs = search rules
+field_or-size-requires : tie.Need-field_or-size-requires
+field_or-size-requires c κs = search rules
 
-field-or-requires-4 : tie.Need-field-or-requires-4
-field-or-requires-4 c κs = search rules
+field_or-len-requires : tie.Need-field_or-len-requires
+field_or-len-requires c κs = search rules
 
 returns : tie.Need-returns
 unfolding row
-returns c = rw (c.field-or4.ensures, c.before.field-or3.ensures, c.before.before.field-or2.ensures, c.before.before.before.field_or.ensures)
+returns c = rw (c.field_or-len.ensures, c.field_or-size.ensures, c.field_or-class.ensures, c.field_or-upper.ensures)
 
-pub make-row-spec : {M : Type 1} → statement M
-make-row-spec =
-    tie.close (tie.spec field-or-requires field-or-requires-2 field-or-requires-3 field-or-requires-4 returns)
+pub make_row_spec : {M : Type 1} → statement M
+make_row_spec =
+    tie.close (tie.spec field_or-upper-requires field_or-class-requires field_or-size-requires field_or-len-requires returns)

@@ -11,105 +11,105 @@ use Rattle.phd_record.proofs.parts.read_front.Statement.{statement}
 use Rattle.phd_record.proofs.parts.read_front.Tie as tie
 
 -- The gap was read.
-abbrev start : tie.After-a → tie.Start
-start c = c.before.before.before.before
+abbrev start : tie.In-Is → tie.Start
+start c = c.before.before.before
 
-module _ (c : tie.After-a) where
+module _ (c : tie.In-Is) where
   got-address : let a = (start c).args in
-      run (address a.sh.gap a.before a.top) a.s.now a.at ≡ whole c.a.given.0.0 c.a.given.0.1.0
-  got-address = sym c.before.before.address.ensures ∙ ap outcome c.a.given.1
+      run (address a.sh.gap a.before a.top) a.s.now a.at ≡ whole c.in-Is.a c.in-Is.n
+  got-address = sym c.address.ensures ∙ ap outcome c.in-Is.is
 
-  in-address : let a = (start c).args in c.a.given.0.1.0 ≤ length a.s.now
+  in-address : let a = (start c).args in c.in-Is.n ≤ length a.s.now
   in-address = let a = (start c).args in end_in_bounds (address a.sh.gap a.before a.top) a.s.now a.at _ _ (omega arith) got-address
 
 -- The class word was read.
-abbrev address-of : tie.After-c → tie.After-a
-address-of c = c.before.before.before.before
+abbrev address-of : tie.In-Is-field → tie.In-Is
+address-of c = c.before.before
 
-module _ (c : tie.After-c) where
+module _ (c : tie.In-Is-field) where
   got-class : let a = (start (address-of c)).args in
-      run (field a.sh.class) a.s.now (address-of c).a.given.0.1.0 ≡ whole c.c.given.0.0 c.c.given.0.1.0
-  got-class = sym c.before.before.field.ensures.0 ∙ ap outcome c.c.given.1
+      run (field a.sh.class) a.s.now (address-of c).in-Is.n ≡ whole c.in-Is-field.c c.in-Is-field.n
+  got-class = sym c.field.ensures.0 ∙ ap outcome c.in-Is-field.is
 
-  in-class : let a = (start (address-of c)).args in c.c.given.0.1.0 ≤ length a.s.now
-  in-class = let a = (start (address-of c)).args in end_in_bounds (field a.sh.class) a.s.now (address-of c).a.given.0.1.0 _ _ (in-address (address-of c)) got-class
+  in-class : let a = (start (address-of c)).args in c.in-Is-field.n ≤ length a.s.now
+  in-class = let a = (start (address-of c)).args in end_in_bounds (field a.sh.class) a.s.now (address-of c).in-Is.n _ _ (in-address (address-of c)) got-class
 
 -- The array length was read.
-abbrev class_at : tie.After-len → tie.After-c
-class_at c = c.before.before.before.before
+abbrev class_at : tie.In-Is-count → tie.In-Is-field
+class_at c = c.before.before
 
-module _ (c : tie.After-len) where
+module _ (c : tie.In-Is-count) where
   got-len : let a = (start (address-of (class_at c))).args in
-      run (count a.sh.len) a.s.now (class_at c).c.given.0.1.0 ≡ whole c.len.given.0.0 c.len.given.0.1.0
-  got-len = sym c.before.before.count.ensures ∙ ap outcome c.len.given.1
+      run (count a.sh.len) a.s.now (class_at c).in-Is-field.n ≡ whole c.in-Is-count.len c.in-Is-count.n
+  got-len = sym c.count.ensures ∙ ap outcome c.in-Is-count.is
 
 address-requires : tie.Need-address-requires
 address-requires c κs = search rules
 
-enum-known-a : tie.Need-enum-known-a
-enum-known-a c = search rules
+enum_known-a : tie.Need-enum_known-a
+enum_known-a c = search rules
 
-enum-known-w : tie.Need-enum-known-w
-enum-known-w c = search rules
+enum_known-w : tie.Need-enum_known-w
+enum_known-w c = search rules
 
-returns : tie.Need-returns
+returns-in-Stops : tie.Need-returns-in-Stops
 unfolding front
-returns c =
-    let d = c.before.before.before in
-    rw (run_then, ← d.address.ensures, c.before.w.given.1)
+returns-in-Stops c =
+    let d = c.before in
+    rw (run_then, ← d.address.ensures, c.in-Stops.is)
 
 field-requires : tie.Need-field-requires
-field-requires c κs = (omega arith, in-address c.before)
+field-requires c κs = (omega arith, in-address c)
 
-enum-known-c : tie.Need-enum-known-c
-enum-known-c c = search rules
+enum_known-c : tie.Need-enum_known-c
+enum_known-c c = search rules
 
-enum-known-w-2 : tie.Need-enum-known-w-2
-enum-known-w-2 c = search rules
+enum_known-w-in-Stops-field : tie.Need-enum_known-w-in-Stops-field
+enum_known-w-in-Stops-field c = search rules
 
-returns-2 : tie.Need-returns-2
+returns-in-Stops-field : tie.Need-returns-in-Stops-field
 unfolding front
-returns-2 c =
-    let d = c.before.before.before in
-    let w = d.before.before in
-    rw (run_then, got-address w, run_then, ← d.field.ensures.0, c.before.w2.given.1)
+returns-in-Stops-field c =
+    let d = c.before in
+    let w = d.before in
+    rw (run_then, got-address w, run_then, ← d.field.ensures.0, c.in-Stops-field.is)
 
 count-requires : tie.Need-count-requires
-count-requires c κs = (omega arith, in-class c.before)
+count-requires c κs = (omega arith, in-class c)
 
-enum-known-len : tie.Need-enum-known-len
-enum-known-len c = search rules
+enum_known-len : tie.Need-enum_known-len
+enum_known-len c = search rules
 
-enum-known-w-3 : tie.Need-enum-known-w-3
-enum-known-w-3 c = search rules
+enum_known-w-in-Stops-count : tie.Need-enum_known-w-in-Stops-count
+enum_known-w-in-Stops-count c = search rules
 
-returns-3 : tie.Need-returns-3
+returns-in-Is-count : tie.Need-returns-in-Is-count
 unfolding front
-returns-3 c =
-    let w = c.before in
+returns-in-Is-count c =
+    let w = c in
     rw (run_then, got-address (address-of (class_at w)), run_then, got-class (class_at w), run_then, got-len w, run_yield)
 
-returns-4 : tie.Need-returns-4
+returns-in-Stops-count : tie.Need-returns-in-Stops-count
 unfolding front
-returns-4 c =
-    let d = c.before.before.before in
-    let w = d.before.before in
-    rw (run_then, got-address (address-of w), run_then, got-class w, run_then, ← d.count.ensures, c.before.w3.given.1)
+returns-in-Stops-count c =
+    let d = c.before in
+    let w = d.before in
+    rw (run_then, got-address (address-of w), run_then, got-class w, run_then, ← d.count.ensures, c.in-Stops-count.is)
 
-pub read-front-spec : {M : Type 1} → statement M
-read-front-spec =
+pub read_front_spec : {M : Type 1} → statement M
+read_front_spec =
     tie.close
     (tie.spec
     address-requires
-    enum-known-a
-    enum-known-w
-    returns
+    enum_known-a
+    enum_known-w
+    returns-in-Stops
     field-requires
-    enum-known-c
-    enum-known-w-2
-    returns-2
+    enum_known-c
+    enum_known-w-in-Stops-field
+    returns-in-Stops-field
     count-requires
-    enum-known-len
-    enum-known-w-3
-    returns-3
-    returns-4)
+    enum_known-len
+    enum_known-w-in-Stops-count
+    returns-in-Is-count
+    returns-in-Stops-count)

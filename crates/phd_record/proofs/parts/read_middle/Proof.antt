@@ -11,105 +11,105 @@ use Rattle.phd_record.proofs.parts.read_middle.Statement.{statement}
 use Rattle.phd_record.proofs.parts.read_middle.Tie as tie
 
 -- The instance size was read.
-abbrev start : tie.After-i → tie.Start
-start c = c.before.before.before.before
+abbrev start : tie.In-Is → tie.Start
+start c = c.before.before.before
 
-module _ (c : tie.After-i) where
+module _ (c : tie.In-Is) where
   got-inst : let a = (start c).args in
-      run (count a.sh.inst) a.s.now a.at ≡ whole c.i.given.0.0 c.i.given.0.1.0
-  got-inst = sym c.before.before.count.ensures ∙ ap outcome c.i.given.1
+      run (count a.sh.inst) a.s.now a.at ≡ whole c.in-Is.i c.in-Is.n
+  got-inst = sym c.count.ensures ∙ ap outcome c.in-Is.is
 
-  in-inst : let a = (start c).args in c.i.given.0.1.0 ≤ length a.s.now
+  in-inst : let a = (start c).args in c.in-Is.n ≤ length a.s.now
   in-inst = let a = (start c).args in end_in_bounds (count a.sh.inst) a.s.now a.at _ _ (omega arith) got-inst
 
 -- The hash was read.
-abbrev inst-of : tie.After-h → tie.After-i
-inst-of c = c.before.before.before.before
+abbrev inst-of : tie.In-Is-field → tie.In-Is
+inst-of c = c.before.before
 
-module _ (c : tie.After-h) where
+module _ (c : tie.In-Is-field) where
   got-hash : let a = (start (inst-of c)).args in
-      run (field a.hb) a.s.now (inst-of c).i.given.0.1.0 ≡ whole c.h.given.0.0 c.h.given.0.1.0
-  got-hash = sym c.before.before.field.ensures.0 ∙ ap outcome c.h.given.1
+      run (field a.hb) a.s.now (inst-of c).in-Is.n ≡ whole c.in-Is-field.h c.in-Is-field.n
+  got-hash = sym c.field.ensures.0 ∙ ap outcome c.in-Is-field.is
 
-  in-hash : let a = (start (inst-of c)).args in c.h.given.0.1.0 ≤ length a.s.now
-  in-hash = let a = (start (inst-of c)).args in end_in_bounds (field a.hb) a.s.now (inst-of c).i.given.0.1.0 _ _ (in-inst (inst-of c)) got-hash
+  in-hash : let a = (start (inst-of c)).args in c.in-Is-field.n ≤ length a.s.now
+  in-hash = let a = (start (inst-of c)).args in end_in_bounds (field a.hb) a.s.now (inst-of c).in-Is.n _ _ (in-inst (inst-of c)) got-hash
 
 -- The superclass word was read.
-abbrev hash-of : tie.After-superclass → tie.After-h
-hash-of c = c.before.before.before.before
+abbrev hash-of : tie.In-Is-field-2 → tie.In-Is-field
+hash-of c = c.before.before
 
-module _ (c : tie.After-superclass) where
+module _ (c : tie.In-Is-field-2) where
   got-superclass : let a = (start (inst-of (hash-of c))).args in
-      run (field a.sh.superclass) a.s.now (hash-of c).h.given.0.1.0 ≡ whole c.superclass.given.0.0 c.superclass.given.0.1.0
-  got-superclass = sym c.before.before.field2.ensures.0 ∙ ap outcome c.superclass.given.1
+      run (field a.sh.superclass) a.s.now (hash-of c).in-Is-field.n ≡ whole c.in-Is-field-2.superclass c.in-Is-field-2.n
+  got-superclass = sym c.field-2.ensures.0 ∙ ap outcome c.in-Is-field-2.is
 
 count-requires : tie.Need-count-requires
 count-requires c κs = search rules
 
-enum-known-i : tie.Need-enum-known-i
-enum-known-i c = search rules
+enum_known-i : tie.Need-enum_known-i
+enum_known-i c = search rules
 
-enum-known-w : tie.Need-enum-known-w
-enum-known-w c = search rules
+enum_known-w : tie.Need-enum_known-w
+enum_known-w c = search rules
 
-returns : tie.Need-returns
+returns-in-Stops : tie.Need-returns-in-Stops
 unfolding middle
-returns c =
-    let d = c.before.before.before in
-    rw (run_then, ← d.count.ensures, c.before.w.given.1)
+returns-in-Stops c =
+    let d = c.before in
+    rw (run_then, ← d.count.ensures, c.in-Stops.is)
 
 field-requires : tie.Need-field-requires
-field-requires c κs = (omega arith, in-inst c.before)
+field-requires c κs = (omega arith, in-inst c)
 
-enum-known-h : tie.Need-enum-known-h
-enum-known-h c = search rules
+enum_known-h : tie.Need-enum_known-h
+enum_known-h c = search rules
 
-enum-known-w-2 : tie.Need-enum-known-w-2
-enum-known-w-2 c = search rules
+enum_known-w-in-Stops-field : tie.Need-enum_known-w-in-Stops-field
+enum_known-w-in-Stops-field c = search rules
 
-returns-2 : tie.Need-returns-2
+returns-in-Stops-field : tie.Need-returns-in-Stops-field
 unfolding middle
-returns-2 c =
-    let d = c.before.before.before in
-    let w = d.before.before in
-    rw (run_then, got-inst w, run_then, ← d.field.ensures.0, c.before.w2.given.1)
+returns-in-Stops-field c =
+    let d = c.before in
+    let w = d.before in
+    rw (run_then, got-inst w, run_then, ← d.field.ensures.0, c.in-Stops-field.is)
 
 field-requires-2 : tie.Need-field-requires-2
-field-requires-2 c κs = (omega arith, in-hash c.before)
+field-requires-2 c κs = (omega arith, in-hash c)
 
-enum-known-superclass : tie.Need-enum-known-superclass
-enum-known-superclass c = search rules
+enum_known-superclass : tie.Need-enum_known-superclass
+enum_known-superclass c = search rules
 
-enum-known-w-3 : tie.Need-enum-known-w-3
-enum-known-w-3 c = search rules
+enum_known-w-in-Stops-field-2 : tie.Need-enum_known-w-in-Stops-field-2
+enum_known-w-in-Stops-field-2 c = search rules
 
-returns-3 : tie.Need-returns-3
+returns-in-Is-field-2 : tie.Need-returns-in-Is-field-2
 unfolding middle
-returns-3 c =
-    let w = c.before in
+returns-in-Is-field-2 c =
+    let w = c in
     rw (run_then, got-inst (inst-of (hash-of w)), run_then, got-hash (hash-of w), run_then, got-superclass w, run_yield)
 
-returns-4 : tie.Need-returns-4
+returns-in-Stops-field-2 : tie.Need-returns-in-Stops-field-2
 unfolding middle
-returns-4 c =
-    let d = c.before.before.before in
-    let w = d.before.before in
-    rw (run_then, got-inst (inst-of w), run_then, got-hash w, run_then, ← d.field2.ensures.0, c.before.w3.given.1)
+returns-in-Stops-field-2 c =
+    let d = c.before in
+    let w = d.before in
+    rw (run_then, got-inst (inst-of w), run_then, got-hash w, run_then, ← d.field-2.ensures.0, c.in-Stops-field-2.is)
 
-pub read-middle-spec : {M : Type 1} → statement M
-read-middle-spec =
+pub read_middle_spec : {M : Type 1} → statement M
+read_middle_spec =
     tie.close
     (tie.spec
     count-requires
-    enum-known-i
-    enum-known-w
-    returns
+    enum_known-i
+    enum_known-w
+    returns-in-Stops
     field-requires
-    enum-known-h
-    enum-known-w-2
-    returns-2
+    enum_known-h
+    enum_known-w-in-Stops-field
+    returns-in-Stops-field
     field-requires-2
-    enum-known-superclass
-    enum-known-w-3
-    returns-3
-    returns-4)
+    enum_known-superclass
+    enum_known-w-in-Stops-field-2
+    returns-in-Is-field-2
+    returns-in-Stops-field-2)

@@ -11,73 +11,73 @@ use Rattle.phd_record.proofs.parts.read_tail.Statement.{statement}
 use Rattle.phd_record.proofs.parts.read_tail.Tie as tie
 
 -- The size was read.
-abbrev start : tie.After-v → tie.Start
-start c = c.before.before.before.before
+abbrev start : tie.In-Is → tie.Start
+start c = c.before.before.before
 
-module _ (c : tie.After-v) where
+module _ (c : tie.In-Is) where
   got-size : let a = (start c).args in
-      run (field a.size) a.s.now a.at ≡ whole c.v.given.0.0 c.v.given.0.1.0
-  got-size = sym c.before.before.field.ensures.0 ∙ ap outcome c.v.given.1
+      run (field a.size) a.s.now a.at ≡ whole c.in-Is.v c.in-Is.n
+  got-size = sym c.field.ensures.0 ∙ ap outcome c.in-Is.is
 
-  in_size : let a = (start c).args in c.v.given.0.1.0 ≤ length a.s.now
+  in_size : let a = (start c).args in c.in-Is.n ≤ length a.s.now
   in_size = let a = (start c).args in end_in_bounds (field a.size) a.s.now a.at _ _ (omega arith) got-size
 
 -- The true length was read.
-abbrev size_of : tie.After-t → tie.After-v
-size_of c = c.before.before.before.before
+abbrev size_of : tie.In-Is-true_length → tie.In-Is
+size_of c = c.before.before
 
-module _ (c : tie.After-t) where
+module _ (c : tie.In-Is-true_length) where
   got-truelen : let a = (start (size_of c)).args in
-      run (true_length a.truelen a.count) a.s.now (size_of c).v.given.0.1.0 ≡ whole c.t.given.0.0 c.t.given.0.1.0
-  got-truelen = sym c.before.before.true_length.ensures ∙ ap outcome c.t.given.1
+      run (true_length a.truelen a.count) a.s.now (size_of c).in-Is.n ≡ whole c.in-Is-true_length.t c.in-Is-true_length.n
+  got-truelen = sym c.true_length.ensures ∙ ap outcome c.in-Is-true_length.is
 
 field-requires : tie.Need-field-requires
 field-requires c κs = search rules
 
-enum-known-v : tie.Need-enum-known-v
-enum-known-v c = search rules
+enum_known-v : tie.Need-enum_known-v
+enum_known-v c = search rules
 
-enum-known-w : tie.Need-enum-known-w
-enum-known-w c = search rules
+enum_known-w : tie.Need-enum_known-w
+enum_known-w c = search rules
 
-returns : tie.Need-returns
+returns-in-Stops : tie.Need-returns-in-Stops
 unfolding tail
-returns c =
-    let d = c.before.before.before in
-    rw (run_then, ← d.field.ensures.0, c.before.w.given.1)
+returns-in-Stops c =
+    let d = c.before in
+    rw (run_then, ← d.field.ensures.0, c.in-Stops.is)
 
-true-length-requires : tie.Need-true-length-requires
-true-length-requires c κs = (in_size c.before, omega arith)
+true_length-requires : tie.Need-true_length-requires
+true_length-requires c κs = (in_size c, omega arith)
 
-enum-known-t : tie.Need-enum-known-t
-enum-known-t c = search rules
+enum_known-t : tie.Need-enum_known-t
+enum_known-t c = search rules
 
-enum-known-w-2 : tie.Need-enum-known-w-2
-enum-known-w-2 c = search rules
+enum_known-w-in-Stops-true_length : tie.Need-enum_known-w-in-Stops-true_length
+enum_known-w-in-Stops-true_length c = search rules
 
-returns-2 : tie.Need-returns-2
+returns-in-Is-true_length : tie.Need-returns-in-Is-true_length
 unfolding tail
-returns-2 c =
-    let w = c.before in
+returns-in-Is-true_length c =
+    let w = c in
     rw (run_then, got-size (size_of w), run_then, got-truelen w, run_yield)
 
-returns-3 : tie.Need-returns-3
+returns-in-Stops-true_length : tie.Need-returns-in-Stops-true_length
 unfolding tail
-returns-3 c =
-    let d = c.before.before.before in
-    let w = d.before.before in
-    rw (run_then, got-size w, run_then, ← d.true_length.ensures, c.before.w2.given.1)
+returns-in-Stops-true_length c =
+    let d = c.before in
+    let w = d.before in
+    rw (run_then, got-size w, run_then, ← d.true_length.ensures, c.in-Stops-true_length.is)
 
-pub read-tail-spec : {M : Type 1} → statement M
-read-tail-spec =
+pub read_tail_spec : {M : Type 1} → statement M
+read_tail_spec =
     tie.close
     (tie.spec
     field-requires
-    enum-known-v
-    enum-known-w
-    returns
-    true-length-requires
-    enum-known-t
-    enum-known-w-2
-    returns-2
-    returns-3)
+    enum_known-v
+    enum_known-w
+    returns-in-Stops
+    true_length-requires
+    enum_known-t
+    enum_known-w-in-Stops-true_length
+    returns-in-Is-true_length
+    returns-in-Stops-true_length)

@@ -8,40 +8,40 @@ use Rattle.phd.specs.Phd.{true_length}
 use Rattle.phd_record.proofs.parts.true_length.Statement.{statement}
 use Rattle.phd_record.proofs.parts.true_length.Tie as tie
 
-module _ (c : tie.After-t) where
-  got : let a = c.before.before.before.before.before.args in
-      run (count a.w) a.s.now a.at ≡ whole c.t.given.0.0 c.t.given.0.1.0
-  got = sym c.before.before.count.ensures ∙ ap outcome c.t.given.1
+module _ (c : tie.In-Is) where
+  got : let a = c.args in
+      run (count a.w) a.s.now a.at ≡ whole c.in-Is.t c.in-Is.next
+  got = sym c.count.ensures ∙ ap outcome c.in-Is.is
 
-  absent : c.before.before.before.before.before.args.w ≡ 0 → ⊥
-  absent = c.before.before.before.if1.false
+  absent : c.args.w ≡ 0 → ⊥
+  absent = c.if-w-eq0.false
 
-returns : tie.Need-returns
+returns-then-w-eq0 : tie.Need-returns-then-w-eq0
 unfolding true_length
-returns c = rw (eq-eqb _ _ c.if1.true, run_yield)
+returns-then-w-eq0 c = rw (eq-eqb _ _ c.if-w-eq0.true, run_yield)
 
 count-requires : tie.Need-count-requires
 count-requires c κs = search rules
 
-enum-known-t : tie.Need-enum-known-t
-enum-known-t c = search rules
+enum_known-t : tie.Need-enum_known-t
+enum_known-t c = search rules
 
-returns-2 : tie.Need-returns-2
+returns-then-t-count : tie.Need-returns-then-t-count
 unfolding true_length
-returns-2 c = let w = c.before.before in rw (ne_eqb _ _ (absent w), run_then, got w, run_then, run_check, lt-leb _ _ c.if2.true)
+returns-then-t-count c = let w = c.before in rw (ne_eqb _ _ (absent w), run_then, got w, run_then, run_check, lt-leb _ _ c.if-t-count.true)
 
-enum-known-stop : tie.Need-enum-known-stop
-enum-known-stop c = search rules
+enum_known-stop : tie.Need-enum_known-stop
+enum_known-stop c = search rules
 
-returns-3 : tie.Need-returns-3
+returns-else-t-count : tie.Need-returns-else-t-count
 unfolding true_length
-returns-3 c = let w = c.before.before in rw (ne_eqb _ _ (absent w), run_then, got w, run_then, run_check, le-leb _ _ c.if2.false, run_yield)
+returns-else-t-count c = let w = c.before in rw (ne_eqb _ _ (absent w), run_then, got w, run_then, run_check, le-leb _ _ c.if-t-count.false, run_yield)
 
-returns-4 : tie.Need-returns-4
+returns-in-Stops : tie.Need-returns-in-Stops
 unfolding true_length
-returns-4 c = let d = c.before.before.before in rw (ne_eqb _ _ d.before.if1.false, run_then, ← d.count.ensures, c.before.stop.given.1)
+returns-in-Stops c = let d = c.before in rw (ne_eqb _ _ d.if-w-eq0.false, run_then, ← d.count.ensures, c.in-Stops.is)
 
-pub true-length-spec : {M : Type 1} → statement M
-true-length-spec =
+pub true_length_spec : {M : Type 1} → statement M
+true_length_spec =
     tie.close
-    (tie.spec returns count-requires enum-known-t returns-2 enum-known-stop returns-3 returns-4)
+    (tie.spec returns-then-w-eq0 count-requires enum_known-t returns-then-t-count enum_known-stop returns-else-t-count returns-in-Stops)

@@ -17,53 +17,53 @@ in_parts : (names : List ℕ) (h : Header) (flags : ℕ) → flags ≡ header_fl
 unfolding encode_header
 in_parts names h flags e = rw e
 
-abbrev start : tie.After-header-flags → tie.Start
+abbrev start : tie.After-header_flags → tie.Start
 start c = c.before.before.before.before
 
 -- The progress after the flags are computed and after each call.
-abbrev none : tie.After-header-flags → WriteProgress
+abbrev none : tie.After-header_flags → WriteProgress
 none c =
     let a = (start c).args in
     progress_start a.out.now 0 (parts a.names.now a.h c.header_flags.result) (in_parts a.names.now a.h _ c.header_flags.ensures) (start c).requires.1
 
-abbrev preamble : tie.After-encode-preamble → WriteProgress
-preamble c = progress_next (none c.before) c.encode_preamble.ensures
+abbrev preamble : tie.After-encode_preamble-vm → WriteProgress
+preamble c = progress_next (none c.before) c.encode_preamble-vm.ensures
 
-abbrev vm : tie.After-encode-vm → WriteProgress
-vm c = progress_next (preamble c.before.before.before.before) c.encode_vm.ensures
+abbrev vm : tie.After-encode_vm-end → WriteProgress
+vm c = progress_next (preamble c.before.before.before.before.before) c.encode_vm-end.ensures
 
-abbrev end : tie.After-encode-be → WriteProgress
-end c = progress_next (vm c.before.before.before.before) c.encode-be.ensures
+abbrev end : tie.After-encode_be-body → WriteProgress
+end c = progress_next (vm c.before.before.before.before) c.encode_be-body.ensures
 
-header-flags-requires : tie.Need-header-flags-requires
-header-flags-requires c κs = search rules
+header_flags-requires : tie.Need-header_flags-requires
+header_flags-requires c κs = search rules
 
-encode-preamble-requires : tie.Need-encode-preamble-requires
-encode-preamble-requires c κs = next_part_fits (none c)
+encode_preamble-vm-requires : tie.Need-encode_preamble-vm-requires
+encode_preamble-vm-requires c κs = next_part_fits (none c)
 
-encode-vm-requires : tie.Need-encode-vm-requires
-encode-vm-requires c κs = let p = c.before.before.before in ((start p.before).requires.0, next_part_fits (preamble p))
+encode_vm-end-requires : tie.Need-encode_vm-end-requires
+encode_vm-end-requires c κs = let p = c.before.before.before.before in ((start p.before).requires.0, next_part_fits (preamble p))
 
-encode-be-requires : tie.Need-encode-be-requires
-encode-be-requires c κs = next_part_fits (vm c.before.before.before)
+encode_be-body-requires : tie.Need-encode_be-body-requires
+encode_be-body-requires c κs = next_part_fits (vm c.before.before.before)
 
-encode-be-requires-2 : tie.Need-encode-be-requires-2
-encode-be-requires-2 c κs = next_part_fits (end c.before.before.before)
+encode_be-requires : tie.Need-encode_be-requires
+encode_be-requires c κs = next_part_fits (end c.before.before.before)
 
-same_length : tie.Need-same-length
-same_length c = search rules
+shape_of-out : tie.Need-shape_of-out
+shape_of-out c = search rules
 
 returns : tie.Need-returns
-returns c = let p = c.before.before in progress_done (progress_next (end p.before.before.before.before) p.encode-be2.ensures) refl
+returns c = let p = c.before.before in progress_done (progress_next (end p.before.before.before.before) p.encode_be.ensures) refl
 
-pub encode-header-spec : {M : Type 1} → statement M
-encode-header-spec =
+pub encode_header_spec : {M : Type 1} → statement M
+encode_header_spec =
     tie.close
     (tie.spec
-    header-flags-requires
-    encode-preamble-requires
-    encode-vm-requires
-    encode-be-requires
-    encode-be-requires-2
-    same_length
+    header_flags-requires
+    encode_preamble-vm-requires
+    encode_vm-end-requires
+    encode_be-body-requires
+    encode_be-requires
+    shape_of-out
     returns)

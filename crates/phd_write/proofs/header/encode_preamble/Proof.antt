@@ -22,58 +22,54 @@ in_parts flags = refl
 abbrev none : tie.Start → WriteProgress
 none c = progress_start c.args.out.now 0 (parts c.args.flags) (in_parts c.args.flags) c.requires
 
-abbrev len : tie.After-encode-be → WriteProgress
-len c = progress_next (none c.before.before.before) c.encode-be.ensures
+abbrev len : tie.After-encode_be-opening → WriteProgress
+len c = progress_next (none c.before.before.before) c.encode_be-opening.ensures
 
 -- The bytes written after the length are the opening string.
-opened : (c : tie.After-encode-bytes) → let p = len c.before.before.before.before.before in
-    Writes p.out p.at magic c.encode-bytes.new.0 c.encode-bytes.result
+opened : (c : tie.After-encode_bytes-version) → let p = len c.before.before.before.before.before.before in
+    Writes p.out p.at magic c.encode_bytes-version.new.out c.encode_bytes-version.result
 unfolding magic
-opened c = c.encode-bytes.ensures
+opened c = c.encode_bytes-version.ensures
 
-abbrev text : tie.After-encode-bytes → WriteProgress
-text c = progress_next (len c.before.before.before.before.before) (opened c)
+abbrev text : tie.After-encode_bytes-version → WriteProgress
+text c = progress_next (len c.before.before.before.before.before.before) (opened c)
 
-abbrev version : tie.After-encode-be2 → WriteProgress
-version c = progress_next (text c.before.before.before.before) c.encode-be2.ensures
+abbrev version : tie.After-encode_be-bits → WriteProgress
+version c = progress_next (text c.before.before.before.before) c.encode_be-bits.ensures
 
-abbrev bits : tie.After-encode-be3 → WriteProgress
-bits c = progress_next (version c.before.before.before.before) c.encode-be3.ensures
+abbrev bits : tie.After-encode_be-one → WriteProgress
+bits c = progress_next (version c.before.before.before.before) c.encode_be-one.ensures
 
-encode-be-requires : tie.Need-encode-be-requires
-encode-be-requires c κs = next_part_fits (none c.before.before)
+encode_be-opening-requires : tie.Need-encode_be-opening-requires
+encode_be-opening-requires c κs = next_part_fits (none c.before.before)
 
-slice-aggregate-encode-bytes : tie.Need-slice-aggregate-encode-bytes
-slice-aggregate-encode-bytes c = search rules
-
-encode-bytes-requires : tie.Need-encode-bytes-requires
+encode_bytes-version-requires : tie.Need-encode_bytes-version-requires
 unfolding magic
-encode-bytes-requires c κs = next_part_fits (len c.before.before.before.before)
+encode_bytes-version-requires c κs = next_part_fits (len c.before.before.before.before.before)
 
-encode-be-requires-2 : tie.Need-encode-be-requires-2
-encode-be-requires-2 c κs = next_part_fits (text c.before.before.before)
+encode_be-bits-requires : tie.Need-encode_be-bits-requires
+encode_be-bits-requires c κs = next_part_fits (text c.before.before.before)
 
-encode-be-requires-3 : tie.Need-encode-be-requires-3
-encode-be-requires-3 c κs = next_part_fits (version c.before.before.before)
+encode_be-one-requires : tie.Need-encode_be-one-requires
+encode_be-one-requires c κs = next_part_fits (version c.before.before.before)
 
-encode-be-requires-4 : tie.Need-encode-be-requires-4
-encode-be-requires-4 c κs = next_part_fits (bits c.before.before.before)
+encode_be-requires : tie.Need-encode_be-requires
+encode_be-requires c κs = next_part_fits (bits c.before.before.before)
 
-same_length : tie.Need-same-length
-same_length c = search rules
+shape_of-out : tie.Need-shape_of-out
+shape_of-out c = search rules
 
 returns : tie.Need-returns
-returns c = let p = c.before.before in progress_done (progress_next (bits p.before.before.before.before) p.encode-be4.ensures) refl
+returns c = let p = c.before.before in progress_done (progress_next (bits p.before.before.before.before) p.encode_be.ensures) refl
 
-pub encode-preamble-spec : {M : Type 1} → statement M
-encode-preamble-spec =
+pub encode_preamble_spec : {M : Type 1} → statement M
+encode_preamble_spec =
     tie.close
     (tie.spec
-    encode-be-requires
-    slice-aggregate-encode-bytes
-    encode-bytes-requires
-    encode-be-requires-2
-    encode-be-requires-3
-    encode-be-requires-4
-    same_length
+    encode_be-opening-requires
+    encode_bytes-version-requires
+    encode_be-bits-requires
+    encode_be-one-requires
+    encode_be-requires
+    shape_of-out
     returns)

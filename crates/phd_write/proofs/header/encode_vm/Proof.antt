@@ -21,41 +21,41 @@ unfolding encode_vm
 in_parts names t e = rw e
 
 -- The progress before the tag, if there is a VM string, and after each call.
-abbrev none : tie.Then1 → WriteProgress
+abbrev none : tie.Then-vm → WriteProgress
 none c =
     let s = c.before.before.before in
     let a = s.args in
-    progress_start a.out.now a.at (parts a.names.now a.vm) (in_parts a.names.now a.vm c.if1.true) s.requires.1
+    progress_start a.out.now a.at (parts a.names.now a.vm) (in_parts a.names.now a.vm c.if-vm.true) s.requires.1
 
-abbrev tag : tie.After-encode-be → WriteProgress
-tag c = progress_next (none c.before.before) c.encode-be.ensures
+abbrev tag : tie.After-encode_be-len → WriteProgress
+tag c = progress_next (none c.before.before) c.encode_be-len.ensures
 
-abbrev len : tie.After-encode-be2 → WriteProgress
-len c = progress_next (tag c.before.before.before.before) c.encode-be2.ensures
+abbrev len : tie.After-encode_be-text → WriteProgress
+len c = progress_next (tag c.before.before.before.before) c.encode_be-text.ensures
 
-encode-be-requires : tie.Need-encode-be-requires
-encode-be-requires c κs = next_part_fits (none c.before)
+encode_be-len-requires : tie.Need-encode_be-len-requires
+encode_be-len-requires c κs = next_part_fits (none c.before)
 
-encode-be-requires-2 : tie.Need-encode-be-requires-2
-encode-be-requires-2 c κs = next_part_fits (tag c.before.before.before)
+encode_be-text-requires : tie.Need-encode_be-text-requires
+encode_be-text-requires c κs = next_part_fits (tag c.before.before.before)
 
-encode-slice-requires : tie.Need-encode-slice-requires
-encode-slice-requires c κs =
+encode_slice-requires : tie.Need-encode_slice-requires
+encode_slice-requires c κs =
     let p = c.before.before.before in
     let t = p.before.before.before.before.before.before in
-    (t.before.before.before.requires.0.inside t.if1.true, next_part_fits (len p))
+    (t.requires.0.inside t.if-vm.true, next_part_fits (len p))
 
-same_length : tie.Need-same-length
-same_length c = search rules
+shape_of-out-then-vm : tie.Need-shape_of-out-then-vm
+shape_of-out-then-vm c = search rules
+
+returns-then-vm : tie.Need-returns-then-vm
+returns-then-vm c = let p = c.before.before in progress_done (progress_next (len p.before.before.before.before) p.encode_slice.ensures) refl
 
 returns : tie.Need-returns
-returns c = let p = c.before.before in progress_done (progress_next (len p.before.before.before.before) p.encode-slice.ensures) refl
-
-returns-2 : tie.Need-returns-2
 unfolding encode_vm
-returns-2 c = rw c.if1.false (writes_none _ _)
+returns c = rw c.if-vm.false (writes_none _ _)
 
-pub encode-vm-spec : {M : Type 1} → statement M
-encode-vm-spec =
+pub encode_vm_spec : {M : Type 1} → statement M
+encode_vm_spec =
     tie.close
-    (tie.spec encode-be-requires encode-be-requires-2 encode-slice-requires same_length returns returns-2)
+    (tie.spec encode_be-len-requires encode_be-text-requires encode_slice-requires shape_of-out-then-vm returns-then-vm returns)

@@ -5,14 +5,14 @@ use Rattle.phd_plan.specs.FormChoice.{Bounded, make_plan}
 use Rattle.phd_write.proofs.rows.plan_row.Statement.{statement}
 use Rattle.phd_write.proofs.rows.plan_row.Tie as tie
 
-plan-input-of-requires : tie.Need-plan-input-of-requires
-plan-input-of-requires c κs = search rules
+plan_input_of-m-requires : tie.Need-plan_input_of-m-requires
+plan_input_of-m-requires c κs = search rules
 
-make-plan-requires : tie.Need-make-plan-requires
-make-plan-requires c κs = subst Bounded (sym c.before.plan-input-of.ensures) c.before.before.before.requires.1
+make_plan-requires : tie.Need-make_plan-requires
+make_plan-requires c κs = subst Bounded (sym c.plan_input_of-m.ensures) c.requires.1
 
 returns : tie.Need-returns
-returns c = c.make_plan.ensures ∙ ap (make_plan _) c.before.before.plan-input-of.ensures
+returns c = c.make_plan.ensures ∙ ap (make_plan _) c.plan_input_of-m.ensures
 
-pub plan-row-spec : {M : Type 1} → statement M
-plan-row-spec = tie.close (tie.spec plan-input-of-requires make-plan-requires returns)
+pub plan_row_spec : {M : Type 1} → statement M
+plan_row_spec = tie.close (tie.spec plan_input_of-m-requires make_plan-requires returns)
