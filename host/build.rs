@@ -1,14 +1,14 @@
-//! Links the proved library, target/staticlib/libphd_c.a, which `rt staticlib phd_c` builds in the root of the repository.
+//! Links the proved library, crates/phd_c/out/libphd_c.a, which `rt lib` builds in crates/phd_c.
 use std::path::Path;
 
 fn main() {
     let here = std::env::var("CARGO_MANIFEST_DIR").expect("cargo sets CARGO_MANIFEST_DIR");
-    let folder = Path::new(&here).join("../target/staticlib");
+    let folder = Path::new(&here).join("../crates/phd_c/out");
     let archive = folder.join("libphd_c.a");
     println!("cargo:rerun-if-changed={}", archive.display());
     if !archive.exists() {
         println!(
-            "cargo:warning={} is missing: run 'rt staticlib phd_c' first",
+            "cargo:warning={} is missing: run 'rt lib' in crates/phd_c first",
             archive.display()
         );
     }

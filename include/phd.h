@@ -50,7 +50,7 @@
  *
  * docs/FORMAT.md has the format and the rules: 4 Tables, 5 Reading, 6 Writing, 7 Classic text, 8 Replies.
  *
- * Link with target/staticlib/libphd_c.a, which 'rt staticlib phd_c' builds (x86-64).
+ * Link with crates/phd_c/out/libphd_c.a, which 'rt lib' builds in crates/phd_c (x86-64).
  */
 #ifndef PHD_H
 #define PHD_H

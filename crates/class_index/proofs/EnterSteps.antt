@@ -17,7 +17,7 @@ use Rattle.table.specs.declared.Row.{Row}
 use Rattle.table.specs.declared.Search.{Search}
 use Rattle.table.specs.declared.Search.TheVariants.{At, NotFound}
 use Rattle.class_index.specs.ClassIndex.{is_class_row, search_buckets, at_or_before, row_certified, CertifiedFrom, IndexHolds}
-use Rattle.class_index.specs.Certified.{certified_finds}
+use Rattle.class_index.proofs.Certified.{certified_finds}
 use Rattle.class_index.specs.Entering.{KeepsFound}
 use Rattle.class_index.proofs.BucketSteps.{class_row_test}
 

@@ -1,5 +1,5 @@
 -- The class index: buckets, each 0 or one more than the index of a row. Nothing is assumed of what they hold: the search by any buckets
--- is defined, and so is a test by which it finds the first class row with each address (Certified has the theorem).
+-- is defined, and so is a test by which it finds the first class row with each address (proofs/Certified.antt has the theorem).
 -- No definition of the text uses it. A reader need not believe it: a search is only made by buckets that pass the test.
 use Rattle.std.specs.Prelude.{ℕ, ◌-◌, ◌/◌, ◌≤◌, ◌<◌, ◌≡◌, Bool, true, false, cond, ◌&&◌, List, [], ◌∷◌, eqb, ltb, leb, length, take, drop}
 use Rattle.address_hash.specs.AddressHash.{hash}

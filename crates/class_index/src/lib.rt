@@ -2,7 +2,7 @@
 // the index of a row. Nothing is believed of the hash: `enter_classes` enters each class row and then checks that the search for its
 // address finds it. Only if every class row passes this test, which makes the class index certified, is it searched; otherwise a class
 // is searched for row by row.
-// Defined in specs/ClassIndex.antt; specs/Certified.antt has the theorem that a search by a certified class index is the class search.
+// Defined in specs/ClassIndex.antt; proofs/Certified.antt has the theorem that a search by a certified class index is the class search.
 #![tactic(auto)]
 
 ghost use Rattle.std.specs.Prelude.{◌≡◌, ◌⊎◌, true, ◌+◌, ◌-◌, ◌^◌, ◌≤◌, ◌<◌, length};

@@ -17,7 +17,7 @@ use Rattle.summaries.specs.KeyCounts.{keys_le, keys_grow}
 use Rattle.phd.specs.Phd.{limit, Result, phd, read_result, capacity, no_records}
 use Rattle.reader.specs.Steps.{read_over_limit}
 use Rattle.reader.specs.Prefixes.{Prefix, Final, ResultPrefix}
-use Rattle.reader.specs.SmallerTables.{smaller_tables}
+use Rattle.reader.proofs.SmallerTables.{smaller_tables}
 use Rattle.phd_read.specs.ReadContract.{read_answer}
 use Rattle.phd_read.specs.ReadTheorems.{sound, prefix_agrees, stored_bounds}
 use Rattle.phd_read.specs.RecordBytes.{max_rows}

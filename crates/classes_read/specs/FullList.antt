@@ -10,8 +10,9 @@ use Rattle.std.proofs.Math.ListN.{get_or-append}
 use Rattle.decode.specs.Layout.{Outcome, whole, stops, run}
 use Rattle.table.specs.Table.{row_width}
 use Rattle.reader.specs.Reader.{limit, Capacity, capacity, end_item, item, Format, ItemOf, State, Result, ended, append_item, next_item, records, initial_state, no_records, from_header, read_result}
-use Rattle.reader.specs.Steps.{Lawful, ValidRow, empty_row, full_row, records_go, records_halt, step_end, step_item, step_no_row, step_no_refs, step_stop}
-use Rattle.reader.specs.Prefixes.{records_extend}
+use Rattle.reader.specs.Steps.{Lawful, ValidRow, empty_row, full_row, records_go, records_halt, step_end, step_item, step_no_row, step_stop}
+use Rattle.reader.proofs.Steps.{step_no_refs}
+use Rattle.reader.proofs.Prefixes.{records_extend}
 use Rattle.reader.specs.RowOrigins.{offset_of}
 
 -- The reading ended with 13 at the offset of row n of these rows.

@@ -6,7 +6,8 @@ use Rattle.decode.specs.Values.{and_left, and_right}
 use Rattle.phd.specs.Phd.{bytes_equal}
 use Rattle.phd.specs.ByteTests.{bytes_equal_iff}
 use Rattle.table.specs.Rows.{is_kind, name_of}
-use Rattle.table.specs.Search.{NoneSatisfies, first_row_none}
+use Rattle.table.specs.Search.{NoneSatisfies}
+use Rattle.table.proofs.SearchLaws.{first_row_none}
 use Rattle.table.specs.declared.Row.{Row}
 use Rattle.table.specs.declared.Search.{Search}
 use Rattle.table.specs.declared.Search.TheVariants.{At, NotFound}

@@ -6,7 +6,8 @@ use Rattle.std.proofs.lemmas.List.{length-replicate, get_or-replicate}
 use Rattle.table.specs.Table.{row_count}
 use Rattle.table.specs.Rows.{row_at, is_kind, rows_of, rows_left, rows_left_next, rows_left_none}
 use Rattle.table.specs.declared.Row.{Row}
-use Rattle.table.specs.Search.{first_from, found_row, found_row_cons}
+use Rattle.table.specs.Search.{first_from, found_row}
+use Rattle.table.proofs.SearchLaws.{found_row_cons}
 use Rattle.classic.specs.ClassicText.{primitive_array_type, is_class_named, primitive_class, class_of}
 
 -- The class word of a type among a row and the rows after it, if among the rows after it it is `class`.

@@ -7,7 +7,8 @@ use Rattle.encode.specs.Encode.{join}
 use Rattle.phd.specs.Shapes.{ValidBits}
 use Rattle.table.specs.Rows.{is_kind, name_of, zero_row, all_nth}
 use Rattle.phd_check.specs.WellFormed.{length_refs_of, length_name_of}
-use Rattle.table.specs.Search.{found_row, found_in_bounds}
+use Rattle.table.specs.Search.{found_row}
+use Rattle.table.proofs.SearchLaws.{found_in_bounds}
 use Rattle.table.specs.declared.Row.{Row}
 use Rattle.table.specs.declared.Search.TheVariants.{At, NotFound}
 use Rattle.table.specs.declared.Search.{Search}

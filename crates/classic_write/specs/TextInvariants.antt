@@ -8,7 +8,8 @@ use Rattle.encode.specs.Writes.{Writes, HasCapacity, Remaining, capacity_first, 
 use Rattle.table.specs.Table.{row_count}
 use Rattle.table.specs.Rows.{row_at, rows_of, all_at, rows_left, rows_left_next, rows_left_none, length_rows, nth_row}
 use Rattle.table.specs.Sums.{sum_left, sum_left_next, sum_left_none}
-use Rattle.table.specs.Search.{first_row, first_row_none, SearchInvariant, search_start, search_found, search_next, search_done}
+use Rattle.table.specs.Search.{first_row, SearchInvariant, search_start, search_done}
+use Rattle.table.proofs.SearchLaws.{first_row_none, search_found, search_next}
 use Rattle.table.specs.declared.Row.{Row}
 use Rattle.table.specs.declared.Search.TheVariants.{NotFound}
 use Rattle.classic.specs.ClassicText.{class_missing, row_lines, unlines}

@@ -19,7 +19,8 @@ use Rattle.table.specs.declared.Search.TheVariants.{At, NotFound}
 use Rattle.phd_counts.specs.Counts.{nulls, tally_of}
 use Rattle.phd_counts.specs.ExactCounts.{with_nulls, exact_counts as all_exact}
 use Rattle.table.specs.Rows.{nth}
-use Rattle.table.specs.Search.{first_row, found_row, IsFirst, NoneSatisfies, first_row_at, first_row_none}
+use Rattle.table.specs.Search.{first_row, found_row, IsFirst, NoneSatisfies}
+use Rattle.table.proofs.SearchLaws.{first_row_at, first_row_none}
 use Rattle.digits.specs.Digits.{ascii, text_decimal}
 use Rattle.classic.specs.ClassicText.{is_class_named, class_named, class_missing, primitive_array_type, primitive_class, row_lines, totals_line, text_lines, text_of, text_rows, text_rows_size, text_result, text_size_result}
 use Rattle.table.specs.RowBytes.{is_class_at, class_at, ClassRow, is_class_at_iff}

@@ -15,7 +15,7 @@ use Rattle.decode.specs.Slices.{slice_next}
 use Rattle.decode.specs.Values.{cond_elim}
 use Rattle.encode.specs.Encode.{be, gap, width_code, fits, refs_code, max, encode_ref_list, twos_complement}
 use Rattle.encode.specs.NumberRoundTrip.{length_be}
-use Rattle.encode.specs.Widths.{code_count}
+use Rattle.encode.proofs.Widths.{code_count}
 
 -- The last number of a list may be stored first.
 pub sets_snoc : (vs l : List ℕ) (i x : ℕ) → sets l i (vs ++ (x ∷ [])) ≡ sets (set l (i + length vs) x) i vs

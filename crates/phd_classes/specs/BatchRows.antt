@@ -18,7 +18,8 @@ use Rattle.summaries.specs.EntryBounds.{SmallRow}
 use Rattle.phd.specs.Phd.{limit, phd, State, read_result, capacity}
 use Rattle.phd.specs.declared.Header.{Header}
 use Rattle.reader.specs.Reader.{records}
-use Rattle.reader.specs.Prefixes.{Prefix, records_extend}
+use Rattle.reader.specs.Prefixes.{Prefix}
+use Rattle.reader.proofs.Prefixes.{records_extend}
 use Rattle.reader.specs.TableSteps.{CursorOf}
 use Rattle.reader.specs.ManySteps.{FirstStep, NoStep}
 use Rattle.phd_read.specs.PhdLaws.{phd_always}

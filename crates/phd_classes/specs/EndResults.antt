@@ -16,8 +16,10 @@ use Rattle.phd.specs.Phd.{limit, phd, Result, State, read_result, capacity}
 use Rattle.phd.specs.declared.Header.{Header}
 use Rattle.decode.specs.Layout.{whole}
 use Rattle.reader.specs.Reader.{item, go, ended, append_item, next_item, step, records, initial_state}
-use Rattle.reader.specs.Steps.{read_header_whole, records_step, records_halt, step_item, step_no_row}
-use Rattle.reader.specs.Prefixes.{Prefix, records_extend}
+use Rattle.reader.specs.Steps.{read_header_whole, records_halt, step_item, step_no_row}
+use Rattle.reader.proofs.Steps.{records_step}
+use Rattle.reader.specs.Prefixes.{Prefix}
+use Rattle.reader.proofs.Prefixes.{records_extend}
 use Rattle.reader.specs.TableSteps.{state_of}
 use Rattle.phd_read.specs.PhdLaws.{phd_lawful}
 use Rattle.phd_read.specs.PhdSteps.{cursor_of, ManySteps, StepEnds, initial_cursor}

@@ -24,7 +24,8 @@ use Rattle.phd.specs.Phd.{limit, header_records, make_header, header, empty_head
 use Rattle.phd.specs.Shapes.{ValidBits}
 use Rattle.phd.specs.declared.Header.{Header}
 use Rattle.reader.specs.Reader.{no_records, ended, initial_state as initial_state_of}
-use Rattle.reader.specs.Steps.{step_cases, OnTransition, read_induction, read_over_limit}
+use Rattle.reader.specs.Steps.{OnTransition, read_induction, read_over_limit}
+use Rattle.reader.proofs.Steps.{step_cases}
 use Rattle.phd_check.specs.GoodRows.{all_true, good_vm, good_header, first_bad_from, first_bad, TablesGood}
 use Rattle.phd_read.specs.ReadContract.{read_answer, AfterRead}
 use Rattle.phd_read.specs.declared.ReadAnswer.{ReadAnswer}

@@ -3,7 +3,8 @@
 use Rattle.std.specs.Prelude.{◌≡◌, ℕ, ◌/◌, ◌%◌, ◌^◌, ◌≤◌, ◌<◌, List}
 use Rattle.std.proofs.Common.{inl, inr, lit<, lit≤, arith}
 use Rattle.encode.specs.Encode.{gap, width_code}
-use Rattle.encode.specs.Widths.{code_lt, max_lt, refs_code_lt}
+use Rattle.encode.specs.Widths.{max_lt}
+use Rattle.encode.proofs.Widths.{code_lt, refs_code_lt}
 use Rattle.table.specs.Rows.{Rec}
 use Rattle.table.specs.declared.Row.{Row}
 use Rattle.phd.specs.Phd.{max_address}

@@ -5,7 +5,8 @@ use Rattle.std.specs.Prelude.{◌≡◌, refl, ℕ, ◌+◌, ◌^◌, ◌≤◌,
 use Rattle.std.proofs.Common.{arith, le-leb, lt-ltb, leb-true, ltb-true}
 use Rattle.decode.specs.Values.{and_left, and_right}
 use Rattle.encode.specs.Encode.{gap, fits, width_code}
-use Rattle.encode.specs.Widths.{AllFit, code_least, max_le, refs_code_least}
+use Rattle.encode.specs.Widths.{AllFit, max_le}
+use Rattle.encode.proofs.Widths.{code_least, refs_code_least}
 use Rattle.table.specs.declared.Row.{Row}
 use Rattle.phd.specs.declared.cache.Cache.{Cache}
 use Rattle.phd.specs.declared.Form.{Form}

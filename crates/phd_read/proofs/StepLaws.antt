@@ -15,7 +15,7 @@ use Rattle.phd.specs.declared.Header.{Header}
 use Rattle.phd_record.specs.RecordOutcomes.{record_read_of, record_read_item}
 use Rattle.phd_record.specs.declared.RecordRead.{RecordRead}
 use Rattle.phd_record.specs.declared.Next.TheVariants.{Record}
-use Rattle.reader.specs.TableSteps as Any
+use Rattle.reader.proofs.TableSteps as Any
 use Rattle.phd_read.specs.PhdLaws.{phd_lawful}
 use Rattle.phd_read.specs.RecordProperties.{ReadFrom, entry_read_from}
 use Rattle.phd_read.specs.StoredRefs.{RefsAllRead, values_of}

@@ -17,10 +17,12 @@ use Rattle.decode.specs.declared.Stop.TheVariants.{Cut, Refused}
 use Rattle.decode.specs.declared.Maybe.TheVariants.{Just, Nothing}
 use Rattle.table.specs.Table.{row_width, offset_number, row_count, row_slice, number, number_row_slice, whole_append, row_count_snoc, number_append, number_last}
 use Rattle.reader.specs.Reader.{next_item, append_item, initial_state, ended, no_records}
-use Rattle.reader.specs.Steps.{step_cases, OnTransition, read_induction}
+use Rattle.reader.specs.Steps.{OnTransition, read_induction}
+use Rattle.reader.proofs.Steps.{step_cases}
 use Rattle.reader.specs.RowOrigins.{offset_of, StateAfter, RowOrigin}
 use Rattle.phd.specs.Phd.{slot_after, push, slot, tag_form, need_form, slot_class, shape, field_or, row, from_ref_count, fields, record_body, from_tag, RecordContext, Item, end_item, item, entry, header, State, Result, Transition, phd, capacity, go, halt, read_result}
-use Rattle.phd.specs.ClassCache.{push_all, slot_push_all}
+use Rattle.phd.specs.ClassCache.{push_all}
+use Rattle.phd.proofs.ClassCache.{slot_push_all}
 use Rattle.phd.specs.EntryLaws.{origin_at, entry_from_tag}
 use Rattle.phd.specs.Shapes.{ValidBits, bits_bytes_nonzero, tag_matches}
 use Rattle.phd.specs.declared.cache.Cache.{Cache}

@@ -9,7 +9,7 @@ use Rattle.phd.specs.Phd.{max_address, State, phd, capacity, read_result}
 use Rattle.table.specs.Table.{row_count, number, number_row_slice}
 use Rattle.phd_read.specs.RecordProperties.{entry_read_from}
 use Rattle.phd_read.specs.RowTags.{phd_row_origins}
-use Rattle.reader.specs.Steps.{read_tables}
+use Rattle.reader.proofs.Steps.{read_tables}
 
 -- ---- references
 

@@ -17,7 +17,7 @@ use Rattle.phd.specs.declared.Origin.{Origin}
 use Rattle.phd.specs.declared.Shape.{Shape}
 use Rattle.phd.specs.declared.TagForm.{TagForm}
 use Rattle.phd.specs.declared.TagForm.TheVariants.{Begins, Other}
-use Rattle.reader.specs.WithinCapacity.{read_replies}
+use Rattle.reader.proofs.WithinCapacity.{read_replies}
 
 -- A reply that refuses bytes that are present: 3 to 12.
 abbrev PhdRefusal : ℕ → Type 0

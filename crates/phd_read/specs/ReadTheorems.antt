@@ -8,11 +8,15 @@ use Rattle.phd.specs.Phd.{limit, max_address, Result, phd, capacity, read_result
 use Rattle.phd.specs.ReadCases.{unfold_all, dump, dump_header, dump_rows, case_f, cases, actual, cases_hold}
 use Rattle.table.specs.Buffer.{overwrite}
 use Rattle.phd_read.specs.ReadContract.{read_answer}
-use Rattle.reader.specs.Prefixes.{Final, ResultPrefix, append_prefix, cuts_prefix}
-use Rattle.reader.specs.MissingBytes.{MissingOf, subtract_missing, read_missing, read_cut_append, missing_le_appended, completed_end_after}
-use Rattle.reader.specs.RowOrigins.{offset_of, AllRowOrigins, origin_count, next_offset_end}
-use Rattle.reader.specs.WithinCapacity.{read_within_capacity}
+use Rattle.reader.specs.Prefixes.{Final, ResultPrefix}
+use Rattle.reader.proofs.Prefixes.{append_prefix, cuts_prefix}
+use Rattle.reader.specs.MissingBytes.{MissingOf, subtract_missing}
+use Rattle.reader.proofs.MissingBytes.{read_missing, read_cut_append, missing_le_appended, completed_end_after}
+use Rattle.reader.specs.RowOrigins.{offset_of, AllRowOrigins}
+use Rattle.reader.proofs.RowOrigins.{origin_count, next_offset_end}
+use Rattle.reader.proofs.WithinCapacity.{read_within_capacity}
 use Rattle.reader.specs.PrefixTables as Any
+use Rattle.reader.proofs.PrefixTables as AnyLaws
 use Rattle.phd_read.specs.Ranges.{refs_within, addresses_within}
 use Rattle.phd_read.specs.LengthBounds.{LengthsInBounds, read_lengths_in_bounds}
 use Rattle.phd_read.specs.PhdLaws.{phd_lawful, phd_always}
@@ -97,7 +101,7 @@ prefix_answers_of r r' rows rows' refs refs' a = record {
 pub prefix_answers : (b : List ℕ) (m n : ℕ) (rows rows' refs refs' : List ℕ) → m ≤ n → length (take n b) ≤ limit
     → length rows ≤ length rows' → length refs ≤ length refs'
     → PrefixAnswers (read_result (take m b) (length rows) (length refs)) (read_result (take n b) (length rows') (length refs')) rows rows' refs refs'
-prefix_answers b m n rows rows' refs refs' h l p q = prefix_answers_of _ _ rows rows' refs refs' (Any.cuts_prefix_tables phd phd_lawful b m n rows rows' refs refs' h l p q)
+prefix_answers b m n rows rows' refs refs' h l p q = prefix_answers_of _ _ rows rows' refs refs' (AnyLaws.cuts_prefix_tables phd phd_lawful b m n rows rows' refs refs' h l p q)
 
 -- ---- origins of rows
 

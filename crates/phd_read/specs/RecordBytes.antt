@@ -17,7 +17,7 @@ use Rattle.phd.specs.declared.cache.Cache.{Cache}
 use Rattle.phd.specs.declared.Header.{Header}
 use Rattle.phd.specs.declared.Span.{Span}
 use Rattle.reader.specs.DumpBounds.{LeastBytes}
-use Rattle.reader.specs.DumpBounds as Any
+use Rattle.reader.proofs.DumpBounds as Any
 use Rattle.phd_read.specs.RecordLayout.{HasLayout, bare_row, entry_has_layout}
 use Rattle.phd_read.specs.PhdLaws.{phd_lawful, phd_always}
 use Rattle.phd_read.specs.RowTags.{phd_row_origins}

@@ -7,7 +7,7 @@ use Rattle.phd.specs.Phd.{tag_form, State, phd, capacity, read_result}
 use Rattle.table.specs.Table.{row_count}
 use Rattle.phd.specs.declared.Form.{Form}
 use Rattle.phd.specs.declared.TagForm.TheVariants.{Begins}
-use Rattle.reader.specs.RowOrigins as Any
+use Rattle.reader.proofs.RowOrigins as Any
 use Rattle.reader.specs.RowOrigins.{offset_of, AllRowOrigins}
 use Rattle.phd_read.specs.PhdLaws.{phd_lawful}
 use Rattle.phd_read.specs.RecordProperties.{entry_tag_form}

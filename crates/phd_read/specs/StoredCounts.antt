@@ -4,7 +4,7 @@ use Rattle.std.specs.Prelude.{◌≡◌, refl, ℕ, ◌*◌, List, length}
 use Rattle.std.proofs.Common.{arith}
 use Rattle.table.specs.Table.{row_width, row_count}
 use Rattle.phd.specs.Phd.{phd, capacity, read_result}
-use Rattle.reader.specs.WithinCapacity.{read_within_capacity}
+use Rattle.reader.proofs.WithinCapacity.{read_within_capacity}
 use Rattle.phd_read.specs.ReadContract.{read_answer}
 use Rattle.phd_read.specs.PhdLaws.{phd_lawful}
 

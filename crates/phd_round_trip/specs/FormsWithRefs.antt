@@ -10,7 +10,8 @@ use borrow.Author.Tests.{le-leb, lt-leb, le-ltb, ne_eqb}
 use Rattle.decode.specs.Values.{true_not_false}
 use Rattle.decode.specs.declared.Maybe.TheVariants.{Just}
 use Rattle.encode.specs.Encode.{gap, fits, width_code, refs_code}
-use Rattle.encode.specs.Widths.{gap_fits, code_lt, code_fits, refs_code_lt, refs_code_fits}
+use Rattle.encode.specs.Widths.{gap_fits}
+use Rattle.encode.proofs.Widths.{code_lt, code_fits, refs_code_lt, refs_code_fits}
 use Rattle.phd.specs.Phd.{max_address, tag_form, slot_class, moved_bit, hashed_bit, hash_kind, width, make_shape, shape, field_or}
 use Rattle.phd.specs.Shapes.{WidthsLe8, shape_widths_le_8}
 use Rattle.phd.specs.declared.cache.Cache.{Cache}

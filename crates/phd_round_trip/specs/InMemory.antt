@@ -1,24 +1,23 @@
 -- Demands 2 and 3 for calls: `write` filled an output, and `read_tables` then fills tables from the first bytes of it. The premises are
--- the contracts of the two calls, `AfterWrite` (phd_write) and `AfterRead` (phd_read).
+-- the contracts of the two calls, `AfterWrite` (phd_write) and `AfterRead` (phd_read). Demand 2: proofs/InMemory.antt.
 -- A reader must believe the records `CutRead` and `WholeRead`.
 use Rattle.std.specs.Prelude.{◌≡◌, ℕ, ◌*◌, ◌≤◌, ◌<◌, List, cond, take, leb}
-use Rattle.std.proofs.Math.Path.{ap}
-use Rattle.std.proofs.Common.{◌∙◌, arith, le-leb}
-use Rattle.std.proofs.Math.ListN.{length, length-append}
+use Rattle.std.proofs.Common.{arith}
+use Rattle.std.proofs.Math.ListN.{length}
 use Rattle.std.proofs.lemmas.List.{take-append-le}
 use Rattle.table.specs.Table.{row_width}
 use Rattle.table.specs.Rows.{Rec, recs, rows_of, first_recs}
 use Rattle.table.specs.Buffer.{overwrite}
 use Rattle.table.specs.declared.Answer.{Answer}
-use Rattle.phd.specs.Phd.{empty_header, empty_cache}
+use Rattle.phd.specs.Phd.{empty_header}
 use Rattle.phd.specs.declared.Header.{Header}
 use Rattle.phd_read.specs.ReadContract.{AfterRead}
 use Rattle.phd_read.specs.declared.ReadAnswer.{ReadAnswer}
-use Rattle.phd_write.specs.Write.{encode_header, encode_records, encode_dump, write_result}
+use Rattle.phd_write.specs.Write.{encode_header, write_result}
 use Rattle.phd_write.specs.WriteTerms.{AfterWrite}
 use Rattle.phd_write.specs.WriteTheorems.{written_dump}
 use Rattle.phd_round_trip.specs.CutRecords.{all_refs, cut_recs, stop_at}
-use Rattle.phd_round_trip.specs.RoundTripTheorems.{SameHeader, prefix_read_tables, cut_recs_all, stop_at_all}
+use Rattle.phd_round_trip.specs.RoundTripTheorems.{SameHeader, prefix_read_tables}
 
 -- After the first m bytes of an output were read, n of whose bytes were written, the answer b and the tables give the records
 -- within this cut. The records rs are those of the rows passed to `write`.
@@ -67,10 +66,6 @@ module _ (h : Header) (names refs rows out : List ℕ) (a : Answer) (out' : List
   unfolding overwrite
   first_bytes m l = rw w.output (take-append-le m bytes _ (omega (arith, place_is_length)))
 
-  dump_is : bytes ≡ encode_dump names h rs
-  unfolding encode_dump
-  dump_is = (written_dump h names refs (rows_of rows) (length out) write_reply_0).bytes
-
   -- Demand 3, second part: a reading of the first m of the written bytes gives `CutRead`.
   pub cut_read : (m : ℕ) → m ≤ a.place → AfterRead (take m out') rows₀ refs₀ b rows' refs' → CutRead h names rs a.place m out' b rows' refs'
   cut_read m l r =
@@ -87,21 +82,3 @@ module _ (h : Header) (names refs rows out : List ℕ) (a : Answer) (out' : List
         header = λ k. rw d (s.header k);
         no_header = s.no_header;
       })
-
-  -- Demand 2: a reading of all written bytes gives `WholeRead`.
-  pub whole_read : AfterRead (take a.place out') rows₀ refs₀ b rows' refs' → WholeRead h names rs a.place out' b rows' refs'
-  unfolding encode_dump
-  whole_read r =
-      let c = cut_read a.place (omega arith) r in
-      let n : a.place ≡ length (encode_dump names h rs) = place_is_length ∙ ap length dump_is in
-      let k : cut_recs names h rs a.place ≡ rs = rw n (cut_recs_all h names rs) in
-      let t = length-append (encode_header names h) (encode_records h 0 empty_cache rs) in
-      record {
-        records = c.records ∙ k;
-        rows_count = c.rows_count ∙ ap length k;
-        refs_count = c.refs_count ∙ ap (λ x. length (all_refs x)) k;
-        refs_all = c.refs_all ∙ ap all_refs k;
-        reply = rw (le-leb a.place a.place (omega arith)) at c.reply;
-        place = c.place ∙ rw n (stop_at_all h names rs);
-        header = c.header (omega (arith, n, t));
-      }

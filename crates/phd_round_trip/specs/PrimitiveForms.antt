@@ -10,7 +10,8 @@ use Rattle.std.proofs.Math.IntN.{ℤ, pos}
 use borrow.Author.Tests.{le-leb, lt-leb, le-ltb, lt-ltb, ltb-true, eqb-true}
 use Rattle.decode.specs.Values.{true_not_false}
 use Rattle.encode.specs.Encode.{gap, fits, width_code, max}
-use Rattle.encode.specs.Widths.{gap_fits, code_lt, code_fits_wider, le_max_left, le_max_right, max_lt}
+use Rattle.encode.specs.Widths.{gap_fits, le_max_left, le_max_right, max_lt}
+use Rattle.encode.proofs.Widths.{code_lt, code_fits_wider}
 use Rattle.phd.specs.Phd.{max_address, tag_form, slot_class, moved_bit, hashed_bit, width, bit, make_shape, shape, field_or}
 use Rattle.phd.specs.declared.cache.Cache.{Cache}
 use Rattle.phd.specs.declared.Header.{Header}

@@ -1,7 +1,7 @@
 // Theorems about writing and then reading: a written dump is read back as the records passed in, and a cut of it as the records
 // that lie whole within the cut (specs/).
 // The two functions below only call the public operations. Their contracts are the premises of the theorems in
-// specs/InMemory.antt, so those theorems hold for every call of `write` and `read_tables`.
+// specs/InMemory.antt and proofs/InMemory.antt, so those theorems hold for every call of `write` and `read_tables`.
 #![tactic(auto)]
 
 ghost use Rattle.phd_read.specs.ReadContract.{AfterRead};

@@ -11,7 +11,8 @@ use Rattle.phd.specs.Shapes.{ValidBits}
 use Rattle.phd.specs.declared.Header.{Header}
 use Rattle.phd.specs.declared.Span.{Span}
 use Rattle.reader.specs.Reader.{next_item, append_item}
-use Rattle.reader.specs.Steps.{step_end, step_cases}
+use Rattle.reader.specs.Steps.{step_end}
+use Rattle.reader.proofs.Steps.{step_cases}
 use Rattle.reader.specs.RowOrigins.{StateAfter}
 use Rattle.encode.specs.Encode.{be}
 use Rattle.phd_encode.specs.EncodeRecord.{encode_record, cache_after}

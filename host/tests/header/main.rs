@@ -20,7 +20,7 @@ fn build_program() -> String {
         .arg("-I")
         .arg(root.join("include"))
         .arg(here.join("tests/header/try.c"))
-        .arg(root.join("target/staticlib/libphd_c.a"))
+        .arg(root.join("crates/phd_c/out/libphd_c.a"))
         .status()
         .expect("cc runs");
     assert!(status.success(), "the C program is built without a warning");

@@ -5,7 +5,8 @@ use Prim.Native.Nat.{◌-◌}
 use native.Mathlib.Omega.{arith}
 use Rattle.table.specs.Table.{row_count}
 use Rattle.table.specs.RowBytes.{is_class_at}
-use Rattle.table.specs.Search.{SearchInvariant, search_start, search_found, search_next, search_done}
+use Rattle.table.specs.Search.{SearchInvariant, search_start, search_done}
+use Rattle.table.proofs.SearchLaws.{search_found, search_next}
 use Rattle.classic.proofs.ClassRowTests.{is_class_at_test}
 use Rattle.classic.proofs.class_at.Statement.{statement}
 use Rattle.classic.proofs.class_at.Tie as tie

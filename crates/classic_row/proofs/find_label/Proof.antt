@@ -5,7 +5,7 @@ use Prim.Native.Nat.{◌*◌}
 use borrow.Author.Rules.{rules}
 use borrow.Author.Tests.{eq-eqb, ne_eqb}
 use Rattle.table.specs.Rows.{is_kind, rows_of}
-use Rattle.table.specs.Search.{found_in_table, found_row_at}
+use Rattle.table.proofs.SearchLaws.{found_in_table, found_row_at}
 use Rattle.classic.specs.ClassicText.{class_missing}
 use Rattle.table.specs.RowBytes.{class_at, is_not_found, naming_class, bytes_of}
 use Rattle.classic_row.specs.RowText.{type_label, type_label_or_18}

@@ -6,7 +6,7 @@ use mathlib.Core.Bool.{cond}
 use native.Mathlib.Omega.{arith}
 use lib.IntN.{pos}
 use Rattle.encode.specs.Encode.{fits}
-use Rattle.encode.specs.Widths.{code_lt, code_count}
+use Rattle.encode.proofs.Widths.{code_lt, code_count}
 use Rattle.encode.proofs.EncodeLaws.{half_le_fits}
 use Rattle.encode.proofs.number_code.Statement.{statement}
 use Rattle.encode.proofs.number_code.Tie as tie

@@ -4,8 +4,10 @@ use mathlib.Core.Path.{◌≡◌, subst}
 use Prim.Native.Nat.{◌-◌, ◌≤◌}
 use native.Mathlib.Omega.{arith}
 use lib.ListN.{length}
-use Rattle.reader.specs.TableSteps.{LoopInvariant, invariant_start, step_further, invariant_next, end_rows, end_refs}
-use Rattle.reader_toy.specs.Toy.{toy, lawful}
+use Rattle.reader.specs.TableSteps.{LoopInvariant, invariant_start, end_rows, end_refs}
+use Rattle.reader.proofs.TableSteps.{step_further, invariant_next}
+use Rattle.reader_toy.specs.Toy.{toy}
+use Rattle.reader_toy.proofs.Toy.{lawful}
 use Rattle.reader_toy.specs.ReaderSpecs.{cursor_of, StepContract}
 use Rattle.reader.specs.declared.StepResult.{StepResult}
 use Rattle.reader.specs.declared.StepResult.TheVariants.{Continue, End}

@@ -6,7 +6,8 @@ use native.Mathlib.Omega.{arith}
 use lib.IntN.{pos}
 use borrow.Author.Tests.{eq-eqb, ne_eqb}
 use Rattle.encode.specs.Encode.{width_code, max}
-use Rattle.encode.specs.Widths.{code_lt, max_lt}
+use Rattle.encode.specs.Widths.{max_lt}
+use Rattle.encode.proofs.Widths.{code_lt}
 use Rattle.phd.specs.Shapes.{width_le_8}
 use Rattle.phd_encode.specs.SizeFromRow.{encoded_size_ext, primitive_size}
 use Rattle.phd_encode.proofs.sizes.primitive_size.Statement.{statement}

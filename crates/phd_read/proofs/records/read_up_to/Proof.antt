@@ -7,7 +7,8 @@ use Prim.Native.Nat.{ℕ, ◌-◌, ◌<◌}
 use native.Mathlib.Omega.{arith}
 use lib.ListN.{length}
 use Rattle.phd.specs.Phd.{phd}
-use Rattle.reader.specs.ManySteps.{no_steps, one_step, more_steps, step_one_row, step_at}
+use Rattle.reader.specs.ManySteps.{no_steps, more_steps}
+use Rattle.reader.proofs.ManySteps.{one_step, step_one_row, step_at}
 use Rattle.reader.specs.declared.StepResult.TheVariants.{Continue, End}
 use Rattle.phd_read.specs.PhdLaws.{phd_lawful}
 use Rattle.phd_read.specs.PhdSteps.{StepContract, StepContinues, StepEnds, Continued}

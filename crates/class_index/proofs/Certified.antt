@@ -1,19 +1,20 @@
 -- The search by certified buckets is the class search: for every address it finds the first class row with it, or none if there is none.
 -- Assumes nothing.
 use Rattle.std.proofs.Math.Path.{◌≡◌, refl}
-use Rattle.std.proofs.Common.{sym, ap, ◌∙◌, inl, inr, ⊎_elim, eq-or-lt_of_le, arith, ltb-true, leb-true, eq-eqb}
-use Rattle.std.specs.Prelude.{◌⊎◌, Bool, cond, ℕ, zero, suc, ◌+◌, ◌-◌, ◌≤◌, ◌<◌, eqb, length, take, drop}
+use Rattle.std.proofs.Common.{sym, ◌∙◌, inl, inr, eq-or-lt_of_le, arith, ltb-true, leb-true, eq-eqb}
+use Rattle.std.specs.Prelude.{◌⊎◌, Bool, cond, ℕ, ◌-◌, ◌<◌, eqb, length, take, drop}
 use Rattle.std.proofs.Math.Bool.{true, false}
 use mathlib.Core.List.{List, [], ◌∷◌}
 use Rattle.std.proofs.Math.Dec.{ltb}
 use Rattle.decode.specs.Values.{and_left, and_right}
-use Rattle.table.specs.Rows.{is_kind, nth}
-use Rattle.table.specs.Search.{IsFirst, NoneSatisfies, first_row_at, first_row_none}
+use Rattle.table.specs.Rows.{nth}
+use Rattle.table.specs.Search.{IsFirst, NoneSatisfies}
+use Rattle.table.proofs.SearchLaws.{first_row_at, first_row_none}
 use Rattle.table.specs.declared.Row.{Row}
 use Rattle.table.specs.declared.Search.{Search}
 use Rattle.table.specs.declared.Search.TheVariants.{At, NotFound}
 use Rattle.table.specs.RowBytes.{is_class_at, class_at, ClassRow, is_class_at_iff}
-use Rattle.class_index.specs.ClassIndex.{first_bucket, is_class_row, search_in, search_buckets, at_or_before, row_certified, CertifiedFrom, IndexHolds}
+use Rattle.class_index.specs.ClassIndex.{first_bucket, is_class_row, search_in, search_buckets, at_or_before, row_certified, CertifiedFrom}
 
 -- ---- whatever the buckets hold, a row that is found is a class row with the address
 

@@ -1,0 +1,2 @@
+-- InMemory (the round trip, for calls of `write` and `read_tables`).
+pub mod InMemory
