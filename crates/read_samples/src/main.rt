@@ -17,13 +17,22 @@
 ghost use Rattle.std.specs.Prelude.{◌≤◌, length};
 
 use phd_read::ReadAnswer;
-use samples_print::{print_number, print_read, print_read_answer, print_text, used_numbers};
+use samples_print::{
+    print_failure, print_number, print_read, print_read_answer, print_text, read_full, used_numbers,
+};
+use std::fs::File;
+use std::io::Read;
+use std::rt::Files;
+use std::{env, io};
 
 // The length of the row table: 48 rows and five numbers, too few for another row.
 const ROWS: usize = 48 * table::ROW_WIDTH + 5;
 
 // The length of the reference table.
 const REFS: usize = 70;
+
+// The capacity for a file.
+const BYTES: usize = 4096;
 
 // The value of every number of the tables before a reading.
 const UNTOUCHED: u64 = 0x5EED_5EED_5EED_5EED;
@@ -79,113 +88,111 @@ fn answers_agree(a: ReadAnswer, b: ReadAnswer) -> bool {
 }
 
 // Prints the answer for the first n bytes.
-fn print_cut(n: usize, r: ReadAnswer) {
-    print_number(b"cut ", n as u64);
-    print_text(b" ");
-    print_read_answer(r);
+fn print_cut(rt: &impl Print, n: usize, r: ReadAnswer) -> io::Result<()> {
+    print_number(rt, b"cut ", n as u64)?;
+    print_text(rt, b" ")?;
+    print_read_answer(rt, r)
 }
 
 // Reads the first n bytes, and prints the answer if it differs from `last`, that for n - 1 bytes. Returns the answer, and whether
 // the tables are unchanged so far.
-fn print_next_cut(dump: &[u8], n: usize, last: CheckedRead) -> CheckedRead
+fn print_next_cut(
+    rt: &impl Print,
+    dump: &[u8],
+    n: usize,
+    last: CheckedRead,
+) -> io::Result<CheckedRead>
     requires { n ≤ length dump.now }
 {
     let t = read_cut(dump, n);
     let r = t.answer;
     if !answers_agree(r, last.answer) {
-        print_cut(n, r);
+        print_cut(rt, n, r)?;
     }
-    CheckedRead {
+    Ok(CheckedRead {
         answer: r,
         unchanged: t.unchanged && last.unchanged,
-    }
+    })
 }
 
 // Reads every cut of a dump, prints each answer that differs from the one before, and returns whether all of the readings left the
 // rest of the tables unchanged.
-fn print_cuts(dump: &[u8]) -> bool {
+fn print_cuts(rt: &impl Print, dump: &[u8]) -> io::Result<bool> {
     let mut last = read_cut(dump, 0);
-    print_cut(0, last.answer);
+    print_cut(rt, 0, last.answer)?;
     let mut n: usize = 0;
     while n < dump.len() {
         n += 1;
-        last = print_next_cut(dump, n, last);
+        last = print_next_cut(rt, dump, n, last)?;
     }
-    last.unchanged
+    Ok(last.unchanged)
 }
 
 // Prints the missing bytes of the first n, as one number in lines of 32.
-fn print_missing_at(dump: &[u8], n: usize)
+fn print_missing_at(rt: &impl Print, dump: &[u8], n: usize) -> io::Result<()>
     requires { n ≤ length dump.now }
 {
     let t = read_cut(dump, n);
     let r = t.answer;
     if n % 32 == 0 {
-        print_text(b"missing");
+        print_text(rt, b"missing")?;
     }
-    print_number(b" ", r.missing as u64);
+    print_number(rt, b" ", r.missing as u64)?;
     if n % 32 == 31 || n == dump.len() {
-        print_text(b"\n");
+        print_text(rt, b"\n")?;
     }
+    Ok(())
 }
 
 // Prints the missing bytes of every cut of a dump.
-fn print_missing(dump: &[u8]) {
+fn print_missing(rt: &impl Print, dump: &[u8]) -> io::Result<()> {
     let mut n: usize = 0;
     while n < dump.len() {
-        print_missing_at(dump, n);
+        print_missing_at(rt, dump, n)?;
         n += 1;
     }
-    print_missing_at(dump, dump.len());
+    print_missing_at(rt, dump, dump.len())
 }
 
 // Prints everything for one dump.
-fn run_sample(dump: &[u8]) {
+fn run_sample(rt: &impl Print, dump: &[u8]) -> io::Result<()> {
     let mut rows = [UNTOUCHED; ROWS];
     let mut refs = [UNTOUCHED; REFS];
     let t = read_into(dump, &mut rows, &mut refs);
     let r = t.answer;
-    print_read(r, &rows, &refs);
-    let unchanged = print_cuts(dump) && t.unchanged;
-    print_missing(dump);
+    print_read(rt, r, &rows, &refs)?;
+    let unchanged = print_cuts(rt, dump)? && t.unchanged;
+    print_missing(rt, dump)?;
     if unchanged {
-        print_text(b"rest unchanged\n");
+        print_text(rt, b"rest unchanged\n")
     } else {
-        print_text(b"rest changed\n");
+        print_text(rt, b"rest changed\n")
     }
 }
 
 // Prints the name of a file and everything for its dump.
-fn run_file(name: &[u8]) {
-    let fd = os::open_read(name);
-    if fd < 0 {
-        os::fail(name);
-        return;
+fn run_file(rt: &impl Print, name: &str, mut file: impl Read + Drop) -> io::Result<()> {
+    let mut dump = [0; BYTES];
+    let n = read_full(&mut file, &mut dump);
+    print_text(rt, name.as_bytes())?;
+    print_text(rt, b"\n")?;
+    if BYTES <= n {
+        return print_text(rt, b"too large\n");
     }
-    let mut dump = io::buffer();
-    let n = io::read_full(fd, &mut dump);
-    libc::close(fd);
-    print_text(name);
-    print_text(b"\n");
-    if 4096 <= n {
-        print_text(b"too large\n");
-        return;
-    }
-    run_sample(&dump[..n]);
+    run_sample(rt, &dump[..n])
 }
 
-// Runs the file that argument i names.
-fn run_argument(i: usize) {
-    let mut name = io::buffer();
-    let n = os::arg(i, &mut name);
-    run_file(&name[..n]);
+// Runs the file that an argument names, or tells why it cannot be opened.
+fn run_argument(rt: &(impl Files + Print + Eprint + Alloc), name: &str) -> io::Result<()> {
+    match File::open(rt, name) {
+        Ok(file) => run_file(rt, name, file),
+        Err(error) => print_failure(rt, name, error),
+    }
 }
 
-fn main() {
-    let n = os::arg_count();
-    let mut i: usize = 1;
-    while i < n {
-        run_argument(i);
-        i += 1;
+fn main(rt: HostRuntime) -> io::Result<()> {
+    for name in env::args(&rt)?.skip(1) {
+        run_argument(&rt, name.as_str())?;
     }
+    Ok(())
 }

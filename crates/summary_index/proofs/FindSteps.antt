@@ -36,14 +36,14 @@ module _ (buckets : List ℕ) (k : Key) where
       pub find_empty : slot ≡ 0 → NotFound ≡ find buckets k
       find_empty e = rw (find_step, eq-eqb slot 0 e)
 
-      module _ (full : slot ≡ 0 → ⊥) (word : ℕ) (is_IsWord : word ≡ word_at buckets at) (test : Bool) (is : test ≡ bucket_has word slot k) where
+      module _ (full : slot ≡ 0 → ⊥) (word : ℕ) (is_word : word ≡ word_at buckets at) (test : Bool) (is : test ≡ bucket_has word slot k) where
         -- A bucket that has the key ends it too.
         pub find_hit : test ≡ true → At ((slot - 1) / 2) ≡ find buckets k
-        find_hit t = rw (find_step, ne_eqb slot 0 full, ← is_IsWord, ← is, t)
+        find_hit t = rw (find_step, ne_eqb slot 0 full, ← is_word, ← is, t)
 
         -- Any other bucket is passed over.
         pub find_next : test ≡ false → FindLeft (at + 1)
-        find_next t = record { same = rw (find_step, ne_eqb slot 0 full, ← is_IsWord, ← is, t) }
+        find_next t = record { same = rw (find_step, ne_eqb slot 0 full, ← is_word, ← is, t) }
 
 -- Until a key is entered: the buckets are as they were, and those before `at`, from the first one on, are not empty.
 pub record NotEntered (first : ℕ) (buckets₀ buckets : List ℕ) (at : ℕ) : Type 0 where

@@ -19,15 +19,21 @@ mod tables;
 
 ghost use Rattle.std.specs.Prelude.{◌≤◌, ◌<◌, ◌≡◌, length};
 
-use libc::STDOUT_FILENO;
 use phd::Header;
 use samples_print::{
-    is_unchanged, line_end, print_answer, print_number, print_read, print_text, print_unchanged,
-    written_bytes,
+    is_unchanged, line_end, print_answer, print_failure, print_number, print_read, print_text,
+    print_unchanged, read_full, written_bytes,
 };
+use std::fs::File;
+use std::io::Read;
+use std::rt::Files;
+use std::{env, io};
 
 // The number of bytes in a line.
 const LINE: usize = 32;
+
+// The capacity for a file.
+const FILE: usize = 0x1_0000;
 
 // The capacity for name bytes and for output.
 const BYTES: usize = 0x1_1000;
@@ -43,22 +49,21 @@ fn filled_buffer(x: u8) -> [u8; BYTES]
 }
 
 // Prints a space and a byte as two hexadecimal digits.
-fn print_byte(x: u8) {
-    print_text(b" ");
-    io::print_hex(STDOUT_FILENO, x as u64, 2);
+fn print_byte(rt: &impl Print, x: u8) -> io::Result<()> {
+    print!(rt; " {x:02x}")
 }
 
 // Prints a line with the bytes from index `from` to before `end`.
-fn print_byte_line(s: &[u8], from: usize, end: usize)
+fn print_byte_line(rt: &impl Print, s: &[u8], from: usize, end: usize) -> io::Result<()>
     requires { end ≤ length s.now }
 {
-    print_text(b"bytes");
+    print_text(rt, b"bytes")?;
     let mut i = from;
     while i < end {
-        print_byte(s[i]);
+        print_byte(rt, s[i])?;
         i += 1;
     }
-    print_text(b"\n");
+    print_text(rt, b"\n")
 }
 
 // Checks whether the line from index `at` to before `end` is a whole one and equal to the one before it.
@@ -82,15 +87,16 @@ fn is_repeated_line(s: &[u8], at: usize, end: usize) -> bool
 }
 
 // Prints how many lines are left out, if any.
-fn print_repeated(n: usize) {
+fn print_repeated(rt: &impl Print, n: usize) -> io::Result<()> {
     if 0 < n {
-        print_number(b"repeated ", n as u64);
-        print_text(b"\n");
+        print_number(rt, b"repeated ", n as u64)?;
+        print_text(rt, b"\n")?;
     }
+    Ok(())
 }
 
 // Prints all bytes, in lines.
-fn print_bytes(s: &[u8]) {
+fn print_bytes(rt: &impl Print, s: &[u8]) -> io::Result<()> {
     let mut repeated: usize = 0;
     let mut at: usize = 0;
     while at < s.len() {
@@ -98,43 +104,51 @@ fn print_bytes(s: &[u8]) {
         if is_repeated_line(s, at, next) {
             repeated += 1;
         } else {
-            print_repeated(repeated);
+            print_repeated(rt, repeated)?;
             repeated = 0;
-            print_byte_line(s, at, next);
+            print_byte_line(rt, s, at, next)?;
         }
         at = next;
     }
-    print_repeated(repeated);
+    print_repeated(rt, repeated)
 }
 
 // Reads a dump, and prints the answer and the tables.
-fn print_read_back(dump: &[u8]) {
+fn print_read_back(rt: &impl Print, dump: &[u8]) -> io::Result<()> {
     let mut rows = [0; tables::ROWS];
     let mut refs = [0; tables::REFS];
     let r = phd_read::read_tables(dump, &mut rows, &mut refs);
-    print_text(b"read ");
-    print_read(r, &rows, &refs);
+    print_text(rt, b"read ")?;
+    print_read(rt, r, &rows, &refs)
 }
 
 // Prints the answer of a size query for tables, and the dump that is written to untouched output.
-fn print_dump_of(header: Header, rows: &[u64], refs: &[u64], names: &[u8], out: &mut [u8]) {
-    print_text(b"size ");
-    print_answer(phd_write::write_size(header, rows, refs, names));
-    print_text(b"\n");
+fn print_dump_of(
+    rt: &impl Print,
+    header: Header,
+    rows: &[u64],
+    refs: &[u64],
+    names: &[u8],
+    out: &mut [u8],
+) -> io::Result<()> {
+    print_text(rt, b"size ")?;
+    print_answer(rt, phd_write::write_size(header, rows, refs, names))?;
+    print_text(rt, b"\n")?;
     let answer = phd_write::write(header, rows, refs, names, out);
-    print_answer(answer);
-    print_text(b"\n");
+    print_answer(rt, answer)?;
+    print_text(rt, b"\n")?;
     let n = written_bytes(answer, out);
-    print_bytes(&out[..n]);
-    print_unchanged(b"rest ", is_unchanged(out, n, UNTOUCHED));
+    print_bytes(rt, &out[..n])?;
+    print_unchanged(rt, b"rest ", is_unchanged(out, n, UNTOUCHED))?;
     if answer.reply == 0 {
-        print_read_back(&out[..n]);
+        print_read_back(rt, &out[..n])?;
     }
+    Ok(())
 }
 
 // Writes the tables of one file. The numbers and bytes after the references and the name bytes that are passed are valid, so a
 // writer that read too far would not be refused there.
-fn run_sample(s: &[u8]) {
+fn run_sample(rt: &impl Print, s: &[u8]) -> io::Result<()> {
     let mut rows = [0; tables::ROWS];
     let n = tables::fill_numbers(s, 7, tables::HEAD, &mut rows);
     let mut refs = [4; tables::REFS];
@@ -144,41 +158,35 @@ fn run_sample(s: &[u8]) {
     let mut out = filled_buffer(UNTOUCHED);
     let capacity = tables::out_capacity(s, &out);
     print_dump_of(
+        rt,
         tables::header(s),
         &rows[..n],
         &refs[..m],
         &names[..k],
         &mut out[..capacity],
-    );
+    )
 }
 
 // Prints the name of a file and everything for its tables.
-fn run_file(name: &[u8]) {
-    let fd = os::open_read(name);
-    if fd < 0 {
-        os::fail(name);
-        return;
-    }
-    let mut file = io::large_buffer();
-    let n = io::read_full(fd, &mut file);
-    libc::close(fd);
-    print_text(name);
-    print_text(b"\n");
-    run_sample(&file[..n]);
+fn run_file(rt: &impl Print, name: &str, mut file: impl Read + Drop) -> io::Result<()> {
+    let mut bytes = [0; FILE];
+    let n = read_full(&mut file, &mut bytes);
+    print_text(rt, name.as_bytes())?;
+    print_text(rt, b"\n")?;
+    run_sample(rt, &bytes[..n])
 }
 
-// Runs the file that argument i names.
-fn run_argument(i: usize) {
-    let mut name = io::buffer();
-    let n = os::arg(i, &mut name);
-    run_file(&name[..n]);
+// Runs the file that an argument names, or tells why it cannot be opened.
+fn run_argument(rt: &(impl Files + Print + Eprint + Alloc), name: &str) -> io::Result<()> {
+    match File::open(rt, name) {
+        Ok(file) => run_file(rt, name, file),
+        Err(error) => print_failure(rt, name, error),
+    }
 }
 
-fn main() {
-    let n = os::arg_count();
-    let mut i: usize = 1;
-    while i < n {
-        run_argument(i);
-        i += 1;
+fn main(rt: HostRuntime) -> io::Result<()> {
+    for name in env::args(&rt)?.skip(1) {
+        run_argument(&rt, name.as_str())?;
     }
+    Ok(())
 }

@@ -7,23 +7,23 @@ use Rattle.phd_copy.specs.ReadThenWrite.{tables_pass_checks}
 use Rattle.phd_copy.proofs.read_passes_checks.Statement.{statement}
 use Rattle.phd_copy.proofs.read_passes_checks.Tie as tie
 
-read-tables-requires : tie.Need-read-tables-requires
-read-tables-requires c κs = search rules
+read_tables-requires : tie.Need-read_tables-requires
+read_tables-requires c κs = search rules
 
-same_length : tie.Need-same-length
-same_length c = search rules
+shape_of-rows : tie.Need-shape_of-rows
+shape_of-rows c = search rules
 
-same-length-2 : tie.Need-same-length-2
-same-length-2 c = search rules
+shape_of-refs : tie.Need-shape_of-refs
+shape_of-refs c = search rules
 
 returns : tie.Need-returns
 returns c =
-    let r = c.before.before.before.before.read_tables in
+    let r = c.read_tables in
     let k = c.before.before.before.before.before.before.before.before.before in
-    let a = k.before.args in
-    let b : AllBytes a.dump.now = record { each = λ i. omega (arith, k.shared-slice-known.given i) } in
-    tables_pass_checks a.dump.now b a.rows.now a.refs.now r.result r.new.1.0 r.new.1.1.0
+    let a = k.args in
+    let b : AllBytes a.dump.now = record { each = λ i. omega (arith, k.shared_slice_known-1.given i) } in
+    tables_pass_checks a.dump.now b a.rows.now a.refs.now r.result r.new.rows r.new.refs
     (record { is = r.ensures.0; row_table = r.ensures.1.0; ref_table = r.ensures.1.1 })
 
-pub read-passes-checks-spec : {M : Type 1} → statement M
-read-passes-checks-spec = tie.close (tie.spec read-tables-requires same_length same-length-2 returns)
+pub read_passes_checks_spec : {M : Type 1} → statement M
+read_passes_checks_spec = tie.close (tie.spec read_tables-requires shape_of-rows shape_of-refs returns)
