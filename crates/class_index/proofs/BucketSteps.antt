@@ -3,7 +3,7 @@
 use mathlib.Core.Path.{◌≡◌, sym, ◌∙◌}
 use mathlib.Core.Logic.{◌⊎◌, inl, inr}
 use mathlib.Core.Bool.{Bool, true, false, cond, ◌&&◌}
-use mathlib.Core.List.{List, [], ◌∷◌}
+use mathlib.Core.List.{List}
 use Prim.Native.Nat.{ℕ, suc, ◌+◌, ◌-◌, ◌≤◌, ◌<◌}
 use native.Mathlib.Omega.{arith}
 use lib.Dec.{eqb}
@@ -14,7 +14,6 @@ use Rattle.decode.specs.Slices.{slice_cons}
 use Rattle.table.specs.Table.{row_count}
 use Rattle.table.specs.Rows.{row_at, rows_of, length_rows, nth_row}
 use Rattle.table.specs.declared.Row.{Row}
-use Rattle.table.specs.declared.Search.{Search}
 use Rattle.table.specs.declared.Search.TheVariants.{At, NotFound}
 use Rattle.table.specs.RowBytes.{is_class_at}
 use Rattle.class_index.specs.ClassIndex.{first_bucket, is_class_row, search_in, search_buckets}

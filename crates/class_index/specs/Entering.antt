@@ -1,11 +1,11 @@
 -- Entering a class row in a bucket keeps what was found before, so the rows that were certified stay certified.
 -- Assumes nothing; no definition of the text uses it.
 use Rattle.std.specs.Prelude.{◌≡◌, refl, ◌⊎◌, Bool, eqb, ltb, length, get_or, take, drop, set}
-use Rattle.std.proofs.Common.{sym, ap, ◌∙◌, inr, ⊎_elim, length-set, drop-set-lt, get_or-take, get_or-drop, eq-eqb, ne_eqb}
+use Rattle.std.proofs.Common.{sym, ◌∙◌, inr, length-set, drop-set-lt, get_or-take, get_or-drop, eq-eqb, ne_eqb}
 use Rattle.std.proofs.Math.Logic.{inl}
 use Rattle.std.proofs.Math.Bool.{true, false, cond}
 use mathlib.Core.List.{List, [], ◌∷◌}
-use Prim.Native.Nat.{ℕ, zero, suc, ◌+◌, ◌-◌, ◌≤◌, ◌<◌}
+use Prim.Native.Nat.{ℕ, zero, suc, ◌+◌, ◌-◌, ◌<◌}
 use Rattle.std.proofs.Math.Decide.{dec_le}
 use native.Mathlib.Omega.{arith}
 use Rattle.std.proofs.lemmas.List.{take-set-le}

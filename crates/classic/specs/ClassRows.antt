@@ -1,6 +1,6 @@
 -- Class rows by name, and rows whose class row is missing, as properties of rows. The tests of ClassicText decide them.
 -- A reader must believe the records `ClassNamed` and `ClassMissing`.
-use Rattle.std.specs.Prelude.{◌≡◌, refl, ◌↔◌, ◌⊎◌, ℕ, Bool, true, false, ◌||◌, List, eqb}
+use Rattle.std.specs.Prelude.{◌≡◌, refl, ◌↔◌, ◌⊎◌, ℕ, Bool, true, false, ◌||◌, List}
 use Rattle.std.proofs.Common.{inl, inr, arith, eqb-true, eq-eqb}
 use Rattle.decode.specs.Values.{and_left, and_right}
 use Rattle.phd.specs.Phd.{bytes_equal}

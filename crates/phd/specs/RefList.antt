@@ -6,7 +6,7 @@ use Rattle.std.proofs.Common.{◌∙◌}
 use Prim.Native.Nat.{ℕ, suc, ◌-◌, ◌<◌}
 use mathlib.Core.List.{List, [], ◌∷◌}
 use native.Mathlib.Omega.{arith}
-use Rattle.decode.specs.Layout.{Outcome, whole, stops, and_then, run, ◌>>=◌, run_then, run_yield}
+use Rattle.decode.specs.Layout.{Outcome, whole, stops, and_then, run, run_then, run_yield}
 use Rattle.decode.specs.Fields.{ref_field}
 use Rattle.phd.specs.Phd.{ref_list}
 

@@ -1,7 +1,7 @@
 -- The bytes of a record: the tag, the flag byte and the fields in file order (docs/FORMAT.md 3.3). The widths come from `Shape`,
 -- as in the reader. A field that a form lacks has no bytes.
 -- A reader must believe these definitions; that decoding the bytes gives the encoded record is proved in phd_round_trip.
-use Rattle.std.specs.Prelude.{◌≡◌, ℕ, ◌+◌, ◌/◌, ◌≤◌, List, [], ◌∷◌, ◌++◌, cond, ltb}
+use Rattle.std.specs.Prelude.{◌≡◌, ℕ, ◌/◌, ◌≤◌, List, [], ◌∷◌, ◌++◌, cond, ltb}
 use Rattle.encode.specs.Encode.{join, be, gap, twos_complement, encode_ref_list}
 use Rattle.phd.specs.Phd.{hash_bytes, push}
 use Rattle.phd.specs.Shapes.{record_bytes}

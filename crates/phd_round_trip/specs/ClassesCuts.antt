@@ -2,12 +2,12 @@
 -- tables and list have capacity for the whole dump. The list holds the summaries of these rows (`classes_answer` and the contract of
 -- phd_classes::read).
 -- Assumes nothing.
-use Rattle.std.specs.Prelude.{◌≡◌, refl, ℕ, ◌+◌, ◌*◌, ◌≤◌, List, [], ◌∷◌, ◌++◌, map, length, take, drop}
+use Rattle.std.specs.Prelude.{◌≡◌, refl, ℕ, ◌*◌, ◌≤◌, List, [], ◌∷◌, length, take, drop}
 use Rattle.std.proofs.Common.{sym, ap, ◌∙◌, arith, take_all}
 use Rattle.std.proofs.Math.Decide.{dec_le}
 use Rattle.std.proofs.Math.Seq.{take-length}
 use Rattle.table.specs.Table.{row_width, row_count}
-use Rattle.table.specs.Rows.{Rec, without_place, rec_of, recs, rows_of}
+use Rattle.table.specs.Rows.{Rec, without_place, rec_of, recs}
 use Rattle.table.specs.declared.Row.{Row}
 use Rattle.summaries.specs.Summaries.{Key, key_of, keyed, keys_from, keys, summaries}
 use Rattle.summaries.specs.SummaryTotals.{length_is}

@@ -1,10 +1,10 @@
 -- One step of the loops that size and encode the rows: the bytes from a row of a table on, and what holds of that row.
 -- Assumes nothing.
 use Rattle.std.specs.Prelude.{◌≡◌, refl, List, ◌++◌, cond, length}
-use Prim.Native.Nat.{ℕ, suc, ◌+◌, ◌-◌, ◌*◌, ◌/◌, ◌%◌, ◌≤◌, ◌<◌}
+use Prim.Native.Nat.{ℕ, suc, ◌+◌, ◌*◌, ◌/◌, ◌%◌, ◌≤◌, ◌<◌}
 use native.Mathlib.Omega.{arith}
 use Rattle.encode.specs.Encode.{be}
-use Rattle.phd.specs.Phd.{max_address, push, shape}
+use Rattle.phd.specs.Phd.{max_address, push}
 use Rattle.phd.specs.Shapes.{ValidBits, WidthsLe8, shape_widths_le_8}
 use Rattle.phd.specs.declared.cache.Cache.{Cache}
 use Rattle.phd.specs.declared.Header.{Header}

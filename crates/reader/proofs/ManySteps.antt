@@ -1,10 +1,10 @@
 -- One step of a reading over the caller's tables is several steps, for any format.
 -- Assumes nothing.
-use Rattle.std.specs.Prelude.{◌≡◌, List, [], ◌++◌, ℕ, ◌+◌, ◌-◌, ◌*◌, ◌≤◌, ◌<◌, length, take}
+use Rattle.std.specs.Prelude.{◌≡◌, List, [], ◌++◌, ℕ, ◌+◌, ◌*◌, ◌≤◌, ◌<◌, length, take}
 use Rattle.std.proofs.Common.{sym, ap, ◌∙◌, inr, append-nil, arith, length-append, length-take-le, take-take}
 use Rattle.std.proofs.lemmas.List.{take-append-le}
 use Rattle.table.specs.Table.{row_width}
-use Rattle.reader.specs.Reader.{limit, Capacity, capacity, item, Format, State, Result, Transition, go, halt, step}
+use Rattle.reader.specs.Reader.{limit, Capacity, capacity, Format, State, Result, Transition, go, halt, step}
 use Rattle.reader.specs.Steps.{Lawful, ValidRow, empty_row, full_row}
 use Rattle.reader.proofs.Steps.{step_cases, records_step}
 use Rattle.reader.specs.TableSteps.{CursorOf, state_of, CursorInBounds, StepContinues}

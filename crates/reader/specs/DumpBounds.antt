@@ -1,6 +1,6 @@
 -- The least number of bytes that a format's header and records take. Theorems: proofs/DumpBounds.antt.
 -- A reader must believe `LeastBytes`.
-use Rattle.std.specs.Prelude.{◌≡◌, ℕ, ◌+◌, ◌-◌, ◌*◌, ◌≤◌, List}
+use Rattle.std.specs.Prelude.{◌≡◌, ℕ, ◌+◌, ◌*◌, ◌≤◌, List}
 use Rattle.std.proofs.Math.ListN.{length}
 use Rattle.decode.specs.Layout.{whole, run}
 use Rattle.table.specs.Table.{row_count}

@@ -2,7 +2,7 @@
 -- proofs/Prefixes.antt.
 use Rattle.std.specs.Prelude.{◌≡◌, List, ◌++◌}
 use Rattle.std.proofs.Common.{sym, ap, ◌∙◌, append_assoc}
-use Prim.Native.Nat.{ℕ, ◌+◌}
+use Prim.Native.Nat.{ℕ}
 use Rattle.reader.specs.Reader.{Format, State, Result, Transition, go, halt}
 
 -- xs is a prefix of ys; `more` is the rest.

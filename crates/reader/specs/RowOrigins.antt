@@ -2,7 +2,7 @@
 -- it, gives that row, and the offsets increase strictly. Theorems: proofs/RowOrigins.antt.
 -- A reader must believe `offset_of`, `StateAfter`, `RowOrigin` and `AllRowOrigins`.
 use Rattle.std.specs.Prelude.{◌≡◌, List, take}
-use Prim.Native.Nat.{ℕ, zero, suc, ◌-◌, ◌*◌, ◌<◌}
+use Prim.Native.Nat.{ℕ, zero, suc, ◌*◌, ◌<◌}
 use Rattle.std.proofs.Math.ListN.{length}
 use Rattle.decode.specs.Layout.{whole, run}
 use Rattle.table.specs.Table.{row_width, offset_number, row_count, row_slice, number}

@@ -1,6 +1,6 @@
 -- Tables within their capacity, with whole rows only, and the replies of every format. Theorems: proofs/WithinCapacity.antt.
 -- Assumes nothing.
-use Rattle.std.specs.Prelude.{◌≡◌, ℕ, ◌+◌, ◌%◌, ◌≤◌, List, ◌++◌, length}
+use Rattle.std.specs.Prelude.{◌≡◌, ℕ, ◌%◌, ◌≤◌, List, ◌++◌, length}
 use Rattle.std.proofs.Common.{length-append, arith}
 use Rattle.decode.specs.Layout.{Layout, stops, run, reply_of}
 use Rattle.decode.specs.Values.{Refuses}

@@ -2,7 +2,7 @@
 use Rattle.std.specs.Prelude.{◌≡◌, refl, ℕ, ◌+◌, ◌-◌, ◌*◌, ◌%◌, ◌≤◌, ◌<◌, List, [], ◌∷◌, ◌++◌, length, get_or, eqb}
 use Rattle.std.proofs.Common.{lit≤, arith}
 use Rattle.decode.specs.Numbers.{value_after}
-use Rattle.decode.specs.Layout.{whole, run, ◌>>=◌, ◌>>◌, position, raw, field, check}
+use Rattle.decode.specs.Layout.{whole, run, ◌>>=◌, position, raw, field, check}
 use Rattle.decode.specs.Fields.{exactly}
 use Rattle.decode.specs.Values.{Gives, cond_elim, gives_yield, gives_then_any, gives_cond, refuses_yield, refuses_then, refuses_cond, refuses_field, refuses_raw, refuses_position, refuses_exactly}
 use Rattle.decode.specs.Takes.{Takes, takes_yield, takes_then, takes_cases, takes_field, takes_raw, takes_exactly}

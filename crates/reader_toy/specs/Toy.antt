@@ -2,8 +2,8 @@
 -- bytes; length 0 is the end. The bytes of a record are its references, and a record whose first byte is even has no row. The
 -- context is the number of records so far.
 -- All theorems about formats hold for it (proofs/Toy.antt). A reader must believe `row`, `toy_record` and `toy`.
-use Rattle.std.specs.Prelude.{◌≡◌, ℕ, ◌+◌, ◌-◌, ◌%◌, ◌≤◌, List, [], ◌∷◌, cond, length, get_or, take, eqb}
-use Rattle.decode.specs.Layout.{Layout, yield, run, run_then, run_position, ◌>>=◌, ◌>>◌, position, raw, field}
+use Rattle.std.specs.Prelude.{◌≡◌, ℕ, ◌+◌, ◌%◌, ◌≤◌, List, [], ◌∷◌, cond, length, get_or, take, eqb}
+use Rattle.decode.specs.Layout.{Layout, yield, run, run_then, run_position, ◌>>=◌, position, raw, field}
 use Rattle.decode.specs.Fields.{exactly}
 use Rattle.reader.specs.Reader.{limit, Capacity, ◌⊑◌, Item, end_item, item, Format, read_result}
 use Rattle.reader.specs.Prefixes.{ResultPrefix}

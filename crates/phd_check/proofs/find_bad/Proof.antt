@@ -7,7 +7,6 @@ use Prim.Native.Nat.{◌+◌, ◌-◌, ◌≤◌, ◌<◌}
 use native.Mathlib.Omega.{arith}
 use lib.ListN.{length, take, drop}
 use borrow.Author.Rules.{rules}
-use borrow.Author.Tests.{not-true, not-false}
 use Rattle.decode.specs.Numbers.{all_within}
 use Rattle.table.specs.Rows.{row_at, refs_of, name_of, rows_of, rows_left}
 use Rattle.table.specs.Table.{row_count}

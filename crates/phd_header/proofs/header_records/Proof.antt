@@ -6,7 +6,7 @@ use Prim.Native.Nat.{◌≤◌}
 use lib.ListN.{length}
 use Rattle.decode.specs.Layout.{whole, run, field, run_then, run_yield, run_refuse, end_in_bounds}
 use Rattle.decode.specs.Fields.{outcome, string_outcome, string}
-use Rattle.phd.specs.Phd.{after_vm, header_records}
+use Rattle.phd.specs.Phd.{header_records}
 use Rattle.phd_header.proofs.header_records.Statement.{statement}
 use Rattle.phd_header.proofs.header_records.Tie as tie
 

@@ -5,7 +5,7 @@ use Prim.Native.Nat.{◌≤◌}
 use native.Mathlib.Omega.{arith}
 use lib.ListN.{length}
 use Rattle.decode.specs.Layout.{whole, run, run_then, run_yield, end_in_bounds}
-use Rattle.decode.specs.Fields.{outcome, string_outcome, exactly}
+use Rattle.decode.specs.Fields.{outcome, string_outcome}
 use Rattle.phd.specs.Phd.{preamble, header_records, header}
 use Rattle.phd_header.proofs.read_header.Statement.{statement}
 use Rattle.phd_header.proofs.read_header.Tie as tie

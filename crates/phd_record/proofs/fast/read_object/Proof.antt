@@ -4,7 +4,6 @@ use mathlib.Core.Path.{refl, sym, ap, ◌∙◌}
 use Prim.Native.Nat.{◌+◌, ◌*◌, ◌/◌, ◌^◌, ◌≤◌, ◌<◌}
 use native.Mathlib.Omega.{arith}
 use lib.ListN.{length}
-use borrow.Author.Tests.{not-false}
 use Rattle.phd.specs.declared.Shape.{Shape}
 use Rattle.phd_record.specs.FastPath.{ClassWidth}
 use Rattle.phd.specs.Shapes.{hash_bytes_le_4}

@@ -3,7 +3,6 @@ use borrow.Author.Rules.{rules}
 use Prim.Native.Nat.{◌-◌, ◌<◌}
 use native.Mathlib.Omega.{arith}
 use Rattle.phd.specs.Shapes.{ValidBits}
-use Rattle.table.specs.Rows.{row_at}
 use Rattle.table.specs.Table.{row_count}
 use Rattle.phd_encode.specs.PlanBounds.{address_size_of}
 use Rattle.phd_check.specs.WellFormed.{header_bits_good, table_rows_bound, ref_count_bound}
