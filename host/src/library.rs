@@ -5,8 +5,8 @@ use crate::summary::Summary;
 use crate::tables::{Header, Tables};
 
 /// Returns the largest number of rows that a dump of `dump_len` bytes can give: its header has at least 31 bytes, and a record
-/// at least two. With a table of that capacity a read never gives `reply::NO_ROW`. (Proved: `stored-bounds`, `rows-never-full`
-/// and `refs-never-full` in crates/phd_read/specs/ReadTheorems.antt.) No more entries are needed either, since each has a row:
+/// at least two. With a table of that capacity a read never gives `reply::NO_ROW`. (Proved: `stored_bounds`, `rows_never_full`
+/// and `refs_never_full` in crates/phd_read/specs/ReadTheorems.antt.) No more entries are needed either, since each has a row:
 /// with a list of so many a read never gives `reply::NO_ENTRY`.
 pub fn max_rows(dump_len: usize) -> usize {
     max_refs(dump_len) / 2

@@ -10,7 +10,7 @@ use Rattle.phd.specs.Phd.{limit, phd, capacity, ended, records, initial_state}
 use Rattle.phd.specs.declared.Header.{Header}
 use Rattle.reader.specs.TableSteps.{CursorOf, invariant_end, end_row_count, end_ref_count}
 use Rattle.reader.specs.Reader.{initial_state as any_initial_state}
-use Rattle.reader.specs.TableSteps as Any
+use Rattle.reader.specs.TableSteps as AnyFormat
 use Rattle.reader.specs.ManySteps as Many
 use Rattle.phd_read.specs.ReadContract.{read_answer}
 use Rattle.phd_read.specs.PhdLaws.{phd_lawful}
@@ -40,9 +40,9 @@ continued_end {h} {s} {k} {rows₀} {refs₀} {upto} {rows} {refs} {rows'} {refs
             (subst (λ (x : List ℕ). Many.ManySteps phd h s (cursor_of k) rows₀ refs₀ rows x (cursor_of cursor)) f w.steps));
         at_most = ⊎_elim (λ l. inl (omega arith)) (λ e. inr (sym n ∙ e)) w.at_most;
       },
-      subst (λ (x : CursorOf phd). Any.StepEnds phd h s x rows' refs' rows' refs' x reply place missing) c
-          (subst (λ (x : List ℕ). Any.StepEnds phd h s (cursor_of cursor) x refs' x refs' (cursor_of cursor) reply place missing) r
-          (subst (λ (x : List ℕ). Any.StepEnds phd h s (cursor_of cursor) rows x rows x (cursor_of cursor) reply place missing) f
+      subst (λ (x : CursorOf phd). AnyFormat.StepEnds phd h s x rows' refs' rows' refs' x reply place missing) c
+          (subst (λ (x : List ℕ). AnyFormat.StepEnds phd h s (cursor_of cursor) x refs' x refs' (cursor_of cursor) reply place missing) r
+          (subst (λ (x : List ℕ). AnyFormat.StepEnds phd h s (cursor_of cursor) rows x rows x (cursor_of cursor) reply place missing) f
           (record { steps = g.steps; cursor_same = refl; rows_same = refl; refs_same = refl }))),
     )
 

@@ -15,7 +15,7 @@ use Rattle.phd.specs.declared.Header.{Header}
 use Rattle.phd_record.specs.RecordOutcomes.{record_read_of, record_read_item}
 use Rattle.phd_record.specs.declared.RecordRead.{RecordRead}
 use Rattle.phd_record.specs.declared.Next.TheVariants.{Record}
-use Rattle.reader.proofs.TableSteps as Any
+use Rattle.reader.proofs.TableSteps as AnyFormat
 use Rattle.phd_read.specs.PhdLaws.{phd_lawful}
 use Rattle.phd_read.specs.RecordProperties.{ReadFrom, entry_read_from}
 use Rattle.phd_read.specs.StoredRefs.{RefsAllRead, values_of}
@@ -29,11 +29,11 @@ module _ (h : Header) {s rows refs : List ℕ} {k : Cursor} (fits : CursorInBoun
 
   -- The end tag ends the reading with reply 0.
   pub ends_at_end_tag : (n : ℕ) → at_cursor ≡ whole end_item n → StepEnds h s k rows refs rows refs k 0 n 0
-  ends_at_end_tag = Any.step_ends_end phd phd_lawful h fits
+  ends_at_end_tag = AnyFormat.step_ends_end phd phd_lawful h fits
 
   -- A stop ends the reading with its reply, at the cursor.
   pub ends_at_stop : (w : Stop) → at_cursor ≡ stops w → StepEnds h s k rows refs rows refs k (reply_of w) k.at (missing_of w)
-  ends_at_stop = Any.step_ends_stop phd phd_lawful h fits
+  ends_at_stop = AnyFormat.step_ends_stop phd phd_lawful h fits
 
   -- A record was read; the next tag is at offset n.
   module _ {f : RecordRead} {n : ℕ} (is : f ≡ record_read_of k.cache at_cursor) (what : f.next ≡ Record n) where
@@ -70,16 +70,16 @@ module _ (h : Header) {s rows refs : List ℕ} {k : Cursor} (fits : CursorInBoun
 
     -- Without capacity for a row, the reading ends with reply 13.
     pub ends_rows_full : length rows < k.rows * row_width + row_width → StepEnds h s k rows refs rows refs k 13 k.at 0
-    ends_rows_full r = Any.step_ends_rows phd phd_lawful h fits item_read.1 (omega (arith, read_from.numbers))
+    ends_rows_full r = AnyFormat.step_ends_rows phd phd_lawful h fits item_read.1 (omega (arith, read_from.numbers))
 
     -- Without capacity for the references, the reading ends with reply 14.
     pub ends_refs_full : k.rows * row_width + row_width ≤ length rows → length refs < k.refs + f.span.count
         → StepEnds h s k rows refs rows refs k 14 k.at 0
-    ends_refs_full r q = Any.step_ends_refs phd phd_lawful h fits item_read.1 (omega (arith, read_from.numbers)) (rw refs_length q)
+    ends_refs_full r q = AnyFormat.step_ends_refs phd phd_lawful h fits item_read.1 (omega (arith, read_from.numbers)) (rw refs_length q)
 
     -- With capacity for both, the record is stored and the reading continues.
     pub continues : k.rows * row_width + row_width ≤ length rows → k.refs + f.span.count ≤ length refs
         → StepContinues h s k rows refs (sets rows (k.rows * row_width) f.row) (sets refs k.refs (values_of refs_outcome)) (advanced k n f)
     continues r q =
         let l = read_from.numbers in
-        rw values_are (Any.step_continues phd phd_lawful h fits item_read.1 (k.rows + 1) (k.refs + f.span.count) (omega arith) (rw refs_length) (omega arith) (rw refs_length q))
+        rw values_are (AnyFormat.step_continues phd phd_lawful h fits item_read.1 (k.rows + 1) (k.refs + f.span.count) (omega arith) (rw refs_length) (omega arith) (rw refs_length q))

@@ -5,19 +5,19 @@ use Rattle.std.specs.Prelude.{◌≡◌, ◌⊎◌, ℕ, ◌+◌, ◌≤◌, Lis
 use Rattle.phd.specs.Phd.{make_context, empty_cache, phd}
 use Rattle.phd.specs.declared.Header.{Header}
 use Rattle.phd_record.specs.declared.RecordRead.{RecordRead}
-use Rattle.reader.specs.TableSteps as Any
+use Rattle.reader.specs.TableSteps as AnyFormat
 use Rattle.reader.specs.ManySteps as Many
 use Rattle.phd_read.specs.declared.records.Cursor.{Cursor}
 use Rattle.reader.specs.declared.StepResult.{StepResult}
 use Rattle.reader.specs.declared.StepResult.TheVariants.{Continue, End}
 
 -- The cursor as `reader` defines it.
-abbrev pub cursor_of : Cursor → Any.CursorOf phd
+abbrev pub cursor_of : Cursor → AnyFormat.CursorOf phd
 cursor_of k = record { at = k.at; context = make_context k.address k.cache; rows = k.rows; refs = k.refs }
 
 -- The cursor lies within the dump, and its counts of rows and references within the tables.
 abbrev pub CursorInBounds : (s rows refs : List ℕ) → Cursor → Type 0
-CursorInBounds s rows refs k = Any.CursorInBounds s rows refs (cursor_of k)
+CursorInBounds s rows refs k = AnyFormat.CursorInBounds s rows refs (cursor_of k)
 
 -- The cursor after the record f; the next tag is at offset n.
 abbrev pub advanced : Cursor → ℕ → RecordRead → Cursor
@@ -26,19 +26,19 @@ advanced k n f =
 
 -- The step continues the reading: it leads from the cursor k and the tables rows and refs to k', rows' and refs'.
 abbrev pub StepContinues : Header → List ℕ → Cursor → List ℕ → List ℕ → List ℕ → List ℕ → Cursor → Type 0
-StepContinues h s k rows refs rows' refs' k' = Any.StepContinues phd h s (cursor_of k) rows refs rows' refs' (cursor_of k')
+StepContinues h s k rows refs rows' refs' k' = AnyFormat.StepContinues phd h s (cursor_of k) rows refs rows' refs' (cursor_of k')
 
 -- The step ends the reading with a reply, its place and the missing bytes, and changes neither the cursor nor the tables.
 abbrev pub StepEnds : Header → List ℕ → Cursor → List ℕ → List ℕ → List ℕ → List ℕ → Cursor → ℕ → ℕ → ℕ → Type 0
-StepEnds h s k rows refs rows' refs' k' = Any.StepEnds phd h s (cursor_of k) rows refs rows' refs' (cursor_of k')
+StepEnds h s k rows refs rows' refs' k' = AnyFormat.StepEnds phd h s (cursor_of k) rows refs rows' refs' (cursor_of k')
 
 -- The contract of a step, by its result.
 abbrev pub StepContract : Header → List ℕ → Cursor → List ℕ → List ℕ → List ℕ → List ℕ → Cursor → StepResult → Type 0
-StepContract h s k rows refs rows' refs' k' = Any.StepContract phd h s (cursor_of k) rows refs rows' refs' (cursor_of k')
+StepContract h s k rows refs rows' refs' k' = AnyFormat.StepContract phd h s (cursor_of k) rows refs rows' refs' (cursor_of k')
 
 -- The invariant between two steps of a reading that began at offset `at` with the tables rows₀ and refs₀.
 abbrev pub LoopInvariant : Header → List ℕ → ℕ → (rows₀ refs₀ rows refs : List ℕ) → Cursor → Type 0
-LoopInvariant h s at rows₀ refs₀ rows refs k = Any.LoopInvariant phd h s at rows₀ refs₀ rows refs (cursor_of k)
+LoopInvariant h s at rows₀ refs₀ rows refs k = AnyFormat.LoopInvariant phd h s at rows₀ refs₀ rows refs (cursor_of k)
 
 -- Steps led from the cursor k and the tables rows and refs to k', rows' and refs'.
 abbrev pub ManySteps : Header → List ℕ → Cursor → List ℕ → List ℕ → List ℕ → List ℕ → Cursor → Type 0

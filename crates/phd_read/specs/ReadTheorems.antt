@@ -15,8 +15,8 @@ use Rattle.reader.proofs.MissingBytes.{read_missing, read_cut_append, missing_le
 use Rattle.reader.specs.RowOrigins.{offset_of, AllRowOrigins}
 use Rattle.reader.proofs.RowOrigins.{origin_count, next_offset_end}
 use Rattle.reader.proofs.WithinCapacity.{read_within_capacity}
-use Rattle.reader.specs.PrefixTables as Any
-use Rattle.reader.proofs.PrefixTables as AnyLaws
+use Rattle.reader.specs.PrefixTables as AnyFormat
+use Rattle.reader.proofs.PrefixTables as AnyFormatLaws
 use Rattle.phd_read.specs.Ranges.{refs_within, addresses_within}
 use Rattle.phd_read.specs.LengthBounds.{LengthsInBounds, read_lengths_in_bounds}
 use Rattle.phd_read.specs.PhdLaws.{phd_lawful, phd_always}
@@ -85,7 +85,7 @@ pub record PrefixAnswers (r r' : Result) (rows rows' refs refs' : List ℕ) : Ty
   pub rows_same : Final (read_answer r).reply → r'.rows ≡ r.rows
   pub refs_same : Final (read_answer r).reply → r'.refs ≡ r.refs
 
-prefix_answers_of : (r r' : Result) (rows rows' refs refs' : List ℕ) → Any.PrefixTables r r' rows rows' refs refs' → PrefixAnswers r r' rows rows' refs refs'
+prefix_answers_of : (r r' : Result) (rows rows' refs refs' : List ℕ) → AnyFormat.PrefixTables r r' rows rows' refs refs' → PrefixAnswers r r' rows rows' refs refs'
 unfolding read_answer
 prefix_answers_of r r' rows rows' refs refs' a = record {
   rows_le = a.rows_le;
@@ -101,7 +101,7 @@ prefix_answers_of r r' rows rows' refs refs' a = record {
 pub prefix_answers : (b : List ℕ) (m n : ℕ) (rows rows' refs refs' : List ℕ) → m ≤ n → length (take n b) ≤ limit
     → length rows ≤ length rows' → length refs ≤ length refs'
     → PrefixAnswers (read_result (take m b) (length rows) (length refs)) (read_result (take n b) (length rows') (length refs')) rows rows' refs refs'
-prefix_answers b m n rows rows' refs refs' h l p q = prefix_answers_of _ _ rows rows' refs refs' (AnyLaws.cuts_prefix_tables phd phd_lawful b m n rows rows' refs refs' h l p q)
+prefix_answers b m n rows rows' refs refs' h l p q = prefix_answers_of _ _ rows rows' refs refs' (AnyFormatLaws.cuts_prefix_tables phd phd_lawful b m n rows rows' refs refs' h l p q)
 
 -- ---- origins of rows
 

@@ -17,7 +17,7 @@ use Rattle.phd.specs.declared.cache.Cache.{Cache}
 use Rattle.phd.specs.declared.Header.{Header}
 use Rattle.phd.specs.declared.Span.{Span}
 use Rattle.reader.specs.DumpBounds.{LeastBytes}
-use Rattle.reader.proofs.DumpBounds as Any
+use Rattle.reader.proofs.DumpBounds as AnyFormat
 use Rattle.phd_read.specs.RecordLayout.{HasLayout, bare_row, entry_has_layout}
 use Rattle.phd_read.specs.PhdLaws.{phd_lawful, phd_always}
 use Rattle.phd_read.specs.RowTags.{phd_row_origins}
@@ -118,7 +118,7 @@ phd_min_bytes = record {
 
 -- A dump has at least two bytes after the header for each stored row, and one for each stored reference.
 pub stored_fits_dump : (s : List ℕ) (R F : ℕ) → row_count (read_result s R F).rows * record_min 0 + length (read_result s R F).refs ≤ length s - header_min
-stored_fits_dump s R F = Any.stored_bound phd phd_lawful header_min (record_min 0) phd_min_bytes s (capacity R F)
+stored_fits_dump s R F = AnyFormat.stored_bound phd phd_lawful header_min (record_min 0) phd_min_bytes s (capacity R F)
 
 -- Replies above 12 occur only if the tables are smaller than the bounds.
 module _ (s : List ℕ) (R F n : ℕ) (above : 12 < n) where
@@ -127,7 +127,7 @@ module _ (s : List ℕ) (R F n : ℕ) (above : 12 < n) where
 
   never_reply : (max_rows (length s) * row_width ≤ R) ⊎ (13 ≡ n → ⊥) → (max_refs (length s) ≤ F) ⊎ (14 ≡ n → ⊥) → (read_result s R F).reply ≡ n → ⊥
   never_reply p q =
-      Any.reply_when_enough phd phd_lawful header_min (record_min 0) phd_min_bytes s (capacity R F) (lit< tt) (λ r. r ≡ n → ⊥) (λ e. omega arith) (λ e. omega arith) (λ e. omega arith)
+      AnyFormat.reply_when_enough phd phd_lawful header_min (record_min 0) phd_min_bytes s (capacity R F) (lit< tt) (λ r. r ≡ n → ⊥) (λ e. omega arith) (λ e. omega arith) (λ e. omega arith)
       (not_refused header_refusals) (λ h c index. not_refused (entry_refusals h c.address c.cache index)) p q
 
 -- With capacity for `max_rows` rows, reply 13 does not occur.

@@ -7,7 +7,7 @@ use Rattle.phd.specs.Phd.{tag_form, State, phd, capacity, read_result}
 use Rattle.table.specs.Table.{row_count}
 use Rattle.phd.specs.declared.Form.{Form}
 use Rattle.phd.specs.declared.TagForm.TheVariants.{Begins}
-use Rattle.reader.proofs.RowOrigins as Any
+use Rattle.reader.proofs.RowOrigins as AnyFormat
 use Rattle.reader.specs.RowOrigins.{offset_of, AllRowOrigins}
 use Rattle.phd_read.specs.PhdLaws.{phd_lawful}
 use Rattle.phd_read.specs.RecordProperties.{entry_tag_form}
@@ -19,7 +19,7 @@ pub record TagAt (s : List ℕ) (place : ℕ) : Type 0 where
 
 -- Every stored row came from a record at its offset, and the offsets increase strictly.
 pub phd_row_origins : (s : List ℕ) (R F : ℕ) → AllRowOrigins phd s (capacity R F) (read_result s R F)
-phd_row_origins s R F = Any.read_row_origins phd phd_lawful s (capacity R F)
+phd_row_origins s R F = AnyFormat.read_row_origins phd phd_lawful s (capacity R F)
 
 -- The byte at the offset of each stored row is a record's tag.
 pub read_row_tag : (s : List ℕ) (R F i : ℕ) → i < row_count (read_result s R F).rows → TagAt s (offset_of (read_result s R F).rows i)

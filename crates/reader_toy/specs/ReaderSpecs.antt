@@ -4,7 +4,7 @@ use Rattle.std.specs.Prelude.{◌≡◌, ℕ, suc, ◌+◌, ◌%◌, ◌≤◌, 
 use Rattle.decode.specs.Layout.{whole, run}
 use Rattle.table.specs.Table.{row_width, row_count}
 use Rattle.reader.specs.Reader.{limit, capacity, item, Result, records, initial_state}
-use Rattle.reader.specs.TableSteps as Any
+use Rattle.reader.specs.TableSteps as AnyFormat
 use Rattle.reader_toy.specs.Toy.{row, toy}
 use Rattle.reader_toy.specs.declared.ReadAnswer.{ReadAnswer}
 use Rattle.reader_toy.specs.declared.Cursor.{Cursor}
@@ -26,12 +26,12 @@ record_row_width b = cond (eqb (b % 2) 0) 0 row_width
 -- ---- steps
 
 -- The cursor, as a `CursorOf` of crates/reader.
-abbrev pub cursor_of : Cursor → Any.CursorOf toy
+abbrev pub cursor_of : Cursor → AnyFormat.CursorOf toy
 cursor_of k = record { at = k.at; context = k.count; rows = k.rows; refs = k.refs }
 
 -- The cursor lies within the dump, what it counts lies within the tables, and there were no more records than bytes.
 pub record CursorValid (s rows refs : List ℕ) (k : Cursor) : Type 0 where
-  pub inside : Any.CursorInBounds s rows refs (cursor_of k)
+  pub inside : AnyFormat.CursorInBounds s rows refs (cursor_of k)
   pub few : k.count ≤ k.at
 
 -- A record is at the cursor; its n bytes begin at offset `from`.
@@ -43,5 +43,5 @@ pub record RecordAt (letter : ℕ) (s : List ℕ) (k : Cursor) (from n : ℕ) : 
 
 -- The contract of a step, by its result. A step that continues also preserves the bound on the number of records.
 abbrev pub StepContract : ℕ → List ℕ → Cursor → List ℕ → List ℕ → List ℕ → List ℕ → Cursor → StepResult → Type 0
-StepContract letter s k rows refs rows' refs' k' Continue = Any.StepContract toy letter s (cursor_of k) rows refs rows' refs' (cursor_of k') Continue × (k'.count ≤ k'.at)
-StepContract letter s k rows refs rows' refs' k' (End reply place missing) = Any.StepContract toy letter s (cursor_of k) rows refs rows' refs' (cursor_of k') (End reply place missing)
+StepContract letter s k rows refs rows' refs' k' Continue = AnyFormat.StepContract toy letter s (cursor_of k) rows refs rows' refs' (cursor_of k') Continue × (k'.count ≤ k'.at)
+StepContract letter s k rows refs rows' refs' k' (End reply place missing) = AnyFormat.StepContract toy letter s (cursor_of k) rows refs rows' refs' (cursor_of k') (End reply place missing)
