@@ -87,7 +87,7 @@ fewest_step n p l f =
           rw i l
     ]
 
--- `digit_count n` is the fewest digits that hold n, at least one, in the sense of `Fewest` of `io`.
+-- `digit_count n` is the fewest digits that hold n, at least one, in the sense of `IsDigitCount` of `io`.
 pub digit_count_fewest : (n : ℕ) → IsDigitCount 10 1 n (digit_count n)
 digit_count_fewest n = below n n (omega arith)
   where

@@ -12,8 +12,7 @@ struct Timespec {
 /// The clock of the calling thread's processor time, by its number on Linux.
 const THREAD_CPU_TIME: i32 = 3;
 
-/// How many rounds are measured of the largest tables; after a long time no more than the least number.
-const USUAL_ROUNDS: usize = 9;
+/// After this time no more than the least number of rounds is measured.
 const LONG: Duration = Duration::from_secs(20);
 const LEAST_ROUNDS: usize = 3;
 
@@ -43,7 +42,7 @@ pub fn keep_least(best: &mut Duration, work: impl FnOnce()) {
 /// Measures rounds of so many rows, the more of them the fewer rows there are.
 pub fn measure_rounds(rows: usize, mut round: impl FnMut()) {
     let start = Instant::now();
-    for number in 0..(30_000_000 / rows).clamp(USUAL_ROUNDS, 200) {
+    for number in 0..(10_000_000 / rows).clamp(LEAST_ROUNDS, 200) {
         if number >= LEAST_ROUNDS && start.elapsed() > LONG {
             break;
         }

@@ -10,73 +10,13 @@ use phd_host::summary::Summary;
 use phd_host::{library, plain, reply};
 use std::time::Duration;
 
-/// A heap to read.
-struct Case {
-    name: &'static str,
-    /// How many classes there are, where they are, and which of them the objects have; or nothing of these for a heap like a real one.
-    objects: Option<(usize, Order, ClassChoice)>,
-    /// How many entries the list has more than the heap needs; or nothing for many.
-    spare: Option<usize>,
-}
-
-impl Case {
-    const fn usual(name: &'static str, spare: Option<usize>) -> Case {
-        Case {
-            name,
-            objects: None,
-            spare,
-        }
-    }
-
-    const fn of(name: &'static str, classes: usize, order: Order, choice: ClassChoice) -> Case {
-        Case {
-            name,
-            objects: Some((classes, order, choice)),
-            spare: None,
-        }
-    }
-}
-
-const CASES: [Case; 9] = [
-    Case::usual("usual", None),
-    Case::of(
-        "3000 classes first",
-        3_000,
-        Order::ClassesFirst,
-        ClassChoice::Random,
-    ),
-    Case::of(
-        "3000 classes last",
-        3_000,
-        Order::ClassesLast,
-        ClassChoice::Random,
-    ),
-    Case::of(
-        "20000 classes first",
-        20_000,
-        Order::ClassesFirst,
-        ClassChoice::Random,
-    ),
-    Case::of(
-        "20000 classes last",
-        20_000,
-        Order::ClassesLast,
-        ClassChoice::Random,
-    ),
-    Case::of(
-        "one of 3000 classes",
-        3_000,
-        Order::ClassesFirst,
-        ClassChoice::One,
-    ),
-    Case::of(
-        "50000 classes first",
-        50_000,
-        Order::ClassesFirst,
-        ClassChoice::Random,
-    ),
-    Case::usual("usual, list with 100 entries to spare", Some(100)),
-    Case::usual("usual, list with none to spare", Some(0)),
+/// The heaps: a name, how many classes there are, and where; or nothing of these for a heap like a real one.
+const HEAPS: [(&str, Option<(usize, Order)>); 5] = [
+    ("usual", None),
+    ("3000 classes first", Some((3_000, Order::ClassesFirst))),
+    ("3000 classes last", Some((3_000, Order::ClassesLast))),
+    ("20000 classes first", Some((20_000, Order::ClassesFirst))),
+    ("20000 classes last", Some((20_000, Order::ClassesLast))),
 ];
 
 /// The least times of a read of one dump: without class summaries, with them, and with them by the plain implementation.
@@ -97,25 +37,13 @@ fn dump_of(heap: &Heap) -> Vec<u8> {
     dump
 }
 
-/// Returns how many entries the heap of a dump needs.
-fn entries_of(dump: &[u8], rows: &mut [u64], refs: &mut [u64]) -> usize {
-    let mut list = vec![Summary::default(); rows.len() / ROW_LEN];
-    let mut answer = [0; 16];
-    library::read(dump, rows, refs, &mut list, &mut answer);
-    answer[CLASSES] as usize
-}
-
 /// Measures the three reads in turn, and checks that all give the same tables and both lists are the same.
-fn measure(heap: &Heap, spare: Option<usize>) -> Times {
+fn measure(heap: &Heap) -> Times {
     let dump = dump_of(heap);
     let rows_len = heap.rows.len();
     let records = rows_len / ROW_LEN;
     let (mut rows, mut refs) = (vec![1; rows_len], vec![1; heap.refs.len()]);
-    let length = match spare {
-        Some(spare) => entries_of(&dump, &mut rows, &mut refs) + spare,
-        None => records.min(1 << 18),
-    };
-    let mut list = vec![Summary::default(); length];
+    let mut list = vec![Summary::default(); records.min(1 << 16)];
     let mut other = list.clone();
     let mut answer: Answer = [0; 16];
     let expected = [
@@ -154,19 +82,14 @@ pub fn print_table(sizes: &[usize]) {
     println!("reads with class summaries: nanoseconds of processor time for a record, the least of several rounds; wanted: at most 1.5 times a read without them");
     println!("| heap | records | entries | without summaries | with them | ratio | with them: plain | library divided by plain |");
     println!("|---|---|---|---|---|---|---|---|");
-    for Case {
-        name,
-        objects,
-        spare,
-    } in CASES
-    {
+    for (name, objects) in HEAPS {
         for &n in sizes {
             let heap = match objects {
                 None => Heap::of(n),
-                Some((classes, ..)) if 2 * classes > n => continue,
-                Some((classes, order, choice)) => Heap::of_objects(n, classes, order, choice),
+                Some((classes, _)) if 2 * classes > n => continue,
+                Some((classes, order)) => Heap::of_objects(n, classes, order, ClassChoice::Random),
             };
-            let t = measure(&heap, spare);
+            let t = measure(&heap);
             println!(
                 "| {name} | {n} | {} | {:.1} | {:.1} | {:.2} | {:.1} | {:.2} |",
                 t.entries,
