@@ -37,8 +37,8 @@ row_at-row-requires c κs = let m = c.loop-i.invariant.0.most in omega arith
 class : (c : tie.Then-certified-row invariant-loop-i decreases-loop-i) → c.row_at-row.result.kind ≡ 1
 class c = eqb-true _ _ (and_right c.loop-i.certified _ c.if-certified-row.true)
 
-all-entered : (c : tie.Then-certified-row invariant-loop-i decreases-loop-i) → c.loop-i.certified ≡ true
-all-entered c = and_left c.loop-i.certified (eqb c.row_at-row.result.kind 1) c.if-certified-row.true
+all_entered : (c : tie.Then-certified-row invariant-loop-i decreases-loop-i) → c.loop-i.certified ≡ true
+all_entered c = and_left c.loop-i.certified (eqb c.row_at-row.result.kind 1) c.if-certified-row.true
 
 enter_and_check-certified-requires : tie.Need-enter_and_check-certified-requires invariant-loop-i decreases-loop-i
 enter_and_check-certified-requires c κs =
@@ -71,7 +71,7 @@ loop-i-preserved c =
       ⊎_elim
           (λ w.
           let t : tie.Then-certified-row invariant-loop-i decreases-loop-i = record { before = j.before; if-certified-row = w.if-certified-row } in
-          let all = rw (all-entered t) at l.loop-i.invariant.1.0 in
+          let all = rw (all_entered t) at l.loop-i.invariant.1.0 in
           (rw (w.buckets-is, w.certified-is) (entered_class _ _ _ _ _ _ (omega arith) most r.row_at-row.ensures (class t) all w.enter_and_check-certified.ensures.1 w.enter_and_check-certified.ensures.0), ap length w.buckets-is ∙ (w.enter_and_check-certified.auto.buckets ∙ kept)))
           (λ w. (rw (w.buckets-is, w.certified-is) (entered_other _ _ _ _ _ (omega arith) most r.row_at-row.ensures w.if-certified-row.false l.loop-i.invariant.1.0), ap length w.buckets-is ∙ kept))
           j.if-certified-row.branch-raw,

@@ -44,8 +44,8 @@ in_bounds c = rw (text c) at (start c).requires.1.1.1.1.1.1.1.1
 after_first : (c : tie.After-write_first_line-first) → HasCapacity c.write_first_line-first.new.out c.write_first_line-first.result ((0x0A ∷ []) ++ rest c.before.before)
 after_first c = capacity_after c.write_first_line-first.ensures ((0x0A ∷ []) ++ rest c.before.before) (in_bounds c.before.before)
 
-after-byte : (c : tie.After-encode_byte-next) → HasCapacity c.encode_byte-next.new.out c.encode_byte-next.result (rest c.before.before.before.before.before.before)
-after-byte c =
+after_byte : (c : tie.After-encode_byte-next) → HasCapacity c.encode_byte-next.new.out c.encode_byte-next.result (rest c.before.before.before.before.before.before)
+after_byte c =
     let f = c.before.before.before.before in
     capacity_after c.encode_byte-next.ensures (rest f.before.before) (after_first f)
 
@@ -84,12 +84,12 @@ write_second_line-second-requires c κs =
     let b = c.before.before.before in
     let w = b.before.before.before.before.before.before in
     let p = (start w).requires in
-    (p.0, (p.1.1.1.1.1.1.1.0, capacity_first b.encode_byte-next.new.out _ (second w) (0x0A ∷ []) (after-byte b)))
+    (p.0, (p.1.1.1.1.1.1.1.0, capacity_first b.encode_byte-next.new.out _ (second w) (0x0A ∷ []) (after_byte b)))
 
 encode_byte-requires : tie.Need-encode_byte-requires
 encode_byte-requires c κs =
     let g = c.before.before.before in
-    capacity_after g.write_second_line-second.ensures (0x0A ∷ []) (after-byte g.before.before.before.before)
+    capacity_after g.write_second_line-second.ensures (0x0A ∷ []) (after_byte g.before.before.before.before)
 
 shape_of-out : tie.Need-shape_of-out
 shape_of-out c = search rules

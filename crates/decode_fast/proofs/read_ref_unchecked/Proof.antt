@@ -11,8 +11,8 @@ use Rattle.decode_fast.proofs.read_ref_unchecked.Statement.{statement}
 use Rattle.decode_fast.proofs.read_ref_unchecked.Tie as tie
 
 -- The shifted constant is the reach of w bytes.
-far-is : (c : tie.After-be_u32) → let w = c.args.w in 0x200000000 / 2 ^ (32 - 8 * w) ≡ gap_reach w
-far-is c = let z = c.before.before in gap_reach_shift 4 z.args.w z.requires.1
+far_is : (c : tie.After-be_u32) → let w = c.args.w in 0x200000000 / 2 ^ (32 - 8 * w) ≡ gap_reach w
+far_is c = let z = c.before.before in gap_reach_shift 4 z.args.w z.requires.1
 
 -- 4 times the biased value is less than twice the reach, so the sum does not wrap.
 up : (c : tie.After-be_u32) → let w = c.args.w in 4 * biased 4 w c.be_u32.result < gap_reach w + gap_reach w
@@ -36,7 +36,7 @@ overflow_add-biased : tie.Need-overflow_add-biased
 overflow_add-biased c = search rules
 
 overflow_sub-result : tie.Need-overflow_sub-result
-overflow_sub-result c = omega (arith, far-is c)
+overflow_sub-result c = omega (arith, far_is c)
 
 overflow_shr-result : tie.Need-overflow_shr-result
 overflow_shr-result c = search rules
@@ -45,7 +45,7 @@ overflow_mul-result : tie.Need-overflow_mul-result
 overflow_mul-result c = omega (arith, up c)
 
 overflow_add-result : tie.Need-overflow_add-result
-overflow_add-result c = omega (arith, far-is c, up c)
+overflow_add-result c = omega (arith, far_is c, up c)
 
 returns : tie.Need-returns
 returns c =
@@ -54,7 +54,7 @@ returns c =
     let s = a.s.now in
     let e : c.be_u32.result / 2 ^ (32 - 8 * a.w) ≡ value (take a.w (drop a.at s))
     = rw c.be_u32.ensures.0 (value_shift s a.at (λ i. omega (arith, c.shared_slice_known-1.given i)) 4 a.w z.requires.1 z.requires.2) in
-    rw (far-is c, ← e) (biased_target 4 a.w c.be_u32.result z.requires.0 z.requires.1 c.be_u32.ensures.1 a.a z.requires.3)
+    rw (far_is c, ← e) (biased_target 4 a.w c.be_u32.result z.requires.0 z.requires.1 c.be_u32.ensures.1 a.a z.requires.3)
 
 pub read_ref_unchecked_spec : {M : Type 1} → statement M
 read_ref_unchecked_spec =

@@ -15,11 +15,11 @@ use Rattle.digits.proofs.hex8_characters.Tie as tie
 abbrev halves : ℕ → ℕ
 halves n = n / 0x10000 % 0x10000 * 0x100000000 + n % 0x10000
 
-abbrev high-bytes : ℕ → ℕ
-high-bytes n = bit_and (halves n / 0x100) 0xFF000000FF
+abbrev high_bytes : ℕ → ℕ
+high_bytes n = bit_and (halves n / 0x100) 0xFF000000FF
 
 abbrev quarters : ℕ → ℕ
-quarters n = halves n + 0xFF00 * high-bytes n
+quarters n = halves n + 0xFF00 * high_bytes n
 
 abbrev high_digits : ℕ → ℕ
 high_digits n = bit_and (quarters n / 0x10) 0xF000F000F000F
@@ -39,14 +39,14 @@ bytes_spread n =
     ap (λ (x : ℕ). x + 0xF0 * bit_and (x / 0x10) 0xF000F000F000F) q ∙ spread_16 4 n
 
 -- The masks bound what they keep.
-high-bytes-le : (n : ℕ) → high-bytes n ≤ 0xFF000000FF
-high-bytes-le n = and_le_r (halves n / 0x100) 0xFF000000FF
+high_bytes_le : (n : ℕ) → high_bytes n ≤ 0xFF000000FF
+high_bytes_le n = and_le_r (halves n / 0x100) 0xFF000000FF
 
-high-digits-le : (n : ℕ) → high_digits n ≤ 0xF000F000F000F
-high-digits-le n = and_le_r (quarters n / 0x10) 0xF000F000F000F
+high_digits_le : (n : ℕ) → high_digits n ≤ 0xF000F000F000F
+high_digits_le n = and_le_r (quarters n / 0x10) 0xF000F000F000F
 
-letters-le : (n : ℕ) → letters n ≤ 0x0101010101010101
-letters-le n = and_le_r ((bytes n + 0x0606060606060606) / 0x10) 0x0101010101010101
+letters_le : (n : ℕ) → letters n ≤ 0x0101010101010101
+letters_le n = and_le_r ((bytes n + 0x0606060606060606) / 0x10) 0x0101010101010101
 
 overflow_mul-halves : tie.Need-overflow_mul-halves
 overflow_mul-halves c = search rules
@@ -55,28 +55,28 @@ overflow_add-halves : tie.Need-overflow_add-halves
 overflow_add-halves c = search rules
 
 overflow_mul-quarters : tie.Need-overflow_mul-quarters
-overflow_mul-quarters c = omega (arith, high-bytes-le c.args.n)
+overflow_mul-quarters c = omega (arith, high_bytes_le c.args.n)
 
 overflow_add-quarters : tie.Need-overflow_add-quarters
-overflow_add-quarters c = omega (arith, high-bytes-le c.args.n)
+overflow_add-quarters c = omega (arith, high_bytes_le c.args.n)
 
 overflow_mul-bytes : tie.Need-overflow_mul-bytes
-overflow_mul-bytes c = omega (arith, high-digits-le c.args.n)
+overflow_mul-bytes c = omega (arith, high_digits_le c.args.n)
 
 overflow_add-bytes : tie.Need-overflow_add-bytes
-overflow_add-bytes c = omega (arith, high-bytes-le c.args.n, high-digits-le c.args.n)
+overflow_add-bytes c = omega (arith, high_bytes_le c.args.n, high_digits_le c.args.n)
 
 overflow_add-letters : tie.Need-overflow_add-letters
-overflow_add-letters c = omega (arith, high-bytes-le c.args.n, high-digits-le c.args.n)
+overflow_add-letters c = omega (arith, high_bytes_le c.args.n, high_digits_le c.args.n)
 
 overflow_add-result : tie.Need-overflow_add-result
-overflow_add-result c = omega (arith, high-bytes-le c.args.n, high-digits-le c.args.n)
+overflow_add-result c = omega (arith, high_bytes_le c.args.n, high_digits_le c.args.n)
 
 overflow_mul-result : tie.Need-overflow_mul-result
-overflow_mul-result c = omega (arith, letters-le c.args.n)
+overflow_mul-result c = omega (arith, letters_le c.args.n)
 
 overflow_add-result-2 : tie.Need-overflow_add-result-2
-overflow_add-result-2 c = omega (arith, high-bytes-le c.args.n, high-digits-le c.args.n, letters-le c.args.n)
+overflow_add-result-2 c = omega (arith, high_bytes_le c.args.n, high_digits_le c.args.n, letters_le c.args.n)
 
 returns : tie.Need-returns
 unfolding fields

@@ -47,17 +47,17 @@ abbrev start : tie.At-rows invariant-loop-j decreases-loop-j invariant-loop-k de
 start w = w.before.before.before.before.before.before
 
 -- After the first test, the numbers of the row are good.
-numbers-good : (c : tie.Else-not-numbers_good invariant-loop-j decreases-loop-j invariant-loop-k decreases-loop-k invariant-rows decreases-rows)
+numbers_are_good : (c : tie.Else-not-numbers_good invariant-loop-j decreases-loop-j invariant-loop-k decreases-loop-k invariant-rows decreases-rows)
     → let a = (start (head c)).args in
     good_numbers a.header (head c).rows.index (length a.refs.now) (length a.names.now) c.row_at-row.result ≡ true
-numbers-good c = sym c.numbers_good.ensures ∙ c.if-not-numbers_good.false
+numbers_are_good c = sym c.numbers_good.ensures ∙ c.if-not-numbers_good.false
 
 -- The references and the name of the row lie within their tables.
-name-bound : (c : tie.Else-not-numbers_good invariant-loop-j decreases-loop-j invariant-loop-k decreases-loop-k invariant-rows decreases-rows)
+name_bound : (c : tie.Else-not-numbers_good invariant-loop-j decreases-loop-j invariant-loop-k decreases-loop-k invariant-rows decreases-rows)
     → let a = (start (head c)).args in SpansInBounds a.names.now a.refs.now c.row_at-row.result
-name-bound c =
+name_bound c =
     let a = (start (head c)).args in
-    numbers_in_bounds a.header a.names.now a.refs.now (head c).rows.index c.row_at-row.result (numbers-good c)
+    numbers_in_bounds a.header a.names.now a.refs.now (head c).rows.index c.row_at-row.result (numbers_are_good c)
 
 max_address_of-top-requires : tie.Need-max_address_of-top-requires invariant-loop-j decreases-loop-j invariant-loop-k decreases-loop-k invariant-rows decreases-rows
 max_address_of-top-requires c κs = search rules
@@ -76,12 +76,12 @@ numbers_good-requires : tie.Need-numbers_good-requires invariant-loop-j decrease
 numbers_good-requires c κs = search rules
 
 overflow_add-last : tie.Need-overflow_add-last invariant-loop-j decreases-loop-j invariant-loop-k decreases-loop-k invariant-rows decreases-rows
-overflow_add-last c = omega (arith, name-bound c.before.before)
+overflow_add-last c = omega (arith, name_bound c.before.before)
 
 loop-j-init : tie.Need-loop-j-init invariant-loop-j decreases-loop-j invariant-loop-k decreases-loop-k invariant-rows decreases-rows
 loop-j-init c =
     let d = c.before.before in
-    (omega arith, omega (arith, name-bound d), ap (good_refs _) (refs_of_slice _ d.row_at-row.result))
+    (omega arith, omega (arith, name_bound d), ap (good_refs _) (refs_of_slice _ d.row_at-row.result))
 
 offset_bounds-refs-j : tie.Need-offset_bounds-refs-j invariant-loop-j decreases-loop-j invariant-loop-k decreases-loop-k invariant-rows decreases-rows
 offset_bounds-refs-j c = search rules
@@ -105,12 +105,12 @@ loop-j-preserved c =
     (omega arith, omega arith, sym (good_refs_next _ _ l.loop-j.j _ (omega arith) (omega arith) e) ∙ l.loop-j.invariant.2)
 
 overflow_add-end : tie.Need-overflow_add-end invariant-loop-j decreases-loop-j invariant-loop-k decreases-loop-k invariant-rows decreases-rows
-overflow_add-end c = let d = c.before.before in omega (arith, name-bound d, (start (head d)).well_formed.1.0)
+overflow_add-end c = let d = c.before.before in omega (arith, name_bound d, (start (head d)).well_formed.1.0)
 
 loop-k-init : tie.Need-loop-k-init invariant-loop-j decreases-loop-j invariant-loop-k decreases-loop-k invariant-rows decreases-rows
 loop-k-init c =
     let d = c.before.before in
-    (omega arith, omega (arith, name-bound d), ap (all_within 0x21 0x7E) (name_of_slice _ d.row_at-row.result))
+    (omega arith, omega (arith, name_bound d), ap (all_within 0x21 0x7E) (name_of_slice _ d.row_at-row.result))
 
 bounds-names-k : tie.Need-bounds-names-k invariant-loop-j decreases-loop-j invariant-loop-k decreases-loop-k invariant-rows decreases-rows
 bounds-names-k c = search rules
@@ -130,27 +130,27 @@ loop-k-preserved c =
     (omega arith, omega arith, sym (name_bytes_next _ l.loop-k.k _ (omega arith) (omega arith) c.if-names-k.false) ∙ l.loop-k.invariant.2)
 
 -- The point after the test of the row's numbers, from the end of its checks.
-abbrev good-from : tie.After-struct_known-in-rows-2-1 invariant-loop-j decreases-loop-j invariant-loop-k decreases-loop-k invariant-rows decreases-rows → tie.Else-not-numbers_good invariant-loop-j decreases-loop-j invariant-loop-k decreases-loop-k invariant-rows decreases-rows
-good-from c = c.before.before.before.before.before
+abbrev good_from : tie.After-struct_known-in-rows-2-1 invariant-loop-j decreases-loop-j invariant-loop-k decreases-loop-k invariant-rows decreases-rows → tie.Else-not-numbers_good invariant-loop-j decreases-loop-j invariant-loop-k decreases-loop-k invariant-rows decreases-rows
+good_from c = c.before.before.before.before.before
 
 overflow_add-index : tie.Need-overflow_add-index invariant-loop-j decreases-loop-j invariant-loop-k decreases-loop-k invariant-rows decreases-rows
 overflow_add-index c =
-    let d = good-from c in
+    let d = good_from c in
     let a = (start (head d)).args in
-    omega (arith, name-bound d, row_first a.header a.names.now a.refs.now (head d).rows.index _ (numbers-good d), (start (head d)).well_formed.1.1.0)
+    omega (arith, name_bound d, row_first a.header a.names.now a.refs.now (head d).rows.index _ (numbers_are_good d), (start (head d)).well_formed.1.1.0)
 
 overflow_add-i : tie.Need-overflow_add-i invariant-loop-j decreases-loop-j invariant-loop-k decreases-loop-k invariant-rows decreases-rows
-overflow_add-i c = omega (arith, (start (head (good-from c))).well_formed.1.1.1.0)
+overflow_add-i c = omega (arith, (start (head (good_from c))).well_formed.1.1.1.0)
 
 rows-smaller : tie.Need-rows-smaller invariant-loop-j decreases-loop-j invariant-loop-k decreases-loop-k invariant-rows decreases-rows
 rows-smaller c = search rules
 
 -- After the second test the references of the row are good: the loop passed them all, or all of the table are good.
-refs-checked : (c : tie.Joined-not-clean invariant-loop-j decreases-loop-j invariant-loop-k decreases-loop-k invariant-rows decreases-rows)
+refs_checked : (c : tie.Joined-not-clean invariant-loop-j decreases-loop-j invariant-loop-k decreases-loop-k invariant-rows decreases-rows)
     → let w = head c.before in
     good_refs w.max_address_of-top.result (refs_of (start w).args.refs.now c.row_at-row.result) ≡ true
 unfolding good_refs
-refs-checked c =
+refs_checked c =
     let w = head c.before in
     let r = c.row_at-row.result in
     ⊎_elim (λ o. let e : r.first + r.count - o.loop-j.j ≡ 0 = omega arith in sym (rw e at o.loop-j.invariant.2))
@@ -158,29 +158,29 @@ refs-checked c =
     c.if-not-clean.branch-raw
 
 -- A row that passed all checks is good.
-row-checked : (c : tie.After-struct_known-in-rows-2-1 invariant-loop-j decreases-loop-j invariant-loop-k decreases-loop-k invariant-rows decreases-rows)
-    → let w = head (good-from c) in
+row_checked : (c : tie.After-struct_known-in-rows-2-1 invariant-loop-j decreases-loop-j invariant-loop-k decreases-loop-k invariant-rows decreases-rows)
+    → let w = head (good_from c) in
     let a = (start w).args in
     good_row a.header a.names.now a.refs.now w.rows.index (row_at a.rows.now w.rows.i) ≡ true
 unfolding all_within
-row-checked c =
-    let d = good-from c in
+row_checked c =
+    let d = good_from c in
     let w = head d in
     let a = (start w).args in
     let m = c.before.before in
     let r = d.row_at-row.result in
     let f : r.place + r.namelen - m.loop-k.k ≡ 0 = omega arith in
     rw (← d.row_at-row.ensures)
-    (good_row_by_parts a.header a.names.now a.refs.now w.rows.index r (numbers-good d) (rw (← w.max_address_of-top.ensures) (refs-checked m.before.before))
+    (good_row_by_parts a.header a.names.now a.refs.now w.rows.index r (numbers_are_good d) (rw (← w.max_address_of-top.ensures) (refs_checked m.before.before))
     (sym (rw f at m.loop-k.invariant.2)))
 
 rows-preserved : tie.Need-rows-preserved invariant-loop-j decreases-loop-j invariant-loop-k decreases-loop-k invariant-rows decreases-rows
 unfolding row_count
 rows-preserved c =
-    let d = good-from c in
+    let d = good_from c in
     let w = head d in
     let a = (start w).args in
-    let l = first_bad_later a.header a.names.now a.refs.now a.rows.now w.rows.i w.rows.index (omega arith) (row-checked c) in
+    let l = first_bad_later a.header a.names.now a.refs.now a.rows.now w.rows.i w.rows.index (omega arith) (row_checked c) in
     (omega arith, rw d.row_at-row.ensures (sym l ∙ w.rows.invariant.1))
 
 -- If the loop ended early, the row at which it ended is bad: by its numbers, a reference or a name byte.

@@ -42,11 +42,11 @@ middle c = progress_next (front c.before.before.before.before) c.encode_middle-c
 abbrev name : tie.After-encode_name-d → WriteProgress
 name c = progress_next (middle c.before.before.before.before) c.encode_name-d.ensures
 
-abbrev refs-done : tie.After-encode_refs-e → WriteProgress
-refs-done c = progress_next (name c.before.before.before.before) c.encode_refs-e.ensures
+abbrev refs_done : tie.After-encode_refs-e → WriteProgress
+refs_done c = progress_next (name c.before.before.before.before) c.encode_refs-e.ensures
 
 abbrev tail : tie.After-encode_tail → WriteProgress
-tail c = progress_next (refs-done c.before.before.before.before) c.encode_tail.ensures
+tail c = progress_next (refs_done c.before.before.before.before) c.encode_tail.ensures
 
 is_compact-requires : tie.Need-is_compact-requires
 is_compact-requires c κs = search rules
@@ -83,7 +83,7 @@ encode_refs-e-requires c κs =
     ((start n.before.before.before.before.before.before.before.before.before.before.before.before).requires.0.0, next_part_fits (name n))
 
 encode_tail-requires : tie.Need-encode_tail-requires
-encode_tail-requires c κs = next_part_fits (refs-done c.before.before.before)
+encode_tail-requires c κs = next_part_fits (refs_done c.before.before.before)
 
 shape_of-out : tie.Need-shape_of-out
 shape_of-out c = search rules

@@ -10,25 +10,25 @@ use Rattle.phd_plan.proofs.flags_of.Statement.{statement}
 use Rattle.phd_plan.proofs.flags_of.Tie as tie
 
 -- The flag bits for a hash kind are at most 3, those of a class at most 8.
-hash-most : (k : ℕ) → hash_flags k ≤ 3
+hash_most : (k : ℕ) → hash_flags k ≤ 3
 unfolding hash_flags
-hash-most k = by (eqb k 2) (eqb k 1)
+hash_most k = by (eqb k 2) (eqb k 1)
   where
     by : (a b : Bool) → cond a 3 (cond b 1 0) ≤ 3
     by true b = omega arith
     by false true = omega arith
     by false false = omega arith
 
-class-most : (k : ℕ) → class_flags k ≤ 8
+class_most : (k : ℕ) → class_flags k ≤ 8
 unfolding class_flags
-class-most k = by (eqb k 2)
+class_most k = by (eqb k 2)
   where
     by : (a : Bool) → cond a 8 0 ≤ 8
     by true = omega arith
     by false = omega arith
 
-low-most : (c : tie.After-hash_flags-hash) → c.hash_flags-hash.result ≤ 3
-low-most c = rw c.hash_flags-hash.ensures (hash-most _)
+low_most : (c : tie.After-hash_flags-hash) → c.hash_flags-hash.result ≤ 3
+low_most c = rw c.hash_flags-hash.ensures (hash_most _)
 
 hash_flags-hash-requires : tie.Need-hash_flags-hash-requires
 hash_flags-hash-requires c κs = search rules
@@ -46,13 +46,13 @@ enum_told-1 : tie.Need-enum_told-1
 enum_told-1 c = search rules
 
 overflow_add-result : tie.Need-overflow_add-result
-overflow_add-result c = let l = low-most c.before.before.before in omega arith
+overflow_add-result c = let l = low_most c.before.before.before in omega arith
 
 enum_told-in-ObjectArray : tie.Need-enum_told-in-ObjectArray
 enum_told-in-ObjectArray c = search rules
 
 overflow_add-result-in-ObjectArray : tie.Need-overflow_add-result-in-ObjectArray
-overflow_add-result-in-ObjectArray c = let l = low-most c.before.before.before in omega arith
+overflow_add-result-in-ObjectArray c = let l = low_most c.before.before.before in omega arith
 
 enum_told-in-Class : tie.Need-enum_told-in-Class
 enum_told-in-Class c = search rules
@@ -61,7 +61,7 @@ class_flags-requires : tie.Need-class_flags-requires
 class_flags-requires c κs = search rules
 
 overflow_add-result-in-Class : tie.Need-overflow_add-result-in-Class
-overflow_add-result-in-Class c = let l : c.class_flags.result ≤ 8 = rw c.class_flags.ensures (class-most _) in omega arith
+overflow_add-result-in-Class c = let l : c.class_flags.result ≤ 8 = rw c.class_flags.ensures (class_most _) in omega arith
 
 enum_told-in-LongPrimitive : tie.Need-enum_told-in-LongPrimitive
 enum_told-in-LongPrimitive c = search rules
@@ -70,7 +70,7 @@ overflow_mul-result : tie.Need-overflow_mul-result
 overflow_mul-result c = search rules
 
 overflow_add-result-then-m-eq0 : tie.Need-overflow_add-result-then-m-eq0
-overflow_add-result-then-m-eq0 c = let l = low-most c.before.before.before.before.before.before in omega arith
+overflow_add-result-then-m-eq0 c = let l = low_most c.before.before.before.before.before.before in omega arith
 
 returns-then-m-eq0 : tie.Need-returns-then-m-eq0
 unfolding flags_of
@@ -85,7 +85,7 @@ overflow_add-result-in-LongPrimitive : tie.Need-overflow_add-result-in-LongPrimi
 overflow_add-result-in-LongPrimitive c = search rules
 
 overflow_add-result-in-LongPrimitive-2 : tie.Need-overflow_add-result-in-LongPrimitive-2
-overflow_add-result-in-LongPrimitive-2 c = let l = low-most c.before.before.before.before.before.before in omega arith
+overflow_add-result-in-LongPrimitive-2 c = let l = low_most c.before.before.before.before.before.before in omega arith
 
 enum_told-in-Short : tie.Need-enum_told-in-Short
 enum_told-in-Short c = search rules

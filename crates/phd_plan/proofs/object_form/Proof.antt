@@ -21,8 +21,8 @@ not_short c =
     (⊎_elim (λ w. rw (le-leb _ _ w.if-m-le3.true, le-ltb _ _ w.if-m-lt4.false)) (λ w. rw (lt-leb _ _ w.if-m-le3.false)))
     c.else-m-le3.branch-raw
 
-not-medium : (c : tie.Joined-else-m-le7) → let m = c.args.m in leb m.count 7 && ltb m.gap 2 ≡ false
-not-medium c =
+not_medium : (c : tie.Joined-else-m-le7) → let m = c.args.m in leb m.count 7 && ltb m.gap 2 ≡ false
+not_medium c =
     ⊎_elim
     (λ w. rw (le-leb _ _ w.if-m-le7.true, le-ltb _ _ w.if-m-lt2-2.false))
     (λ w. rw (lt-leb _ _ w.if-m-le7.false))
@@ -50,7 +50,7 @@ returns-then-m-lt2-2 c =
 
 returns : tie.Need-returns
 unfolding object_form
-returns c = let j = c.before.before in rw (plain j.before.before, not_short j, not-medium c)
+returns c = let j = c.before.before in rw (plain j.before.before, not_short j, not_medium c)
 
 pub object_form_spec : {M : Type 1} → statement M
 object_form_spec = tie.close (tie.spec needs_flag_byte-requires returns-then-needs_flag_byte returns-then-m-lt2 returns-then-m-lt2-2 returns)

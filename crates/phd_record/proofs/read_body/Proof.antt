@@ -17,37 +17,37 @@ use Rattle.phd_record.proofs.read_body.Tie as tie
 abbrev start : tie.In-Begins → tie.Start
 start c = c.before.before.before
 
-got-form : (c : tie.In-Begins) → let a = (start c).args in
+got_form : (c : tie.In-Begins) → let a = (start c).args in
     run (need_form (tag_form a.tag)) a.s.now a.at ≡ whole c.in-Begins.form a.at
 unfolding need_form
-got-form c = rw (sym c.tag_form.ensures ∙ c.in-Begins.is, run_yield)
+got_form c = rw (sym c.tag_form.ensures ∙ c.in-Begins.is, run_yield)
 
 -- The class was found, for a short object in its slot.
 abbrev form_of : tie.In-Just → tie.In-Begins
 form_of c = c.before.before
 
-got-class : (c : tie.In-Just) → let a = (start (form_of c)).args in
+got_class : (c : tie.In-Just) → let a = (start (form_of c)).args in
     run (need 10 (slot_class a.cache a.tag)) a.s.now a.at ≡ whole c.in-Just.class a.at
-got-class c = rw (run_need, sym c.slot_class_of.ensures ∙ c.in-Just.is)
+got_class c = rw (run_need, sym c.slot_class_of.ensures ∙ c.in-Just.is)
 
 -- The flag byte was read.
 abbrev class_of : tie.In-Is → tie.In-Just
 class_of c = c.before.before
 
 module _ (c : tie.In-Is) where
-  got-flags : let a = (start (form_of (class_of c))).args in
+  got_flags : let a = (start (form_of (class_of c))).args in
       run (flag_byte a.header a.tag) a.s.now a.at ≡ whole c.in-Is.f c.in-Is.next
-  got-flags = sym c.read_flag_byte.ensures ∙ ap outcome c.in-Is.is
+  got_flags = sym c.read_flag_byte.ensures ∙ ap outcome c.in-Is.is
 
-  in-flags : let a = (start (form_of (class_of c))).args in c.in-Is.next ≤ length a.s.now
-  in-flags =
+  in_flags : let a = (start (form_of (class_of c))).args in c.in-Is.next ≤ length a.s.now
+  in_flags =
       let b = start (form_of (class_of c)) in
       let a = b.args in
-      end_in_bounds (flag_byte a.header a.tag) a.s.now a.at _ _ b.requires.0 got-flags
+      end_in_bounds (flag_byte a.header a.tag) a.s.now a.at _ _ b.requires.0 got_flags
 
 -- W in bytes is at most 8.
-bits-bytes-le-8 : (w : ℕ) → ValidBits w → w / 8 ≤ 8
-bits-bytes-le-8 w h = ⊎_elim (λ e. omega arith) (λ e. omega arith) h
+bits_bytes_le_8 : (w : ℕ) → ValidBits w → w / 8 ≤ 8
+bits_bytes_le_8 w h = ⊎_elim (λ e. omega arith) (λ e. omega arith) h
 
 tag_form-requires : tie.Need-tag_form-requires
 tag_form-requires c κs = search rules
@@ -81,7 +81,7 @@ returns-in_default-slot_class_of : tie.Need-returns-in_default-slot_class_of
 unfolding record_body record_read_of
 returns-in_default-slot_class_of c =
     let d = c.before.before in
-    rw (c.no_record-in_default-slot_class_of.ensures, run_then, got-form d.before, run_then, run_need, sym d.slot_class_of.ensures ∙ c.in_default-slot_class_of.is)
+    rw (c.no_record-in_default-slot_class_of.ensures, run_then, got_form d.before, run_then, run_need, sym d.slot_class_of.ensures ∙ c.in_default-slot_class_of.is)
 
 read_flag_byte-requires : tie.Need-read_flag_byte-requires
 read_flag_byte-requires c κs = search rules
@@ -101,7 +101,7 @@ shape_of-sh-requires-in-Is c κs = search rules
 read_fields-requires : tie.Need-read_fields-requires
 read_fields-requires c κs =
     let w = c.before.before.before.before in
-    (in-flags w, rw c.shape_of-sh.ensures (shape_widths_le_8 _ _ _ _ (bits-bytes-le-8 _ (start (form_of (class_of w))).requires.1)))
+    (in_flags w, rw c.shape_of-sh.ensures (shape_widths_le_8 _ _ _ _ (bits_bytes_le_8 _ (start (form_of (class_of w))).requires.1)))
 
 enum_known-w : tie.Need-enum_known-w
 enum_known-w c = search rules
@@ -113,14 +113,14 @@ returns-in-Is : tie.Need-returns-in-Is
 unfolding record_body record_read_of
 returns-in-Is c =
     let w = c.before.before.before.before.before in
-    rw (c.read_fields.ensures, run_then, got-form (form_of (class_of w)), run_then, got-class (class_of w), run_then, got-flags w, c.shape_of-sh.ensures, c.max_address_of-top.ensures, c.hash_kind_of-hk.ensures)
+    rw (c.read_fields.ensures, run_then, got_form (form_of (class_of w)), run_then, got_class (class_of w), run_then, got_flags w, c.shape_of-sh.ensures, c.max_address_of-top.ensures, c.hash_kind_of-hk.ensures)
 
 returns-in-Stops : tie.Need-returns-in-Stops
 unfolding record_body record_read_of
 returns-in-Stops c =
     let d = c.before.before in
     let w = d.before in
-    rw (c.no_record-in-Stops.ensures, run_then, got-form (form_of w), run_then, got-class w, run_then, ← d.read_flag_byte.ensures, c.in-Stops.is)
+    rw (c.no_record-in-Stops.ensures, run_then, got_form (form_of w), run_then, got_class w, run_then, ← d.read_flag_byte.ensures, c.in-Stops.is)
 
 pub read_body_spec : {M : Type 1} → statement M
 read_body_spec =

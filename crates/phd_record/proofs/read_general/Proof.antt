@@ -18,12 +18,12 @@ abbrev start : tie.In-Is → tie.Start
 start c = c.before.before.before
 
 module _ (c : tie.In-Is) where
-  got-tag : let a = (start c).args in
+  got_tag : let a = (start c).args in
       run (field 1) a.s.now a.at ≡ whole c.in-Is.tag c.in-Is.next
-  got-tag = sym c.field.ensures.0 ∙ ap outcome c.in-Is.is
+  got_tag = sym c.field.ensures.0 ∙ ap outcome c.in-Is.is
 
-  in-tag : let a = (start c).args in c.in-Is.next ≤ length a.s.now
-  in-tag = let a = (start c).args in end_in_bounds (field 1) a.s.now a.at _ _ (omega arith) got-tag
+  in_tag : let a = (start c).args in c.in-Is.next ≤ length a.s.now
+  in_tag = let a = (start c).args in end_in_bounds (field 1) a.s.now a.at _ _ (omega arith) got_tag
 
 field-requires : tie.Need-field-requires
 field-requires c κs = search rules
@@ -38,12 +38,12 @@ returns-then-tag-eq3 : tie.Need-returns-then-tag-eq3
 unfolding from_tag record_read_of
 returns-then-tag-eq3 c =
     let w = c.before.before in
-    rw (c.no_record.ensures, entry_from_tag, run_then, got-tag w, eq-eqb _ _ c.if-tag-eq3.true, run_yield)
+    rw (c.no_record.ensures, entry_from_tag, run_then, got_tag w, eq-eqb _ _ c.if-tag-eq3.true, run_yield)
 
 read_body-requires : tie.Need-read_body-requires
 read_body-requires c κs =
     let w = c.before in
-    (in-tag w, (start w).requires.1)
+    (in_tag w, (start w).requires.1)
 
 enum_known-w : tie.Need-enum_known-w
 enum_known-w c = search rules
@@ -55,7 +55,7 @@ returns-else-tag-eq3 : tie.Need-returns-else-tag-eq3
 unfolding from_tag record_read_of
 returns-else-tag-eq3 c =
     let w = c.before.before in
-    rw (c.read_body.ensures, entry_from_tag, run_then, got-tag w, ne_eqb _ _ c.if-tag-eq3.false)
+    rw (c.read_body.ensures, entry_from_tag, run_then, got_tag w, ne_eqb _ _ c.if-tag-eq3.false)
 
 returns-in-Stops : tie.Need-returns-in-Stops
 unfolding from_tag record_read_of

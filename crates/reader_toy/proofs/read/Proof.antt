@@ -27,8 +27,8 @@ header_whole : (c : tie.In-Is)
 header_whole c = sym c.exactly.ensures ∙ ap outcome c.in-Is.is
 
 -- The header stops.
-header-stops : (c : tie.In-Stops) → run toy.header (start c.before.before).args.dump.now 0 ≡ stops c.in-Stops.w
-header-stops c = sym c.exactly.ensures ∙ ap outcome c.in-Stops.is
+header_stops : (c : tie.In-Stops) → run toy.header (start c.before.before).args.dump.now 0 ≡ stops c.in-Stops.w
+header_stops c = sym c.exactly.ensures ∙ ap outcome c.in-Stops.is
 
 no_records-requires : tie.Need-no_records-requires
 no_records-requires c κs = search rules
@@ -83,7 +83,7 @@ returns-in-Stops c =
     let header = c.before.before.before in
     let small = header.before.before in
     let a = (start small).args in
-    rw (read_header_stops toy a.dump.now (capacity (length a.rows.now) (length a.refs.now)) _ (within small) (header-stops header), ← c.reply_of.ensures, ← c.missing_of.ensures)
+    rw (read_header_stops toy a.dump.now (capacity (length a.rows.now) (length a.refs.now)) _ (within small) (header_stops header), ← c.reply_of.ensures, ← c.missing_of.ensures)
     (c.no_records-in-Stops.ensures, (refl, refl))
 
 pub read_spec : {M : Type 1} → statement M

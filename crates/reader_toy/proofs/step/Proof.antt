@@ -49,7 +49,7 @@ returns-then-left-len : tie.Need-returns-then-left-len
 returns-then-left-len c =
     let read = c.before.before.before in
     let start = begin read in
-    let placed-read = placed read in
+    let placed_read = placed read in
     let n = read.in-Is.n in
     let from = read.in-Is.from in
     let e : n - (length start.args.s.now - from) ≡ from + n - length start.args.s.now = omega arith in
@@ -59,7 +59,7 @@ store-requires : tie.Need-store-requires
 store-requires c κs =
     let read = c.before.before.before.before in
     let start = begin read in
-    let placed-read = placed read in
+    let placed_read = placed read in
     (start.requires, record_at start.args.letter start.requires (got read) c.if-n-eq0.false (omega arith))
 
 enum_known-w : tie.Need-enum_known-w

@@ -63,10 +63,10 @@ shape_of-refs c = search rules
 
 returns : tie.Need-returns
 returns c =
-    let with-refs = c.before.before.before.before in
-    let with_row = with-refs.before.before.before.before in
+    let with_refs = c.before.before.before.before in
+    let with_row = with_refs.before.before.before.before in
     let start = start with_row.before.before.before.before.before in
-    rw (with_row.store_row-count.ensures.0, with-refs.store_refs.ensures)
+    rw (with_row.store_row-count.ensures.0, with_refs.store_refs.ensures)
     (step_continues start.args.letter start.requires.0 start.requires.1 _ with_row.store_row-count.ensures.1 (omega arith) (omega arith))
 
 pub store_spec : {M : Type 1} → statement M

@@ -42,11 +42,11 @@ outer t =
     let s = t.before.before.before.before in
     progress_start s.args.out.now s.args.at (ascii "[L" ∷ name s ∷ ascii ";" ∷ []) (other (name s) (sym t.is_array_name.ensures ∙ t.if-is_array_name.false)) s.requires.1
 
-abbrev outer-first : tie.After-encode_bytes-name → WriteProgress
-outer-first p = progress_next (outer p.before.before.before.before) p.encode_bytes-name.ensures
+abbrev outer_first : tie.After-encode_bytes-name → WriteProgress
+outer_first p = progress_next (outer p.before.before.before.before) p.encode_bytes-name.ensures
 
-abbrev outer-second : tie.After-encode_slice-end → WriteProgress
-outer-second q = progress_next (outer-first q.before.before.before.before) q.encode_slice-end.ensures
+abbrev outer_second : tie.After-encode_slice-end → WriteProgress
+outer_second q = progress_next (outer_first q.before.before.before.before) q.encode_slice-end.ensures
 
 is_array_name-requires : tie.Need-is_array_name-requires
 is_array_name-requires c κs = search rules
@@ -67,16 +67,16 @@ encode_bytes-name-requires : tie.Need-encode_bytes-name-requires
 encode_bytes-name-requires c κs = next_part_fits (outer c.before.before.before)
 
 encode_slice-end-requires : tie.Need-encode_slice-end-requires
-encode_slice-end-requires c κs = let p = c.before.before.before in (p.requires.0, next_part_fits (outer-first p))
+encode_slice-end-requires c κs = let p = c.before.before.before in (p.requires.0, next_part_fits (outer_first p))
 
 encode_bytes-requires : tie.Need-encode_bytes-requires
-encode_bytes-requires c κs = next_part_fits (outer-second c.before.before.before.before.before)
+encode_bytes-requires c κs = next_part_fits (outer_second c.before.before.before.before.before)
 
 shape_of-out : tie.Need-shape_of-out
 shape_of-out c = search rules
 
 returns : tie.Need-returns
-returns c = let r = c.before.before in progress_done (progress_next (outer-second r.before.before.before.before.before.before) r.encode_bytes.ensures) refl
+returns c = let r = c.before.before in progress_done (progress_next (outer_second r.before.before.before.before.before.before) r.encode_bytes.ensures) refl
 
 pub write_array_type_spec : {M : Type 1} → statement M
 write_array_type_spec =

@@ -9,8 +9,8 @@ use Rattle.phd_encode.proofs.sizes.object_size.Statement.{statement}
 use Rattle.phd_encode.proofs.sizes.object_size.Tie as tie
 
 -- The form is not the long one.
-not-long : (c : tie.Else-needs_flag_byte-gap) → let a = c.args in needs_flag_byte a.row.hashkind || leb 2 a.gap || ltb 7 a.row.count ≡ false
-not-long c = rw c.needs_flag_byte.ensures at c.if-needs_flag_byte-gap.false
+not_long : (c : tie.Else-needs_flag_byte-gap) → let a = c.args in needs_flag_byte a.row.hashkind || leb 2 a.gap || ltb 7 a.row.count ≡ false
+not_long c = rw c.needs_flag_byte.ensures at c.if-needs_flag_byte-gap.false
 
 needs_flag_byte-requires : tie.Need-needs_flag_byte-requires
 needs_flag_byte-requires c κs = search rules
@@ -41,7 +41,7 @@ returns-then-row-find_slot : tie.Need-returns-then-row-find_slot
 unfolding object_size
 returns-then-row-find_slot c =
     let t = rw c.find_slot.ensures at c.if-row-find_slot.true in
-    rw (not-long c.before.before.before.before, t) (encoded_size_ext _ _ _ c.make_size-then-row-find_slot.ensures)
+    rw (not_long c.before.before.before.before, t) (encoded_size_ext _ _ _ c.make_size-then-row-find_slot.ensures)
 
 overflow_add-w-2 : tie.Need-overflow_add-w-2
 overflow_add-w-2 c = search rules
@@ -56,7 +56,7 @@ returns : tie.Need-returns
 unfolding object_size
 returns c =
     let t = rw c.find_slot.ensures at c.if-row-find_slot.false in
-    rw (not-long c.before.before.before.before, t) (encoded_size_ext _ _ _ c.make_size-2.ensures)
+    rw (not_long c.before.before.before.before, t) (encoded_size_ext _ _ _ c.make_size-2.ensures)
 
 pub object_size_spec : {M : Type 1} → statement M
 object_size_spec =

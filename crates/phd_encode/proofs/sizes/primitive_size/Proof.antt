@@ -20,8 +20,8 @@ pair_is c = rw c.number_code.ensures at c.max-paircode.ensures
 pair_small : (c : tie.After-max-paircode) → c.max-paircode.result < 4
 pair_small c = rw (pair_is c) (max_lt c.args.gap _ 4 (omega arith) (code_lt _))
 
-wide-small : (c : tie.After-width_of) → c.width_of.result ≤ 8
-wide-small c =
+wide_small : (c : tie.After-width_of) → c.width_of.result ≤ 8
+wide_small c =
     let e = c.width_of.ensures in
     let l = width_le_8 c.max-paircode.result (pair_small c.before.before.before) in
     omega arith
@@ -69,13 +69,13 @@ width_of-requires : tie.Need-width_of-requires
 width_of-requires c κs = pair_small c.before.before
 
 overflow_mul-width_of : tie.Need-overflow_mul-width_of
-overflow_mul-width_of c = let l = wide-small c in omega arith
+overflow_mul-width_of c = let l = wide_small c in omega arith
 
 overflow_add-width_of : tie.Need-overflow_add-width_of
-overflow_add-width_of c = let l = wide-small c in omega arith
+overflow_add-width_of c = let l = wide_small c in omega arith
 
 overflow_add-width_of-2 : tie.Need-overflow_add-width_of-2
-overflow_add-width_of-2 c = let l = wide-small c in omega arith
+overflow_add-width_of-2 c = let l = wide_small c in omega arith
 
 make_size-requires-2 : tie.Need-make_size-requires-2
 make_size-requires-2 c κs = search rules

@@ -29,49 +29,49 @@ gap_is : (c : tie.After-gap_code-gap) → c.gap_code-gap.result ≡ (input c.bef
 unfolding plan_input
 gap_is c = c.gap_code-gap.ensures
 
-gap-small : (c : tie.After-gap_code-gap) → c.gap_code-gap.result < 4
-gap-small c = let e = gap_is c in let b = c.requires.0.1.gap_lt in omega arith
+gap_small : (c : tie.After-gap_code-gap) → c.gap_code-gap.result < 4
+gap_small c = let e = gap_is c in let b = c.requires.0.1.gap_lt in omega arith
 
-ref-code-is : (c : tie.After-refs_code-refcode) → c.refs_code-refcode.result ≡ (input c.before.before.before.before.before.before).refcode
+ref_code_is : (c : tie.After-refs_code-refcode) → c.refs_code-refcode.result ≡ (input c.before.before.before.before.before.before).refcode
 unfolding plan_input refs_of
-ref-code-is c = c.refs_code-refcode.ensures
+ref_code_is c = c.refs_code-refcode.ensures
 
-ref-code-small : (c : tie.After-refs_code-refcode) → c.refs_code-refcode.result < 4
-ref-code-small c = let e = ref-code-is c in let b = c.requires.0.1.ref_lt in omega arith
+ref_code_small : (c : tie.After-refs_code-refcode) → c.refs_code-refcode.result < 4
+ref_code_small c = let e = ref_code_is c in let b = c.requires.0.1.ref_lt in omega arith
 
-hash-small : (c : tie.After-hash_bytes_of) → c.hash_bytes_of.result ≤ 8
-hash-small c = let e = c.hash_bytes_of.ensures in let h = hash_bytes_le_8 (start c).args.row.hashkind in omega arith
+hash_small : (c : tie.After-hash_bytes_of) → c.hash_bytes_of.result ≤ 8
+hash_small c = let e = c.hash_bytes_of.ensures in let h = hash_bytes_le_8 (start c).args.row.hashkind in omega arith
 
 -- The gap takes at most 8 bytes.
-near-small : (c : tie.After-width_of) → c.width_of.result ≤ 8
-near-small c =
+near_small : (c : tie.After-width_of) → c.width_of.result ≤ 8
+near_small c =
     let g = c.before.before.before.before.before in
     let e = c.width_of.ensures in
-    let l = width_le_8 g.gap_code-gap.result (gap-small g) in
+    let l = width_le_8 g.gap_code-gap.result (gap_small g) in
     omega arith
 
 -- The references take fewer than 2^34 bytes.
-refs-small : (c : tie.After-width_of-2) → (start (hashed c)).args.row.count * c.width_of-2.result < 2 ^ 34
+refs_small : (c : tie.After-width_of-2) → (start (hashed c)).args.row.count * c.width_of-2.result < 2 ^ 34
 unfolding plan_input
-refs-small c =
+refs_small c =
     let n = (start (hashed c)).args.row.count in
     let e = c.width_of-2.ensures in
-    let l = width_le_8 c.refs_code-refcode.result (ref-code-small c.before.before) in
+    let l = width_le_8 c.refs_code-refcode.result (ref_code_small c.before.before) in
     let k : n < 2 ^ 31 = (start (hashed c)).requires.0.1.count_lt in
     let p : n * c.width_of-2.result ≤ n * 8 = mul-le-mul_left n (omega arith) in
     omega arith
 
 -- The payload in the code is `payload_size`.
-rest-is : (c : tie.After-width_of-2) → let r = (start (hashed c)).args.row in
+rest_is : (c : tie.After-width_of-2) → let r = (start (hashed c)).args.row in
     c.width_of.result + ((hashed c).hash_bytes_of.result + r.namelen) + r.count * c.width_of-2.result ≡ payload_size (input (start (hashed c))) r
-rest-is c = cc (ref-code-is c.before.before, gap_is (hashed c).before, c.width_of.ensures, (hashed c).hash_bytes_of.ensures)
+rest_is c = cc (ref_code_is c.before.before, gap_is (hashed c).before, c.width_of.ensures, (hashed c).hash_bytes_of.ensures)
 
-rest-small : (c : tie.After-width_of-2) → let r = (start (hashed c)).args.row in
+rest_small : (c : tie.After-width_of-2) → let r = (start (hashed c)).args.row in
     c.width_of.result + ((hashed c).hash_bytes_of.result + r.namelen) + r.count * c.width_of-2.result < 2 ^ 35
-rest-small c =
-    let a = near-small c.before in
-    let b = hash-small (hashed c) in
-    let d = refs-small c in
+rest_small c =
+    let a = near_small c.before in
+    let b = hash_small (hashed c) in
+    let d = refs_small c in
     let e = (start (hashed c)).requires.1 in
     omega arith
 
@@ -82,14 +82,14 @@ hash_bytes_of-requires : tie.Need-hash_bytes_of-requires
 hash_bytes_of-requires c κs = search rules
 
 overflow_add-fixed : tie.Need-overflow_add-fixed
-overflow_add-fixed c = let h = hash-small c in omega arith
+overflow_add-fixed c = let h = hash_small c in omega arith
 
 primitive_size-requires : tie.Need-primitive_size-requires
 primitive_size-requires c κs =
     let d = c.before.before in
-    let h = hash-small d in
+    let h = hash_small d in
     let e = (start d).requires.1 in
-    (e.0, gap-small d.before, omega arith)
+    (e.0, gap_small d.before, omega arith)
 
 returns-then-row-gt3 : tie.Need-returns-then-row-gt3
 unfolding plan_input
@@ -102,35 +102,35 @@ refs_code-refcode-requires : tie.Need-refs_code-refcode-requires
 refs_code-refcode-requires c κs = search rules
 
 width_of-requires : tie.Need-width_of-requires
-width_of-requires c κs = gap-small c.before.before.before.before
+width_of-requires c κs = gap_small c.before.before.before.before
 
 overflow_add-payload : tie.Need-overflow_add-payload
-overflow_add-payload c = let n = near-small c in let h = hash-small c.before.before.before.before in let e = (start c.before.before.before.before).requires.1 in omega arith
+overflow_add-payload c = let n = near_small c in let h = hash_small c.before.before.before.before in let e = (start c.before.before.before.before).requires.1 in omega arith
 
 width_of-requires-2 : tie.Need-width_of-requires-2
-width_of-requires-2 c κs = ref-code-small c.before
+width_of-requires-2 c κs = ref_code_small c.before
 
 overflow_mul-payload : tie.Need-overflow_mul-payload
-overflow_mul-payload c = let l = refs-small c in omega arith
+overflow_mul-payload c = let l = refs_small c in omega arith
 
 overflow_add-payload-2 : tie.Need-overflow_add-payload-2
-overflow_add-payload-2 c = let l = rest-small c in omega arith
+overflow_add-payload-2 c = let l = rest_small c in omega arith
 
 object_size-requires : tie.Need-object_size-requires
-object_size-requires c κs = let d = c.before.before in let l = rest-small d in ((start (hashed d)).requires.1.0, omega arith)
+object_size-requires c κs = let d = c.before.before in let l = rest_small d in ((start (hashed d)).requires.1.0, omega arith)
 
 returns-then-row-eq2 : tie.Need-returns-then-row-eq2
 unfolding plan_input
 returns-then-row-eq2 c =
     let d = c.before.before.before in
     let s = start (hashed d) in
-    rw (object_plan_size s.args.w (input s) s.args.row s.requires.0.1 c.if-row-eq2.true, ← rest-is d, ← gap_is (hashed d).before) c.object_size.ensures
+    rw (object_plan_size s.args.w (input s) s.args.row s.requires.0.1 c.if-row-eq2.true, ← rest_is d, ← gap_is (hashed d).before) c.object_size.ensures
 
 overflow_add-w : tie.Need-overflow_add-w
 overflow_add-w c = search rules
 
 overflow_add-w-then-row-eq1 : tie.Need-overflow_add-w-then-row-eq1
-overflow_add-w-then-row-eq1 c = let l = rest-small c.before.before.before.before in omega arith
+overflow_add-w-then-row-eq1 c = let l = rest_small c.before.before.before.before in omega arith
 
 make_size-requires : tie.Need-make_size-requires
 make_size-requires c κs = search rules
@@ -140,13 +140,13 @@ unfolding plan_input
 returns-then-row-eq1 c =
     let d = c.before.before.before.before.before in
     let s = start (hashed d) in
-    rw (class_plan_size s.args.w (input s) s.args.row s.requires.0.1 c.if-row-eq1.true, ← rest-is d) (encoded_size_ext _ _ _ c.make_size.ensures)
+    rw (class_plan_size s.args.w (input s) s.args.row s.requires.0.1 c.if-row-eq1.true, ← rest_is d) (encoded_size_ext _ _ _ c.make_size.ensures)
 
 overflow_add-w-then-row-eq3 : tie.Need-overflow_add-w-then-row-eq3
 overflow_add-w-then-row-eq3 c = let e = (start (hashed c.before.before.before.before.before.before)).requires.1 in omega arith
 
 overflow_add-w-then-row-eq3-2 : tie.Need-overflow_add-w-then-row-eq3-2
-overflow_add-w-then-row-eq3-2 c = let d = c.before.before.before.before.before.before in let e = (start (hashed d)).requires.1 in let l = rest-small d in omega arith
+overflow_add-w-then-row-eq3-2 c = let d = c.before.before.before.before.before.before in let e = (start (hashed d)).requires.1 in let l = rest_small d in omega arith
 
 make_size-requires-then-row-eq3 : tie.Need-make_size-requires-then-row-eq3
 make_size-requires-then-row-eq3 c κs = search rules
@@ -156,14 +156,14 @@ unfolding plan_input
 returns-then-row-eq3 c =
     let d = c.before.before.before.before.before.before.before in
     let s = start (hashed d) in
-    rw (object_array_plan_size s.args.w (input s) s.args.row s.requires.0.1 c.if-row-eq3.true, ← rest-is d) (encoded_size_ext _ _ _ c.make_size-then-row-eq3.ensures)
+    rw (object_array_plan_size s.args.w (input s) s.args.row s.requires.0.1 c.if-row-eq3.true, ← rest_is d) (encoded_size_ext _ _ _ c.make_size-then-row-eq3.ensures)
 
 primitive_size-requires-2 : tie.Need-primitive_size-requires-2
 primitive_size-requires-2 c κs =
     let d = hashed c.before.before.before.before.before.before in
-    let h = hash-small d in
+    let h = hash_small d in
     let e = (start d).requires.1 in
-    (e.0, gap-small d.before, omega arith)
+    (e.0, gap_small d.before, omega arith)
 
 returns : tie.Need-returns
 unfolding plan_input

@@ -39,8 +39,8 @@ module _ (c : tie.After-read_up_to-stepped) where
       c.first_cursor.ensures c.read_up_to-stepped.ensures
 
   -- No table has `upto` rows.
-  not-continued : c.read_up_to-stepped.result.result ≡ Continue → ⊥
-  not-continued e =
+  not_continued : c.read_up_to-stepped.result.result ≡ Continue → ⊥
+  not_continued e =
       let a = (start c).args in
       let w = subst (UpToContract a.header a.s.now (initial_cursor a.at) a.rows.now a.refs.now upto rows_after refs_after c.read_up_to-stepped.result.cursor) e contract in
       let n : c.read_up_to-stepped.result.cursor.rows * row_width ≤ length rows_after = w.0.steps.fits.rows_in in
@@ -83,7 +83,7 @@ shape_of-refs-in_default : tie.Need-shape_of-refs-in_default
 shape_of-refs-in_default c = search rules
 
 returns-in_default : tie.Need-returns-in_default
-returns-in_default c = absurd (not-continued c.before.before.before.before.before.before c.in_default.is)
+returns-in_default c = absurd (not_continued c.before.before.before.before.before.before c.in_default.is)
 
 shape_of-rows : tie.Need-shape_of-rows
 shape_of-rows c = search rules

@@ -35,17 +35,17 @@ module _ (c : tie.Then-w-count invariant-loop-left decreases-loop-left) where
   fast : let a = c.args in (1 ≤ a.w) × (a.count < 0x10000000) × (c.refs_in_range.result ≡ true)
   fast = let a = c.args in fast_path_tests a.w a.count c.refs_in_range.result c.if-w-count.true
 
-  bytes-few : let a = c.args in a.count * a.w ≤ 0x80000000
-  bytes-few = refs_bytes_le _ _ (omega arith) fast.1
+  bytes_few : let a = c.args in a.count * a.w ≤ 0x80000000
+  bytes_few = refs_bytes_le _ _ (omega arith) fast.1
 
 refs_in_range-requires : tie.Need-refs_in_range-requires invariant-loop-left decreases-loop-left
 refs_in_range-requires c κs = search rules
 
 overflow_mul-count : tie.Need-overflow_mul-count invariant-loop-left decreases-loop-left
-overflow_mul-count c = omega (arith, bytes-few c)
+overflow_mul-count c = omega (arith, bytes_few c)
 
 overflow_add-count : tie.Need-overflow_add-count invariant-loop-left decreases-loop-left
-overflow_add-count c = omega (arith, bytes-few c)
+overflow_add-count c = omega (arith, bytes_few c)
 
 overflow_sub-s : tie.Need-overflow_sub-s invariant-loop-left decreases-loop-left
 overflow_sub-s c = search rules

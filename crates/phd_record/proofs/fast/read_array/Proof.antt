@@ -20,12 +20,12 @@ abbrev start : tie.In-Is → tie.Start
 start c = c.before.before.before
 
 module _ (c : tie.In-Is) where
-  got-flags : let a = (start c).args in
+  got_flags : let a = (start c).args in
       run (flag_byte a.header 8) a.s.now a.at ≡ whole c.in-Is.flags c.in-Is.gap
-  got-flags = sym c.read_flag_byte.ensures ∙ ap outcome c.in-Is.is
+  got_flags = sym c.read_flag_byte.ensures ∙ ap outcome c.in-Is.is
 
   next : c.in-Is.gap ≡ (start c).args.at + 1
-  next = let a = (start c).args in flag_byte_end a.header a.s.now a.at _ _ (omega (arith, (start c).requires.0)) got-flags
+  next = let a = (start c).args in flag_byte_end a.header a.s.now a.at _ _ (omega (arith, (start c).requires.0)) got_flags
 
 -- The shape, and enough bytes for its fields up to the hash and 70 more.
 abbrev shape_of : tie.Else-sh-gt4 → tie.After-shape_of-sh
@@ -35,19 +35,19 @@ abbrev flags_of : tie.Else-sh-gt4 → tie.In-Is
 flags_of c = (shape_of c).before.before
 
 module _ (c : tie.Else-sh-gt4) where
-  class-width-is : ClassWidth (shape_of c).shape_of-sh.result.class
-  class-width-is =
+  class_width_is : ClassWidth (shape_of c).shape_of-sh.result.class
+  class_width_is =
       subst ClassWidth (sym (ap (λ (q : Shape). q.class) (shape_of c).shape_of-sh.ensures ∙ array_class _ _ _)) (bits_class_width _ (start (flags_of c)).requires.1)
 
   in_bounds : let sh = (shape_of c).shape_of-sh.result in let f = flags_of c in
       f.in-Is.gap + sh.gap + sh.class + 70 ≤ length (start f).args.s.now
-  in_bounds = omega (arith, class_width_le_8 _ class-width-is, next (flags_of c), c.if-sh-gt4.false, (start (flags_of c)).requires.0)
+  in_bounds = omega (arith, class_width_le_8 _ class_width_is, next (flags_of c), c.if-sh-gt4.false, (start (flags_of c)).requires.0)
 
   fits : let sh = (shape_of c).shape_of-sh.result in let f = flags_of c in f.in-Is.gap + sh.gap + sh.class + 70 < 2 ^ 64
   fits = omega (arith, in_bounds, (start (flags_of c)).well_formed.0.0)
 
-abbrev else-of : tie.After-struct_known-3-1 → tie.Else-sh-gt4
-else-of c = c.before.before.before.before.before
+abbrev else_of : tie.After-struct_known-3-1 → tie.Else-sh-gt4
+else_of c = c.before.before.before.before.before
 
 read_flag_byte-requires : tie.Need-read_flag_byte-requires
 read_flag_byte-requires c κs = search rules
@@ -104,21 +104,21 @@ returns-then-not-refs_in_range : tie.Need-returns-then-not-refs_in_range
 returns-then-not-refs_in_range c = miss_agrees _ _ _ _ c.miss-then-not-refs_in_range.ensures
 
 overflow_add-gap : tie.Need-overflow_add-gap
-overflow_add-gap c = omega (arith, fits (else-of c))
+overflow_add-gap c = omega (arith, fits (else_of c))
 
 class_word-requires : tie.Need-class_word-requires
-class_word-requires c κs = (omega (arith, in_bounds (else-of c)), class-width-is (else-of c))
+class_word-requires c κs = (omega (arith, in_bounds (else_of c)), class_width_is (else_of c))
 
 overflow_add-gap-2 : tie.Need-overflow_add-gap-2
-overflow_add-gap-2 c = omega (arith, fits (else-of c.before.before))
+overflow_add-gap-2 c = omega (arith, fits (else_of c.before.before))
 
 overflow_add-gap-3 : tie.Need-overflow_add-gap-3
-overflow_add-gap-3 c = omega (arith, fits (else-of c.before.before.before))
+overflow_add-gap-3 c = omega (arith, fits (else_of c.before.before.before))
 
 read_array_from_hash-requires : tie.Need-read_array_from_hash-requires
 read_array_from_hash-requires c κs =
     let w = c.before.before.before in
-    let e = else-of w in
+    let e = else_of w in
     let d = w.before.before in (
       in_bounds e,
       rw (shape_of e).shape_of-sh.ensures (array_shape _ _ _),
@@ -129,7 +129,7 @@ returns : tie.Need-returns
 returns c =
     let v = c.before.before.before in
     let w = v.before in
-    let e = else-of w in
+    let e = else_of w in
     let d = w.before.before.before in
     let y = shape_of e in
     let f = flags_of e in
@@ -138,7 +138,7 @@ returns c =
     ∙ ap (record_read_of a.cache)
     (sym
     (array_front a.header a.before a.cache a.origin a.s.now a.at e.max_address_of-top.result e.hash_kind_of-hk.result y.shape_of-sh.result
-    f.in-Is.flags f.in-Is.gap d.in-Just.address v.class_word.result (got-flags f)
+    f.in-Is.flags f.in-Is.gap d.in-Just.address v.class_word.result (got_flags f)
     e.max_address_of-top.ensures e.hash_kind_of-hk.ensures y.shape_of-sh.ensures
     (omega (arith, in_bounds e)) (sym d.address_by_gap4.ensures ∙ d.in-Just.is) v.class_word.ensures))
 

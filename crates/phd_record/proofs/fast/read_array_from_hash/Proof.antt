@@ -12,16 +12,16 @@ use Rattle.phd_record.proofs.ArrayLaws.{array_after_front}
 use Rattle.phd_record.proofs.fast.read_array_from_hash.Statement.{statement}
 use Rattle.phd_record.proofs.fast.read_array_from_hash.Tie as tie
 
-hash-le-4 : (c : tie.After-hash_bytes_of-hb) → c.hash_bytes_of-hb.result ≤ 4
-hash-le-4 c = rw c.hash_bytes_of-hb.ensures (hash_bytes_le_4 _)
+hash_le_4 : (c : tie.After-hash_bytes_of-hb) → c.hash_bytes_of-hb.result ≤ 4
+hash_le_4 c = rw c.hash_bytes_of-hb.ensures (hash_bytes_le_4 _)
 
-abbrev hash-of : tie.In-Just → tie.After-hash_bytes_of-hb
-hash-of c = c.before.before.before
+abbrev hash_of : tie.In-Just → tie.After-hash_bytes_of-hb
+hash_of c = c.before.before.before
 
 -- The references take at most 2^33 bytes.
-refs_bytes_le : (c : tie.In-Just) → let b = (hash-of c).before.before in c.in-Just.n * b.args.sh.refwidth ≤ 2 ^ 31 * 4
+refs_bytes_le : (c : tie.In-Just) → let b = (hash_of c).before.before in c.in-Just.n * b.args.sh.refwidth ≤ 2 ^ 31 * 4
 refs_bytes_le c =
-    let b = (hash-of c).before.before in
+    let b = (hash_of c).before.before in
     let l : c.in-Just.n < 2 ^ 31 = to_count_lt _ _ (sym c.count_of4.ensures ∙ c.in-Just.is) in
     mul-le-mul {n₂ = 2 ^ 31} (omega arith) (refs_in_range_width b.args.sh.refwidth b.args.front.address b.args.top b.requires.2)
 
@@ -29,13 +29,13 @@ hash_bytes_of-hb-requires : tie.Need-hash_bytes_of-hb-requires
 hash_bytes_of-hb-requires c κs = search rules
 
 hash_at-requires : tie.Need-hash_at-requires
-hash_at-requires c κs = (hash-le-4 c, omega arith)
+hash_at-requires c κs = (hash_le_4 c, omega arith)
 
 overflow_add-at : tie.Need-overflow_add-at
-overflow_add-at c = omega (arith, hash-le-4 c.before)
+overflow_add-at c = omega (arith, hash_le_4 c.before)
 
 count_of4-requires : tie.Need-count_of4-requires
-count_of4-requires c κs = (omega arith, omega (arith, hash-le-4 c.before))
+count_of4-requires c κs = (omega arith, omega (arith, hash_le_4 c.before))
 
 enum_known-n : tie.Need-enum_known-n
 enum_known-n c = search rules
@@ -50,10 +50,10 @@ returns-in_default : tie.Need-returns-in_default
 returns-in_default c = miss_agrees _ _ _ _ c.miss.ensures
 
 overflow_add-place : tie.Need-overflow_add-place
-overflow_add-place c = omega (arith, hash-le-4 (hash-of c))
+overflow_add-place c = omega (arith, hash_le_4 (hash_of c))
 
 overflow_add-place-2 : tie.Need-overflow_add-place-2
-overflow_add-place-2 c = omega (arith, hash-le-4 (hash-of c))
+overflow_add-place-2 c = omega (arith, hash_le_4 (hash_of c))
 
 overflow_mul-end : tie.Need-overflow_mul-end
 overflow_mul-end c = omega (arith, refs_bytes_le c.before)
@@ -61,12 +61,12 @@ overflow_mul-end c = omega (arith, refs_bytes_le c.before)
 overflow_add-end : tie.Need-overflow_add-end
 overflow_add-end c =
     let n = c.before in
-    omega (arith, refs_bytes_le n, hash-le-4 (hash-of n), (hash-of n).well_formed.0.1)
+    omega (arith, refs_bytes_le n, hash_le_4 (hash_of n), (hash_of n).well_formed.0.1)
 
 overflow_add-end-2 : tie.Need-overflow_add-end-2
 overflow_add-end-2 c =
     let n = c.before in
-    omega (arith, refs_bytes_le n, hash-le-4 (hash-of n), (hash-of n).well_formed.0.1)
+    omega (arith, refs_bytes_le n, hash_le_4 (hash_of n), (hash_of n).well_formed.0.1)
 
 miss-requires-then-s-end : tie.Need-miss-requires-then-s-end
 miss-requires-then-s-end c κs = search rules

@@ -16,14 +16,14 @@ abbrev start : tie.After-be_upto4-tag → tie.Start
 start c = c.before.before
 
 -- The origin of the record.
-abbrev origin-of : tie.After-be_upto4-tag → Origin
-origin-of c = let a = (start c).args in origin_at a.at a.index
+abbrev origin_of : tie.After-be_upto4-tag → Origin
+origin_of c = let a = (start c).args in origin_at a.at a.index
 
 -- A tag other than the end tag is followed by the body of a record.
-entry-is-body : (c : tie.After-be_upto4-tag) → (c.be_upto4-tag.result ≡ 3 → ⊥) → let a = (start c).args in
+entry_is_body : (c : tie.After-be_upto4-tag) → (c.be_upto4-tag.result ≡ 3 → ⊥) → let a = (start c).args in
     run (entry a.header a.before a.cache a.index) a.s.now a.at
-    ≡ run (record_body a.header a.before a.cache (origin-of c) c.be_upto4-tag.result) a.s.now (a.at + 1)
-entry-is-body c n =
+    ≡ run (record_body a.header a.before a.cache (origin_of c) c.be_upto4-tag.result) a.s.now (a.at + 1)
+entry_is_body c n =
     let a = (start c).args in
     entry_body a.header a.before a.cache a.index c.be_upto4-tag.result a.s.now a.at (omega arith) c.be_upto4-tag.ensures.0 n
 
@@ -37,7 +37,7 @@ read_object-requires : tie.Need-read_object-requires
 read_object-requires c κs = search rules
 
 returns-then-tag-ge64 : tie.Need-returns-then-tag-ge64
-returns-then-tag-ge64 c = λ x. c.read_object.ensures x ∙ ap (record_read_of (start c.before.before).args.cache) (sym (entry-is-body c.before.before (λ e. omega arith)))
+returns-then-tag-ge64 c = λ x. c.read_object.ensures x ∙ ap (record_read_of (start c.before.before).args.cache) (sym (entry_is_body c.before.before (λ e. omega arith)))
 
 overflow_add-at-then-tag-ge32 : tie.Need-overflow_add-at-then-tag-ge32
 overflow_add-at-then-tag-ge32 c = search rules
@@ -47,7 +47,7 @@ read_primitive-requires c κs = search rules
 
 returns-then-tag-ge32 : tie.Need-returns-then-tag-ge32
 returns-then-tag-ge32 c =
-    λ x. c.read_primitive.ensures x ∙ ap (record_read_of (start c.before.before.before).args.cache) (sym (entry-is-body c.before.before.before (λ e. omega arith)))
+    λ x. c.read_primitive.ensures x ∙ ap (record_read_of (start c.before.before.before).args.cache) (sym (entry_is_body c.before.before.before (λ e. omega arith)))
 
 overflow_add-at-then-tag-eq8 : tie.Need-overflow_add-at-then-tag-eq8
 overflow_add-at-then-tag-eq8 c = search rules
@@ -61,8 +61,8 @@ returns-then-tag-eq8 c =
     let a = (start d).args in
     let t : d.be_upto4-tag.result ≡ 8 = omega arith in
     λ x. c.read_array.ensures x
-    ∙ ap (λ (n : ℕ). record_read_of a.cache (run (record_body a.header a.before a.cache (origin-of d) n) a.s.now (a.at + 1))) (sym t)
-    ∙ ap (record_read_of a.cache) (sym (entry-is-body d (λ e. omega arith)))
+    ∙ ap (λ (n : ℕ). record_read_of a.cache (run (record_body a.header a.before a.cache (origin_of d) n) a.s.now (a.at + 1))) (sym t)
+    ∙ ap (record_read_of a.cache) (sym (entry_is_body d (λ e. omega arith)))
 
 miss-requires : tie.Need-miss-requires
 miss-requires c κs = search rules

@@ -11,11 +11,11 @@ use Rattle.phd_record.proofs.FastRecordLaws.{ObjectShape, object_shape, object_c
 use Rattle.phd_record.proofs.fast.read_object.Statement.{statement}
 use Rattle.phd_record.proofs.fast.read_object.Tie as tie
 
-abbrev bytes-at : tie.After-shape_of-sh → tie.After-hash_bytes_of-hb
-bytes-at c = c.before.before.before
+abbrev bytes_at : tie.After-shape_of-sh → tie.After-hash_bytes_of-hb
+bytes_at c = c.before.before.before
 
 abbrev start : tie.After-shape_of-sh → tie.Start
-start c = (bytes-at c).before.before.before.before
+start c = (bytes_at c).before.before.before.before
 
 -- The sizes of the parts, and enough bytes for them and 20 more.
 module _ (c : tie.After-shape_of-sh) where
@@ -25,29 +25,29 @@ module _ (c : tie.After-shape_of-sh) where
   object : ObjectShape c.shape_of-sh.result
   object = rw c.shape_of-sh.ensures (object_shape _ _ _ (start c).requires.2 c.object_form.ensures wide)
 
-  class-width-is : ClassWidth c.shape_of-sh.result.class
-  class-width-is =
+  class_width_is : ClassWidth c.shape_of-sh.result.class
+  class_width_is =
       rw (ap (λ (q : Shape). q.class) c.shape_of-sh.ensures) (object_class_width _ _ _ (start c).requires.2 c.object_form.ensures wide)
 
-  hash-le-4 : (bytes-at c).hash_bytes_of-hb.result ≤ 4
-  hash-le-4 = rw (bytes-at c).hash_bytes_of-hb.ensures (hash_bytes_le_4 _)
+  hash_le_4 : (bytes_at c).hash_bytes_of-hb.result ≤ 4
+  hash_le_4 = rw (bytes_at c).hash_bytes_of-hb.ensures (hash_bytes_le_4 _)
 
   in_bounds : let sh = c.shape_of-sh.result in
-      (start c).args.at + sh.gap + sh.class + (bytes-at c).hash_bytes_of-hb.result + sh.count * sh.refwidth + 20 ≤ length (start c).args.s.now
-  in_bounds = omega (arith, object.gap, object.class, object.refs, hash-le-4, (start c).requires.0)
+      (start c).args.at + sh.gap + sh.class + (bytes_at c).hash_bytes_of-hb.result + sh.count * sh.refwidth + 20 ≤ length (start c).args.s.now
+  in_bounds = omega (arith, object.gap, object.class, object.refs, hash_le_4, (start c).requires.0)
 
   fits : let sh = c.shape_of-sh.result in
-      (start c).args.at + sh.gap + sh.class + (bytes-at c).hash_bytes_of-hb.result + sh.count * sh.refwidth + 20 < 2 ^ 64
+      (start c).args.at + sh.gap + sh.class + (bytes_at c).hash_bytes_of-hb.result + sh.count * sh.refwidth + 20 < 2 ^ 64
   fits = omega (arith, in_bounds, (start c).well_formed.0.0)
 
 abbrev shape_at : tie.In-Just → tie.After-shape_of-sh
 shape_at c = c.before.before
 
-abbrev slot-known : tie.Else-not-refs_in_range → tie.In-Just
-slot-known c = c.before.before.before.before
+abbrev slot_known : tie.Else-not-refs_in_range → tie.In-Just
+slot_known c = c.before.before.before.before
 
 abbrev parts : tie.Else-not-refs_in_range → tie.After-shape_of-sh
-parts c = shape_at (slot-known c)
+parts c = shape_at (slot_known c)
 
 max_address_of-top-requires : tie.Need-max_address_of-top-requires
 max_address_of-top-requires c κs = search rules
@@ -107,7 +107,7 @@ overflow_add-at : tie.Need-overflow_add-at
 overflow_add-at c = omega (arith, fits (parts c.before))
 
 class_word-class-requires : tie.Need-class_word-class-requires
-class_word-class-requires c κs = let d = parts c.before in (omega (arith, in_bounds d), class-width-is d)
+class_word-class-requires c κs = let d = parts c.before in (omega (arith, in_bounds d), class_width_is d)
 
 overflow_add-from : tie.Need-overflow_add-from
 overflow_add-from c = omega (arith, fits (parts c.before.before.before))
@@ -116,7 +116,7 @@ overflow_add-from-2 : tie.Need-overflow_add-from-2
 overflow_add-from-2 c = omega (arith, fits (parts c.before.before.before.before))
 
 hash_at-hash-requires : tie.Need-hash_at-hash-requires
-hash_at-hash-requires c κs = let d = parts c.before.before.before.before in (hash-le-4 d, omega (arith, in_bounds d))
+hash_at-hash-requires c κs = let d = parts c.before.before.before.before in (hash_le_4 d, omega (arith, in_bounds d))
 
 overflow_add-place : tie.Need-overflow_add-place
 overflow_add-place c = omega (arith, fits (parts c.before.before.before.before.before))
@@ -141,20 +141,20 @@ returns c =
     let hashed = c.before.before.before.before in
     let w = hashed.before.before.before in
     let e = w.before.before in
-    let t = slot-known e in
+    let t = slot_known e in
     let d = shape_at t in
-    let kind = (bytes-at d).before in
+    let kind = (bytes_at d).before in
     let b = start d in
     let a = b.args in
     let sh = d.shape_of-sh.result in
-    let hb = (bytes-at d).hash_bytes_of-hb.result in
+    let hb = (bytes_at d).hash_bytes_of-hb.result in
     let from = a.at + sh.gap + sh.class in
     let place = from + hb in
     λ x. c.hit.ensures.1 ∙ c.make_record.ensures
     ∙ object_record_read kind.max_address_of-top.result a.before a.cache a.origin t.in-Just.known
     kind.hash_kind_of-hk.result hb sh a.s.now a.at e.in-Just-address_by_gap2.address w.class_word-class.result from
     hashed.hash_at-hash.result place (place + sh.count * sh.refwidth) (object d)
-    (bytes-at d).hash_bytes_of-hb.ensures
+    (bytes_at d).hash_bytes_of-hb.ensures
     (sym e.address_by_gap2.ensures ∙ e.in-Just-address_by_gap2.is)
     w.class_word-class.ensures
     refl

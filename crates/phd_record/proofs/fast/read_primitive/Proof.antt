@@ -14,11 +14,11 @@ use Rattle.phd_record.proofs.fast.read_primitive.Tie as tie
 abbrev shape_of : tie.Else-sh-gt4 → tie.After-shape_of-sh
 shape_of c = c.before.before
 
-abbrev hash-of : tie.Else-sh-gt4 → tie.After-hash_bytes_of-hb
-hash-of c = (shape_of c).before.before
+abbrev hash_of : tie.Else-sh-gt4 → tie.After-hash_bytes_of-hb
+hash_of c = (shape_of c).before.before
 
 abbrev start : tie.Else-sh-gt4 → tie.Start
-start c = (hash-of c).before.before.before.before
+start c = (hash_of c).before.before.before.before
 
 module _ (c : tie.Else-sh-gt4) where
   like : PrimitiveShape (shape_of c).shape_of-sh.result
@@ -27,22 +27,22 @@ module _ (c : tie.Else-sh-gt4) where
   short : (shape_of c).shape_of-sh.result.len ≤ 4
   short = omega (arith, like.len, c.if-sh-gt4.false)
 
-  hash-le-4 : (hash-of c).hash_bytes_of-hb.result ≤ 4
-  hash-le-4 = rw (hash-of c).hash_bytes_of-hb.ensures (hash_bytes_le_4 _)
+  hash_le_4 : (hash_of c).hash_bytes_of-hb.result ≤ 4
+  hash_le_4 = rw (hash_of c).hash_bytes_of-hb.ensures (hash_bytes_le_4 _)
 
   in_bounds : let sh = (shape_of c).shape_of-sh.result in let a = (start c).args in
-      a.at + sh.gap + sh.len + (hash-of c).hash_bytes_of-hb.result + 70 ≤ length a.s.now
-  in_bounds = omega (arith, short, hash-le-4, c.if-sh-gt4.false, (start c).requires.0)
+      a.at + sh.gap + sh.len + (hash_of c).hash_bytes_of-hb.result + 70 ≤ length a.s.now
+  in_bounds = omega (arith, short, hash_le_4, c.if-sh-gt4.false, (start c).requires.0)
 
   fits : let sh = (shape_of c).shape_of-sh.result in let a = (start c).args in
-      a.at + sh.gap + sh.len + (hash-of c).hash_bytes_of-hb.result + 70 < 2 ^ 64
+      a.at + sh.gap + sh.len + (hash_of c).hash_bytes_of-hb.result + 70 < 2 ^ 64
   fits = omega (arith, in_bounds, (start c).well_formed.0.0)
 
-abbrev else-of : tie.After-struct_known-3-1 → tie.Else-sh-gt4
-else-of c = c.before.before.before
+abbrev else_of : tie.After-struct_known-3-1 → tie.Else-sh-gt4
+else_of c = c.before.before.before
 
-abbrev from-of : tie.After-struct_known-4-1 → tie.After-struct_known-3-1
-from-of c = c.before.before.before
+abbrev from_of : tie.After-struct_known-4-1 → tie.After-struct_known-3-1
+from_of c = c.before.before.before
 
 max_address_of-top-requires : tie.Need-max_address_of-top-requires
 max_address_of-top-requires c κs = search rules
@@ -78,10 +78,10 @@ returns-in_default : tie.Need-returns-in_default
 returns-in_default c = miss_agrees _ _ _ _ c.miss-in_default.ensures
 
 overflow_add-at : tie.Need-overflow_add-at
-overflow_add-at c = omega (arith, fits (else-of c))
+overflow_add-at c = omega (arith, fits (else_of c))
 
 count_of4-requires : tie.Need-count_of4-requires
-count_of4-requires c κs = (short (else-of c), omega (arith, in_bounds (else-of c)))
+count_of4-requires c κs = (short (else_of c), omega (arith, in_bounds (else_of c)))
 
 enum_known-len : tie.Need-enum_known-len
 enum_known-len c = search rules
@@ -96,22 +96,22 @@ returns-in_default-count_of4 : tie.Need-returns-in_default-count_of4
 returns-in_default-count_of4 c = miss_agrees _ _ _ _ c.miss-in_default-count_of4.ensures
 
 overflow_add-from : tie.Need-overflow_add-from
-overflow_add-from c = omega (arith, fits (else-of (from-of c)))
+overflow_add-from c = omega (arith, fits (else_of (from_of c)))
 
 overflow_add-from-2 : tie.Need-overflow_add-from-2
-overflow_add-from-2 c = omega (arith, fits (else-of (from-of c.before)))
+overflow_add-from-2 c = omega (arith, fits (else_of (from_of c.before)))
 
 hash_at-hash-requires : tie.Need-hash_at-hash-requires
-hash_at-hash-requires c κs = (hash-le-4 (else-of (from-of c.before)), omega (arith, in_bounds (else-of (from-of c.before))))
+hash_at-hash-requires c κs = (hash_le_4 (else_of (from_of c.before)), omega (arith, in_bounds (else_of (from_of c.before))))
 
 overflow_add-place : tie.Need-overflow_add-place
-overflow_add-place c = omega (arith, fits (else-of (from-of c.before.before)))
+overflow_add-place c = omega (arith, fits (else_of (from_of c.before.before)))
 
 be_u32-size-requires : tie.Need-be_u32-size-requires
-be_u32-size-requires c κs = omega (arith, in_bounds (else-of (from-of c.before.before)))
+be_u32-size-requires c κs = omega (arith, in_bounds (else_of (from_of c.before.before)))
 
 overflow_add-place-2 : tie.Need-overflow_add-place-2
-overflow_add-place-2 c = omega (arith, fits (else-of (from-of c.before.before.before)))
+overflow_add-place-2 c = omega (arith, fits (else_of (from_of c.before.before.before)))
 
 no_name-requires : tie.Need-no_name-requires
 no_name-requires c κs = search rules
@@ -127,13 +127,13 @@ returns c =
     let k = c.before.before in
     let z = k.before in
     let q = z.before in
-    let f = from-of q.before.before in
+    let f = from_of q.before.before in
     let n = q.before.before.before in
-    let e = else-of f in
+    let e = else_of f in
     let a = (start e).args in
     let d = f.before in
     let y = shape_of e in
-    let w = hash-of e in
+    let w = hash_of e in
     λ _. c.hit.ensures.1 ∙ c.make_record.ensures
     ∙ sym
     (primitive_whole a.header a.before a.cache a.origin a.s.now a.at w.max_address_of-top.result w.hash_kind_of-hk.result y.shape_of-sh.result

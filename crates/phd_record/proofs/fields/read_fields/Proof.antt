@@ -17,12 +17,12 @@ abbrev start : tie.In-Is → tie.Start
 start c = c.before.before.before
 
 module _ (c : tie.In-Is) where
-  got-front : let a = (start c).args in
+  got_front : let a = (start c).args in
       run (front a.top a.before a.sh) a.s.now a.at ≡ whole c.in-Is.f c.in-Is.n
-  got-front = sym c.read_front.ensures ∙ ap front_outcome c.in-Is.is
+  got_front = sym c.read_front.ensures ∙ ap front_outcome c.in-Is.is
 
-  in-front : let a = (start c).args in c.in-Is.n ≤ length a.s.now
-  in-front = let a = (start c).args in end_in_bounds (front a.top a.before a.sh) a.s.now a.at _ _ (omega arith) got-front
+  in_front : let a = (start c).args in c.in-Is.n ≤ length a.s.now
+  in_front = let a = (start c).args in end_in_bounds (front a.top a.before a.sh) a.s.now a.at _ _ (omega arith) got_front
 
 -- The bytes of the hash follow from its kind.
 hashed : (c : tie.After-read_middle) → let w = c.before.before in let a = (start w).args in
@@ -35,24 +35,24 @@ abbrev front_of : tie.In-Is-read_middle → tie.In-Is
 front_of c = c.before.before.before
 
 module _ (c : tie.In-Is-read_middle) where
-  got-middle : let a = (start (front_of c)).args in
+  got_middle : let a = (start (front_of c)).args in
       run (middle a.sh (hash_bytes a.hk)) a.s.now (front_of c).in-Is.n ≡ whole c.in-Is-read_middle.q c.in-Is-read_middle.n
-  got-middle = hashed c.before ∙ sym c.read_middle.ensures ∙ ap middle_outcome c.in-Is-read_middle.is
+  got_middle = hashed c.before ∙ sym c.read_middle.ensures ∙ ap middle_outcome c.in-Is-read_middle.is
 
-  in-middle : let a = (start (front_of c)).args in c.in-Is-read_middle.n ≤ length a.s.now
-  in-middle = let a = (start (front_of c)).args in end_in_bounds (middle a.sh (hash_bytes a.hk)) a.s.now (front_of c).in-Is.n _ _ (in-front (front_of c)) got-middle
+  in_middle : let a = (start (front_of c)).args in c.in-Is-read_middle.n ≤ length a.s.now
+  in_middle = let a = (start (front_of c)).args in end_in_bounds (middle a.sh (hash_bytes a.hk)) a.s.now (front_of c).in-Is.n _ _ (in_front (front_of c)) got_middle
 
 -- The name was read.
 abbrev middle_of : tie.In-Is-class_name → tie.In-Is-read_middle
 middle_of c = c.before.before
 
 module _ (c : tie.In-Is-class_name) where
-  got-name : let a = (start (front_of (middle_of c))).args in
+  got_name : let a = (start (front_of (middle_of c))).args in
       run (class_name a.sh.name) a.s.now (middle_of c).in-Is-read_middle.n ≡ whole c.in-Is-class_name.name c.in-Is-class_name.n
-  got-name = sym c.class_name.ensures ∙ ap string_outcome c.in-Is-class_name.is
+  got_name = sym c.class_name.ensures ∙ ap string_outcome c.in-Is-class_name.is
 
-  in-name : let a = (start (front_of (middle_of c))).args in c.in-Is-class_name.n ≤ length a.s.now
-  in-name = let a = (start (front_of (middle_of c))).args in end_in_bounds (class_name a.sh.name) a.s.now (middle_of c).in-Is-read_middle.n _ _ (in-middle (middle_of c)) got-name
+  in_name : let a = (start (front_of (middle_of c))).args in c.in-Is-class_name.n ≤ length a.s.now
+  in_name = let a = (start (front_of (middle_of c))).args in end_in_bounds (class_name a.sh.name) a.s.now (middle_of c).in-Is-read_middle.n _ _ (in_middle (middle_of c)) got_name
 
 read_front-requires : tie.Need-read_front-requires
 read_front-requires c κs = search rules
@@ -78,7 +78,7 @@ hash_bytes_of-hb-requires c κs = search rules
 read_middle-requires : tie.Need-read_middle-requires
 read_middle-requires c κs =
     let w = c.before in
-    (in-front w, (start w).requires.1, rw c.hash_bytes_of-hb.ensures (hash_bytes_le_8 _))
+    (in_front w, (start w).requires.1, rw c.hash_bytes_of-hb.ensures (hash_bytes_le_8 _))
 
 enum_known-q : tie.Need-enum_known-q
 enum_known-q c = search rules
@@ -94,10 +94,10 @@ unfolding fields record_read_of
 returns-in-Stops-read_middle c =
     let d = c.before.before in
     let w = d.before.before in
-    rw (c.no_record-in-Stops-read_middle.ensures, run_then, got-front w, run_then, hashed d, ← d.read_middle.ensures, c.in-Stops-read_middle.is)
+    rw (c.no_record-in-Stops-read_middle.ensures, run_then, got_front w, run_then, hashed d, ← d.read_middle.ensures, c.in-Stops-read_middle.is)
 
 class_name-requires : tie.Need-class_name-requires
-class_name-requires c κs = in-middle c
+class_name-requires c κs = in_middle c
 
 enum_known-name : tie.Need-enum_known-name
 enum_known-name c = search rules
@@ -105,7 +105,7 @@ enum_known-name c = search rules
 read_from_ref_count-requires : tie.Need-read_from_ref_count-requires
 read_from_ref_count-requires c κs =
     let w = c in
-    (in-name w, (start (front_of (middle_of w))).requires.1)
+    (in_name w, (start (front_of (middle_of w))).requires.1)
 
 enum_known-w-in-Stops-class_name : tie.Need-enum_known-w-in-Stops-class_name
 enum_known-w-in-Stops-class_name c = search rules
@@ -117,14 +117,14 @@ returns-in-Is-class_name : tie.Need-returns-in-Is-class_name
 unfolding fields record_read_of
 returns-in-Is-class_name c =
     let w = c.before in
-    rw (c.read_from_ref_count.ensures, run_then, got-front (front_of (middle_of w)), run_then, got-middle (middle_of w), run_then, got-name w)
+    rw (c.read_from_ref_count.ensures, run_then, got_front (front_of (middle_of w)), run_then, got_middle (middle_of w), run_then, got_name w)
 
 returns-in-Stops-class_name : tie.Need-returns-in-Stops-class_name
 unfolding fields record_read_of
 returns-in-Stops-class_name c =
     let d = c.before.before in
     let w = d.before in
-    rw (c.no_record-in-Stops-class_name.ensures, run_then, got-front (front_of w), run_then, got-middle w, run_then, ← d.class_name.ensures, c.in-Stops-class_name.is)
+    rw (c.no_record-in-Stops-class_name.ensures, run_then, got_front (front_of w), run_then, got_middle w, run_then, ← d.class_name.ensures, c.in-Stops-class_name.is)
 
 pub read_fields_spec : {M : Type 1} → statement M
 read_fields_spec =

@@ -20,17 +20,17 @@ abbrev start : tie.In-Is → tie.Start
 start c = c.before.before.before
 
 module _ (c : tie.In-Is) where
-  got-count : let a = (start c).args in
+  got_count : let a = (start c).args in
       run (ref_count a.sh.countwidth a.sh.count) a.s.now a.at ≡ whole c.in-Is.k c.in-Is.p
-  got-count = sym c.ref_count.ensures ∙ ap outcome c.in-Is.is
+  got_count = sym c.ref_count.ensures ∙ ap outcome c.in-Is.is
 
   in_count : let a = (start c).args in c.in-Is.p ≤ length a.s.now
-  in_count = let a = (start c).args in end_in_bounds (ref_count a.sh.countwidth a.sh.count) a.s.now a.at _ _ (omega arith) got-count
+  in_count = let a = (start c).args in end_in_bounds (ref_count a.sh.countwidth a.sh.count) a.s.now a.at _ _ (omega arith) got_count
 
 -- Reading stops in the references.
-refs-stop : (c : tie.After-check_refs) (w : Stop) → c.check_refs.result ≡ Stops w → let k = c.before in let a = (start k).args in
+refs_stop : (c : tie.After-check_refs) (w : Stop) → c.check_refs.result ≡ Stops w → let k = c.before in let a = (start k).args in
     run (ref_list a.sh.refwidth a.v.address a.top k.in-Is.k) a.s.now k.in-Is.p ≡ stops w
-refs-stop c w e = refs_read_stops _ _ (sym c.check_refs.ensures ∙ e)
+refs_stop c w e = refs_read_stops _ _ (sym c.check_refs.ensures ∙ e)
 
 -- The references were read, with values that the code does not keep.
 abbrev count_of : tie.In-Is-check_refs → tie.In-Is
@@ -41,26 +41,26 @@ module _ (c : tie.In-Is-check_refs) where
       (rs : List ℕ) × (run (ref_list a.sh.refwidth a.v.address a.top k.in-Is.k) a.s.now k.in-Is.p ≡ whole rs c.in-Is-check_refs.e)
   refs = refs_read_whole _ _ (sym c.check_refs.ensures ∙ c.in-Is-check_refs.is)
 
-  got-refs : let k = count_of c in let a = (start k).args in
+  got_refs : let k = count_of c in let a = (start k).args in
       run (spanned_refs a.sh.refwidth a.v.address a.top k.in-Is.k) a.s.now k.in-Is.p
       ≡ whole (record { span = record { place = k.in-Is.p; width = a.sh.refwidth; count = k.in-Is.k }; list = refs.0 }) c.in-Is-check_refs.e
   unfolding spanned_refs
-  got-refs = rw (run_then, run_position, run_then, refs.1, run_yield)
+  got_refs = rw (run_then, run_position, run_then, refs.1, run_yield)
 
-  in-refs : let a = (start (count_of c)).args in c.in-Is-check_refs.e ≤ length a.s.now
-  in-refs =
+  in_refs : let a = (start (count_of c)).args in c.in-Is-check_refs.e ≤ length a.s.now
+  in_refs =
       let k = count_of c in
       let a = (start k).args in
-      end_in_bounds (spanned_refs a.sh.refwidth a.v.address a.top k.in-Is.k) a.s.now k.in-Is.p _ _ (in_count k) got-refs
+      end_in_bounds (spanned_refs a.sh.refwidth a.v.address a.top k.in-Is.k) a.s.now k.in-Is.p _ _ (in_count k) got_refs
 
 -- The tail was read.
-abbrev refs-at : tie.In-Is-read_tail → tie.In-Is-check_refs
-refs-at c = c.before.before
+abbrev refs_at : tie.In-Is-read_tail → tie.In-Is-check_refs
+refs_at c = c.before.before
 
 module _ (c : tie.In-Is-read_tail) where
-  got-tail : let a = (start (count_of (refs-at c))).args in
-      run (tail a.sh.size a.sh.truelen (count_of (refs-at c)).in-Is.k) a.s.now (refs-at c).in-Is-check_refs.e ≡ whole c.in-Is-read_tail.t c.in-Is-read_tail.next
-  got-tail = sym c.read_tail.ensures ∙ ap tail_outcome c.in-Is-read_tail.is
+  got_tail : let a = (start (count_of (refs_at c))).args in
+      run (tail a.sh.size a.sh.truelen (count_of (refs_at c)).in-Is.k) a.s.now (refs_at c).in-Is-check_refs.e ≡ whole c.in-Is-read_tail.t c.in-Is-read_tail.next
+  got_tail = sym c.read_tail.ensures ∙ ap tail_outcome c.in-Is-read_tail.is
 
 ref_count-requires : tie.Need-ref_count-requires
 ref_count-requires c κs = search rules
@@ -97,10 +97,10 @@ unfolding from_ref_count spanned_refs record_read_of
 returns-in-Stops-check_refs c =
     let d = c.before.before in
     let w = d.before in
-    rw (c.no_record-in-Stops-check_refs.ensures, run_then, got-count w, run_then, run_then, run_position, run_then, refs-stop d _ c.in-Stops-check_refs.is)
+    rw (c.no_record-in-Stops-check_refs.ensures, run_then, got_count w, run_then, run_then, run_position, run_then, refs_stop d _ c.in-Stops-check_refs.is)
 
 read_tail-requires : tie.Need-read_tail-requires
-read_tail-requires c κs = (in-refs c, omega arith, omega arith)
+read_tail-requires c κs = (in_refs c, omega arith, omega arith)
 
 enum_known-t : tie.Need-enum_known-t
 enum_known-t c = search rules
@@ -118,14 +118,14 @@ returns-in-Is-read_tail : tie.Need-returns-in-Is-read_tail
 unfolding from_ref_count record_read_of make_record
 returns-in-Is-read_tail c =
     let w = c.before in
-    rw (c.make_record.ensures, run_then, got-count (count_of (refs-at w)), run_then, got-refs (refs-at w), run_then, got-tail w, run_yield)
+    rw (c.make_record.ensures, run_then, got_count (count_of (refs_at w)), run_then, got_refs (refs_at w), run_then, got_tail w, run_yield)
 
 returns-in-Stops-read_tail : tie.Need-returns-in-Stops-read_tail
 unfolding from_ref_count record_read_of
 returns-in-Stops-read_tail c =
     let d = c.before.before in
     let w = d.before in
-    rw (c.no_record-in-Stops-read_tail.ensures, run_then, got-count (count_of w), run_then, got-refs w, run_then, ← d.read_tail.ensures, c.in-Stops-read_tail.is)
+    rw (c.no_record-in-Stops-read_tail.ensures, run_then, got_count (count_of w), run_then, got_refs w, run_then, ← d.read_tail.ensures, c.in-Stops-read_tail.is)
 
 pub read_from_ref_count_spec : {M : Type 1} → statement M
 read_from_ref_count_spec =

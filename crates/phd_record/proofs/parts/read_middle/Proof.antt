@@ -15,33 +15,33 @@ abbrev start : tie.In-Is → tie.Start
 start c = c.before.before.before
 
 module _ (c : tie.In-Is) where
-  got-inst : let a = (start c).args in
+  got_inst : let a = (start c).args in
       run (count a.sh.inst) a.s.now a.at ≡ whole c.in-Is.i c.in-Is.n
-  got-inst = sym c.count.ensures ∙ ap outcome c.in-Is.is
+  got_inst = sym c.count.ensures ∙ ap outcome c.in-Is.is
 
-  in-inst : let a = (start c).args in c.in-Is.n ≤ length a.s.now
-  in-inst = let a = (start c).args in end_in_bounds (count a.sh.inst) a.s.now a.at _ _ (omega arith) got-inst
+  in_inst : let a = (start c).args in c.in-Is.n ≤ length a.s.now
+  in_inst = let a = (start c).args in end_in_bounds (count a.sh.inst) a.s.now a.at _ _ (omega arith) got_inst
 
 -- The hash was read.
-abbrev inst-of : tie.In-Is-field → tie.In-Is
-inst-of c = c.before.before
+abbrev inst_of : tie.In-Is-field → tie.In-Is
+inst_of c = c.before.before
 
 module _ (c : tie.In-Is-field) where
-  got-hash : let a = (start (inst-of c)).args in
-      run (field a.hb) a.s.now (inst-of c).in-Is.n ≡ whole c.in-Is-field.h c.in-Is-field.n
-  got-hash = sym c.field.ensures.0 ∙ ap outcome c.in-Is-field.is
+  got_hash : let a = (start (inst_of c)).args in
+      run (field a.hb) a.s.now (inst_of c).in-Is.n ≡ whole c.in-Is-field.h c.in-Is-field.n
+  got_hash = sym c.field.ensures.0 ∙ ap outcome c.in-Is-field.is
 
-  in-hash : let a = (start (inst-of c)).args in c.in-Is-field.n ≤ length a.s.now
-  in-hash = let a = (start (inst-of c)).args in end_in_bounds (field a.hb) a.s.now (inst-of c).in-Is.n _ _ (in-inst (inst-of c)) got-hash
+  in_hash : let a = (start (inst_of c)).args in c.in-Is-field.n ≤ length a.s.now
+  in_hash = let a = (start (inst_of c)).args in end_in_bounds (field a.hb) a.s.now (inst_of c).in-Is.n _ _ (in_inst (inst_of c)) got_hash
 
 -- The superclass word was read.
-abbrev hash-of : tie.In-Is-field-2 → tie.In-Is-field
-hash-of c = c.before.before
+abbrev hash_of : tie.In-Is-field-2 → tie.In-Is-field
+hash_of c = c.before.before
 
 module _ (c : tie.In-Is-field-2) where
-  got-superclass : let a = (start (inst-of (hash-of c))).args in
-      run (field a.sh.superclass) a.s.now (hash-of c).in-Is-field.n ≡ whole c.in-Is-field-2.superclass c.in-Is-field-2.n
-  got-superclass = sym c.field-2.ensures.0 ∙ ap outcome c.in-Is-field-2.is
+  got_superclass : let a = (start (inst_of (hash_of c))).args in
+      run (field a.sh.superclass) a.s.now (hash_of c).in-Is-field.n ≡ whole c.in-Is-field-2.superclass c.in-Is-field-2.n
+  got_superclass = sym c.field-2.ensures.0 ∙ ap outcome c.in-Is-field-2.is
 
 count-requires : tie.Need-count-requires
 count-requires c κs = search rules
@@ -59,7 +59,7 @@ returns-in-Stops c =
     rw (run_then, ← d.count.ensures, c.in-Stops.is)
 
 field-requires : tie.Need-field-requires
-field-requires c κs = (omega arith, in-inst c)
+field-requires c κs = (omega arith, in_inst c)
 
 enum_known-h : tie.Need-enum_known-h
 enum_known-h c = search rules
@@ -72,10 +72,10 @@ unfolding middle
 returns-in-Stops-field c =
     let d = c.before in
     let w = d.before in
-    rw (run_then, got-inst w, run_then, ← d.field.ensures.0, c.in-Stops-field.is)
+    rw (run_then, got_inst w, run_then, ← d.field.ensures.0, c.in-Stops-field.is)
 
 field-requires-2 : tie.Need-field-requires-2
-field-requires-2 c κs = (omega arith, in-hash c)
+field-requires-2 c κs = (omega arith, in_hash c)
 
 enum_known-superclass : tie.Need-enum_known-superclass
 enum_known-superclass c = search rules
@@ -87,14 +87,14 @@ returns-in-Is-field-2 : tie.Need-returns-in-Is-field-2
 unfolding middle
 returns-in-Is-field-2 c =
     let w = c in
-    rw (run_then, got-inst (inst-of (hash-of w)), run_then, got-hash (hash-of w), run_then, got-superclass w, run_yield)
+    rw (run_then, got_inst (inst_of (hash_of w)), run_then, got_hash (hash_of w), run_then, got_superclass w, run_yield)
 
 returns-in-Stops-field-2 : tie.Need-returns-in-Stops-field-2
 unfolding middle
 returns-in-Stops-field-2 c =
     let d = c.before in
     let w = d.before in
-    rw (run_then, got-inst (inst-of w), run_then, got-hash w, run_then, ← d.field-2.ensures.0, c.in-Stops-field-2.is)
+    rw (run_then, got_inst (inst_of w), run_then, got_hash w, run_then, ← d.field-2.ensures.0, c.in-Stops-field-2.is)
 
 pub read_middle_spec : {M : Type 1} → statement M
 read_middle_spec =

@@ -15,21 +15,21 @@ abbrev start : tie.In-Is → tie.Start
 start c = c.before.before.before
 
 module _ (c : tie.In-Is) where
-  got-size : let a = (start c).args in
+  got_size : let a = (start c).args in
       run (field a.size) a.s.now a.at ≡ whole c.in-Is.v c.in-Is.n
-  got-size = sym c.field.ensures.0 ∙ ap outcome c.in-Is.is
+  got_size = sym c.field.ensures.0 ∙ ap outcome c.in-Is.is
 
   in_size : let a = (start c).args in c.in-Is.n ≤ length a.s.now
-  in_size = let a = (start c).args in end_in_bounds (field a.size) a.s.now a.at _ _ (omega arith) got-size
+  in_size = let a = (start c).args in end_in_bounds (field a.size) a.s.now a.at _ _ (omega arith) got_size
 
 -- The true length was read.
 abbrev size_of : tie.In-Is-true_length → tie.In-Is
 size_of c = c.before.before
 
 module _ (c : tie.In-Is-true_length) where
-  got-truelen : let a = (start (size_of c)).args in
+  got_truelen : let a = (start (size_of c)).args in
       run (true_length a.truelen a.count) a.s.now (size_of c).in-Is.n ≡ whole c.in-Is-true_length.t c.in-Is-true_length.n
-  got-truelen = sym c.true_length.ensures ∙ ap outcome c.in-Is-true_length.is
+  got_truelen = sym c.true_length.ensures ∙ ap outcome c.in-Is-true_length.is
 
 field-requires : tie.Need-field-requires
 field-requires c κs = search rules
@@ -59,14 +59,14 @@ returns-in-Is-true_length : tie.Need-returns-in-Is-true_length
 unfolding tail
 returns-in-Is-true_length c =
     let w = c in
-    rw (run_then, got-size (size_of w), run_then, got-truelen w, run_yield)
+    rw (run_then, got_size (size_of w), run_then, got_truelen w, run_yield)
 
 returns-in-Stops-true_length : tie.Need-returns-in-Stops-true_length
 unfolding tail
 returns-in-Stops-true_length c =
     let d = c.before in
     let w = d.before in
-    rw (run_then, got-size w, run_then, ← d.true_length.ensures, c.in-Stops-true_length.is)
+    rw (run_then, got_size w, run_then, ← d.true_length.ensures, c.in-Stops-true_length.is)
 
 pub read_tail_spec : {M : Type 1} → statement M
 read_tail_spec =
