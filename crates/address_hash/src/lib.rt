@@ -6,6 +6,7 @@ ghost use Rattle.std.specs.Prelude.{◌≡◌, ◌<◌};
 ghost use Rattle.address_hash.specs.AddressHash.{hash};
 
 // Returns the hash of an address, a number of 32 bits.
+#[tactic(auto, unfolding(crate::specs::AddressHash::hash))]
 pub fn hash(address: u64) -> u64
     ensures { (result ≡ hash address) × (result < 0x1_0000_0000) }
 {

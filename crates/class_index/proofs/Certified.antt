@@ -2,7 +2,7 @@
 -- Assumes nothing.
 use Rattle.std.proofs.Math.Path.{◌≡◌, refl}
 use Rattle.std.proofs.Common.{sym, ◌∙◌, inl, inr, eq-or-lt_of_le, arith, ltb-true, leb-true, eq-eqb}
-use Rattle.std.specs.Prelude.{◌⊎◌, Bool, cond, ℕ, ◌-◌, ◌<◌, eqb, length, take, drop}
+use Rattle.std.specs.Prelude.{◌⊎◌, Bool, cond, ℕ, ◌-◌, ◌<◌, eqb, length, take, drop, Option, Some, None}
 use Rattle.std.proofs.Math.Bool.{true, false}
 use mathlib.Core.List.{List, [], ◌∷◌}
 use Rattle.std.proofs.Math.Dec.{ltb}
@@ -11,8 +11,6 @@ use Rattle.table.specs.Rows.{nth}
 use Rattle.table.specs.Search.{IsFirst, NoneSatisfies}
 use Rattle.table.proofs.SearchLaws.{first_row_at, first_row_none}
 use Rattle.table.specs.declared.Row.{Row}
-use Rattle.table.specs.declared.Search.{Search}
-use Rattle.table.specs.declared.Search.TheVariants.{At, NotFound}
 use Rattle.table.specs.RowBytes.{is_class_at, class_at, ClassRow, is_class_at_iff}
 use Rattle.class_index.specs.ClassIndex.{first_bucket, is_class_row, search_in, search_buckets, at_or_before, row_certified, CertifiedFrom}
 
@@ -20,9 +18,9 @@ use Rattle.class_index.specs.ClassIndex.{first_bucket, is_class_row, search_in, 
 
 module _ (rows : List Row) (a : ℕ) where
   -- A row that was found is in bounds and is a class row with the address a.
-  abbrev FoundIsClass : Search → Type 0
-  FoundIsClass (At j) = (j < length rows) × ClassRow a (nth rows j)
-  FoundIsClass NotFound = Unit {0}
+  abbrev FoundIsClass : Option ℕ → Type 0
+  FoundIsClass (Some j) = (j < length rows) × ClassRow a (nth rows j)
+  FoundIsClass None = Unit {0}
 
   found_in : (buckets : List ℕ) → FoundIsClass (search_in rows a buckets)
   unfolding search_in is_class_row
@@ -30,7 +28,7 @@ module _ (rows : List Row) (a : ℕ) where
   found_in (entry ∷ buckets) = by (eqb entry 0) (is_class_row rows a (entry - 1)) refl (found_in buckets)
     where
       by : (empty hit : Bool) → is_class_row rows a (entry - 1) ≡ hit → FoundIsClass (search_in rows a buckets)
-          → FoundIsClass (cond empty NotFound (cond hit (At (entry - 1)) (search_in rows a buckets)))
+          → FoundIsClass (cond empty None (cond hit (Some (entry - 1)) (search_in rows a buckets)))
       by true hit e rest = tt
       by false false e rest = rest
       by false true e rest =
@@ -52,26 +50,26 @@ module _ (rows : List Row) (buckets : List ℕ) where
     class_row_found i e c = rw (eq-eqb _ _ c.kind, c.address) at e
 
     -- If row i is the first class row with the address a, a class row with it at or before row i is row i.
-    first_found : (i : ℕ) → IsFirst (ClassRow a) rows i → (f : Search) → FoundIsClass rows a f → at_or_before i f ≡ true → f ≡ At i
+    first_found : (i : ℕ) → IsFirst (ClassRow a) rows i → (f : Option ℕ) → FoundIsClass rows a f → at_or_before i f ≡ true → f ≡ Some i
     unfolding at_or_before
-    first_found i first NotFound s e = let z : ◌≡◌ {A = ℕ} 0 1 = cc in absurd (omega arith)
-    first_found i first (At j) s e = by (eq-or-lt_of_le (leb-true _ _ e))
+    first_found i first None s e = let z : ◌≡◌ {A = ℕ} 0 1 = cc in absurd (omega arith)
+    first_found i first (Some j) s e = by (eq-or-lt_of_le (leb-true _ _ e))
       where
-        by : (j ≡ i) ⊎ (j < i) → At j ≡ At i
+        by : (j ≡ i) ⊎ (j < i) → Some j ≡ Some i
         by (inl q) = rw q
         by (inr q) = absurd (first.before j q s.1)
 
-    none_found : NoneSatisfies (ClassRow a) rows → (f : Search) → FoundIsClass rows a f → f ≡ NotFound
-    none_found n NotFound s = refl
-    none_found n (At j) s = absurd (n j s.0 s.1)
+    none_found : NoneSatisfies (ClassRow a) rows → (f : Option ℕ) → FoundIsClass rows a f → f ≡ None
+    none_found n None s = refl
+    none_found n (Some j) s = absurd (n j s.0 s.1)
 
   -- The theorem: searching certified buckets for any address is the class search.
   pub certified_finds : CertifiedFrom rows buckets 0 → (a : ℕ) → search_buckets rows buckets a ≡ class_at rows a
   certified_finds each a = by (class_at rows a) refl
     where
-      by : (f : Search) → class_at rows a ≡ f → search_buckets rows buckets a ≡ class_at rows a
-      by (At i) q =
+      by : (f : Option ℕ) → class_at rows a ≡ f → search_buckets rows buckets a ≡ class_at rows a
+      by (Some i) q =
           let first = (first_row_at (ClassRow a) (is_class_at a) (is_class_at_iff a) rows i).0 q in
           first_found a i first _ (found_is_class rows a buckets) (class_row_found a i (each i (omega arith) first.inside) first.holds) ∙ sym q
-      by NotFound q =
+      by None q =
           none_found a ((first_row_none (ClassRow a) (is_class_at a) (is_class_at_iff a) rows).0 q) _ (found_is_class rows a buckets) ∙ sym q

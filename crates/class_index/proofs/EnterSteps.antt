@@ -1,42 +1,36 @@
 -- Entering the class rows, from the last to the first: the rows entered so far are certified.
 -- Assumes nothing.
 use mathlib.Core.Path.{◌≡◌, refl, sym, ◌∙◌}
-use mathlib.Core.Logic.{⊎_elim}
-use mathlib.Core.Bool.{Bool, true, false, cond, ◌&&◌}
+use mathlib.Core.Logic.{◌⊎◌, ⊎_elim}
+use mathlib.Core.Bool.{Bool, true, false, cond}
 use mathlib.Core.List.{List}
 use Prim.Native.Nat.{ℕ, ◌-◌, ◌≤◌, ◌<◌}
 use native.Mathlib.Nat.{eq-or-lt_of_le}
 use native.Mathlib.Omega.{arith}
-use lib.Dec.{eqb}
-use borrow.Author.Tests.{le-leb, eq-eqb}
+use borrow.Author.Tests.{le-leb, eq-eqb, ne_eqb}
+use Rattle.std.proofs.Common.{Bor}
 use Rattle.decode.specs.Values.{true_not_false}
 use Rattle.table.specs.Table.{row_count}
 use Rattle.table.specs.Rows.{row_at, rows_of, length_rows, nth_row, nth, is_kind}
 use Rattle.table.specs.declared.Row.{Row}
-use Rattle.table.specs.declared.Search.{Search}
-use Rattle.table.specs.declared.Search.TheVariants.{At, NotFound}
-use Rattle.class_index.specs.ClassIndex.{is_class_row, search_buckets, at_or_before, row_certified, CertifiedFrom, IndexHolds}
+use Rattle.std.specs.Prelude.{Option, Some, None}
+use Rattle.class_index.specs.ClassIndex.{search_buckets, at_or_before, row_certified, CertifiedFrom, IndexHolds}
 use Rattle.class_index.proofs.Certified.{certified_finds}
 use Rattle.class_index.specs.Entering.{KeepsFound}
-use Rattle.class_index.proofs.BucketSteps.{class_row_test}
-
--- A row of kind 1 is a class row with its address.
-pub class_row_of : (table : List ℕ) (i : ℕ) (r : Row) → i < row_count table → r ≡ row_at table i → r.kind ≡ 1 → is_class_row (rows_of table) r.address i ≡ true
-class_row_of table i r l e k = sym (class_row_test table i r.address r l e) ∙ rw (eq-eqb _ _ k, eq-eqb r.address r.address refl)
 
 -- A certified row stays certified when a row before it is entered.
 stays_certified : (rows : List Row) (a i : ℕ) (before after : List ℕ) → KeepsFound rows a i before after → (k : ℕ) → i ≤ k → row_certified rows before k ≡ true → row_certified rows after k ≡ true
 unfolding row_certified at_or_before
 stays_certified rows a i before after keeps k l e = by (is_kind 1 (nth rows k)) (search_buckets rows before (nth rows k).address) refl e
   where
-    found : (j : ℕ) → search_buckets rows before (nth rows k).address ≡ At j → at_or_before k (At j) ≡ true → at_or_before k (search_buckets rows after (nth rows k).address) ≡ true
+    found : (j : ℕ) → search_buckets rows before (nth rows k).address ≡ Some j → at_or_before k (Some j) ≡ true → at_or_before k (search_buckets rows after (nth rows k).address) ≡ true
     found j q t = ⊎_elim (λ w. rw w t) (λ w. rw w.1 (le-leb _ _ l)) (keeps (nth rows k).address j q)
 
-    by : (class : Bool) (f : Search) → search_buckets rows before (nth rows k).address ≡ f → cond class (at_or_before k (search_buckets rows before (nth rows k).address)) true ≡ true
+    by : (class : Bool) (f : Option ℕ) → search_buckets rows before (nth rows k).address ≡ f → cond class (at_or_before k (search_buckets rows before (nth rows k).address)) true ≡ true
         → cond class (at_or_before k (search_buckets rows after (nth rows k).address)) true ≡ true
     by false f q t = refl
-    by true (At j) q t = found j q (rw q at t)
-    by true NotFound q t = absurd (true_not_false (sym (rw q at t)))
+    by true (Some j) q t = found j q (rw q at t)
+    by true None q t = absurd (true_not_false (sym (rw q at t)))
 
 -- The invariant of the loop: if all class rows could be entered so far, the rows from index i on are certified.
 pub record EnteredFrom (rows : List Row) (buckets : List ℕ) (i : ℕ) (certified : Bool) : Type 0 where
@@ -60,16 +54,21 @@ module _ (table : List ℕ) where
       each t k l n = ⊎_elim (λ q. rw (← q) (here t)) (λ q. stays_certified (rows_of table) r.address (i - 1) before after keeps k l (z.each refl k (omega arith) n)) (eq-or-lt_of_le l)
 
   -- With another row before them, or after a class row that could not be entered.
-  pub entered_other : (buckets : List ℕ) (i : ℕ) (r : Row) (certified : Bool) → 0 < i → i ≤ row_count table → r ≡ row_at table (i - 1) → certified && eqb r.kind 1 ≡ false
+  pub entered_other : (buckets : List ℕ) (i : ℕ) (r : Row) (certified : Bool) → 0 < i → i ≤ row_count table → r ≡ row_at table (i - 1) → ((certified ≡ true) × (r.kind ≡ 1 → ⊥)) ⊎ (certified ≡ false)
       → EnteredFrom (rows_of table) buckets i certified → EnteredFrom (rows_of table) buckets (i - 1) certified
   unfolding row_certified
   entered_other buckets i r certified p m e c z = record { each = each }
     where
       here : certified ≡ true → row_certified (rows_of table) buckets (i - 1) ≡ true
-      here t = let n : eqb r.kind 1 ≡ false = rw t at c in rw (nth_row table (i - 1) (omega arith), ← e, n)
+      here t = ⊎_elim (λ q. rw (nth_row table (i - 1) (omega arith), ← e, ne_eqb _ _ q.1)) (λ q. absurd (true_not_false (sym t ∙ q))) c
 
       each : certified ≡ true → CertifiedFrom (rows_of table) buckets (i - 1)
       each t k l n = ⊎_elim (λ q. rw (← q) (here t)) (λ q. z.each t k (omega arith) n) (eq-or-lt_of_le l)
 
-  pub entered_end : (buckets : List ℕ) (i : ℕ) (certified : Bool) → i ≡ 0 → EnteredFrom (rows_of table) buckets i certified → IndexHolds (rows_of table) buckets certified
-  entered_end buckets i certified e z = record { finds = λ t. certified_finds (rows_of table) buckets (rw e at (z.each t)) }
+  -- At the start of the table, certified buckets make a certified class index.
+  pub entered_end : (buckets : Bor (List ℕ)) (i : ℕ) → i ≡ 0 → EnteredFrom (rows_of table) buckets.now i true → IndexHolds (rows_of table) (Some buckets)
+  entered_end buckets i e z = record { finds = λ b q a. let s : buckets ≡ b = cc in rw (← s) (certified_finds (rows_of table) buckets.now (rw e at (z.each refl)) a) }
+
+-- Without buckets there is no class index.
+pub no_index : (rows : List Row) → IndexHolds rows None
+no_index rows = record { finds = λ b q a. let z : ◌≡◌ {A = ℕ} 0 1 = cc in absurd (omega arith) }

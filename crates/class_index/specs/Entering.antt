@@ -1,6 +1,6 @@
 -- Entering a class row in a bucket keeps what was found before, so the rows that were certified stay certified.
 -- Assumes nothing; no definition of the text uses it.
-use Rattle.std.specs.Prelude.{◌≡◌, refl, ◌⊎◌, Bool, eqb, ltb, length, get_or, take, drop, set}
+use Rattle.std.specs.Prelude.{◌≡◌, refl, ◌⊎◌, Bool, eqb, ltb, length, get_or, take, drop, set, Option, Some, None}
 use Rattle.std.proofs.Common.{sym, ◌∙◌, inr, length-set, drop-set-lt, get_or-take, get_or-drop, eq-eqb, ne_eqb}
 use Rattle.std.proofs.Math.Logic.{inl}
 use Rattle.std.proofs.Math.Bool.{true, false, cond}
@@ -13,15 +13,13 @@ use Rattle.std.proofs.Math.Seq.{take-set-lt, drop-set-add}
 use Rattle.decode.specs.Values.{and_right, true_not_false}
 use Rattle.table.specs.Rows.{nth}
 use Rattle.table.specs.declared.Row.{Row}
-use Rattle.table.specs.declared.Search.{Search}
-use Rattle.table.specs.declared.Search.TheVariants.{At, NotFound}
 use Rattle.table.specs.RowBytes.{is_class_at, is_class_at_iff}
 use Rattle.class_index.specs.ClassIndex.{first_bucket, is_class_row, search_in, search_buckets}
 
 -- Buckets before and after row i, a class row with the address a, was entered: what a search found before, it finds after, or row i if
 -- it is the search for a.
 abbrev pub KeepsFound : List Row → (a i : ℕ) → (before after : List ℕ) → Type 0
-KeepsFound rows a i before after = (b j : ℕ) → search_buckets rows before b ≡ At j → (search_buckets rows after b ≡ At j) ⊎ ((b ≡ a) × (search_buckets rows after b ≡ At i))
+KeepsFound rows a i before after = (b j : ℕ) → search_buckets rows before b ≡ Some j → (search_buckets rows after b ≡ Some j) ⊎ ((b ≡ a) × (search_buckets rows after b ≡ Some i))
 
 -- Two addresses with which a row is a class row are the same.
 same_address : (rows : List Row) (a b k : ℕ) → is_class_row rows a k ≡ true → is_class_row rows b k ≡ true → b ≡ a
@@ -32,7 +30,7 @@ same_address rows a b k p q =
     let s = (is_class_at_iff b (nth rows k)).0 (and_right inside (is_class_at b (nth rows k)) q) in
     sym s.address ∙ r.address
 
-not_found_at : (j : ℕ) → NotFound ≡ At j → ⊥
+not_found_at : (j : ℕ) → None ≡ Some j → ⊥
 not_found_at j e = let z : ◌≡◌ {A = ℕ} 0 1 = cc in omega arith
 
 module _ (rows : List Row) (a i : ℕ) (class : is_class_row rows a i ≡ true) where
@@ -41,20 +39,20 @@ module _ (rows : List Row) (a i : ℕ) (class : is_class_row rows a i ≡ true) 
   MayTake entry = (entry ≡ 0) ⊎ (is_class_row rows a (entry - 1) ≡ true)
 
   -- The search from a bucket on, and what it finds with row i in the bucket.
-  abbrev from_bucket : ℕ → ℕ → Search → Search
-  from_bucket b entry rest = cond (eqb entry 0) NotFound (cond (is_class_row rows b (entry - 1)) (At (entry - 1)) rest)
+  abbrev from_bucket : ℕ → ℕ → Option ℕ → Option ℕ
+  from_bucket b entry rest = cond (eqb entry 0) None (cond (is_class_row rows b (entry - 1)) (Some (entry - 1)) rest)
 
-  from_entered : (b : ℕ) (rest : Search) → from_bucket b (i + 1) rest ≡ cond (is_class_row rows b i) (At i) rest
+  from_entered : (b : ℕ) (rest : Option ℕ) → from_bucket b (i + 1) rest ≡ cond (is_class_row rows b i) (Some i) rest
   from_entered b rest = let e : i + 1 - 1 ≡ i = omega arith in rw (ne_eqb (i + 1) 0 (λ z. omega arith), e)
 
   -- The law for the first bucket of a list.
-  head_keeps : (b j entry : ℕ) (rest : Search) → MayTake entry → from_bucket b entry rest ≡ At j
-      → (from_bucket b (i + 1) rest ≡ At j) ⊎ ((b ≡ a) × (from_bucket b (i + 1) rest ≡ At i))
+  head_keeps : (b j entry : ℕ) (rest : Option ℕ) → MayTake entry → from_bucket b entry rest ≡ Some j
+      → (from_bucket b (i + 1) rest ≡ Some j) ⊎ ((b ≡ a) × (from_bucket b (i + 1) rest ≡ Some i))
   head_keeps b j entry rest (inl z) e = absurd (not_found_at j (rw (eq-eqb _ _ z) at e))
   head_keeps b j entry rest (inr h) e = rw (from_entered b rest) (by (eqb entry 0) (is_class_row rows b (entry - 1)) (is_class_row rows b i) refl refl e)
     where
       by : (empty hit entered : Bool) → is_class_row rows b (entry - 1) ≡ hit → is_class_row rows b i ≡ entered
-          → cond empty NotFound (cond hit (At (entry - 1)) rest) ≡ At j → (cond entered (At i) rest ≡ At j) ⊎ ((b ≡ a) × (cond entered (At i) rest ≡ At i))
+          → cond empty None (cond hit (Some (entry - 1)) rest) ≡ Some j → (cond entered (Some i) rest ≡ Some j) ⊎ ((b ≡ a) × (cond entered (Some i) rest ≡ Some i))
       by true hit entered p q e = absurd (not_found_at j e)
       by false true true p q e = inr (same_address rows a b (entry - 1) h p, refl)
       by false true false p q e = let s = same_address rows a b (entry - 1) h p in absurd (true_not_false (sym class ∙ rw s at q))
@@ -62,24 +60,24 @@ module _ (rows : List Row) (a i : ℕ) (class : is_class_row rows a i ≡ true) 
       by false false false p q e = inl e
 
   -- The law for any bucket of a list.
-  in_keeps : (b j : ℕ) (some : List ℕ) (p : ℕ) → MayTake (get_or some p 0) → search_in rows b some ≡ At j
-      → (search_in rows b (set some p (i + 1)) ≡ At j) ⊎ ((b ≡ a) × (search_in rows b (set some p (i + 1)) ≡ At i))
+  in_keeps : (b j : ℕ) (some : List ℕ) (p : ℕ) → MayTake (get_or some p 0) → search_in rows b some ≡ Some j
+      → (search_in rows b (set some p (i + 1)) ≡ Some j) ⊎ ((b ≡ a) × (search_in rows b (set some p (i + 1)) ≡ Some i))
   unfolding search_in
   in_keeps b j [] p t e = inl e
   in_keeps b j (entry ∷ some) zero t e = head_keeps b j entry (search_in rows b some) t e
   in_keeps b j (entry ∷ some) (suc p) t e = by (eqb entry 0) (is_class_row rows b (entry - 1)) e (in_keeps b j some p t)
     where
-      by : (empty hit : Bool) → cond empty NotFound (cond hit (At (entry - 1)) (search_in rows b some)) ≡ At j
-          → (search_in rows b some ≡ At j → (search_in rows b (set some p (i + 1)) ≡ At j) ⊎ ((b ≡ a) × (search_in rows b (set some p (i + 1)) ≡ At i)))
-          → (cond empty NotFound (cond hit (At (entry - 1)) (search_in rows b (set some p (i + 1)))) ≡ At j)
-          ⊎ ((b ≡ a) × (cond empty NotFound (cond hit (At (entry - 1)) (search_in rows b (set some p (i + 1)))) ≡ At i))
+      by : (empty hit : Bool) → cond empty None (cond hit (Some (entry - 1)) (search_in rows b some)) ≡ Some j
+          → (search_in rows b some ≡ Some j → (search_in rows b (set some p (i + 1)) ≡ Some j) ⊎ ((b ≡ a) × (search_in rows b (set some p (i + 1)) ≡ Some i)))
+          → (cond empty None (cond hit (Some (entry - 1)) (search_in rows b (set some p (i + 1)))) ≡ Some j)
+          ⊎ ((b ≡ a) × (cond empty None (cond hit (Some (entry - 1)) (search_in rows b (set some p (i + 1)))) ≡ Some i))
       by true hit e rest = absurd (not_found_at j e)
       by false true e rest = inl e
       by false false e rest = rest e
 
   -- The law for the bucket q of those from s on, at most 64 of which are searched.
-  part_keeps : (b j s q : ℕ) (buckets : List ℕ) → MayTake (get_or buckets (s + q) 0) → search_in rows b (take 64 (drop s buckets)) ≡ At j
-      → (search_in rows b (take 64 (set (drop s buckets) q (i + 1))) ≡ At j) ⊎ ((b ≡ a) × (search_in rows b (take 64 (set (drop s buckets) q (i + 1))) ≡ At i))
+  part_keeps : (b j s q : ℕ) (buckets : List ℕ) → MayTake (get_or buckets (s + q) 0) → search_in rows b (take 64 (drop s buckets)) ≡ Some j
+      → (search_in rows b (take 64 (set (drop s buckets) q (i + 1))) ≡ Some j) ⊎ ((b ≡ a) × (search_in rows b (take 64 (set (drop s buckets) q (i + 1))) ≡ Some i))
   part_keeps b j s q buckets t e = elim (dec_le 64 q) [
     | yes l ↦ rw (take-set-le 64 (drop s buckets) q (i + 1) l) (inl e)
     | no l ↦

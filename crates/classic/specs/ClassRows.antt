@@ -1,6 +1,6 @@
 -- Class rows by name, and rows whose class row is missing, as properties of rows. The tests of ClassicText decide them.
 -- A reader must believe the records `ClassNamed` and `ClassMissing`.
-use Rattle.std.specs.Prelude.{◌≡◌, refl, ◌↔◌, ◌⊎◌, ℕ, Bool, true, false, ◌||◌, List}
+use Rattle.std.specs.Prelude.{◌≡◌, refl, ◌↔◌, ◌⊎◌, ℕ, Bool, true, false, ◌||◌, List, Option, Some, None}
 use Rattle.std.proofs.Common.{inl, inr, arith, eqb-true, eq-eqb}
 use Rattle.decode.specs.Values.{and_left, and_right}
 use Rattle.phd.specs.Phd.{bytes_equal}
@@ -9,8 +9,6 @@ use Rattle.table.specs.Rows.{is_kind, name_of}
 use Rattle.table.specs.Search.{NoneSatisfies}
 use Rattle.table.proofs.SearchLaws.{first_row_none}
 use Rattle.table.specs.declared.Row.{Row}
-use Rattle.table.specs.declared.Search.{Search}
-use Rattle.table.specs.declared.Search.TheVariants.{At, NotFound}
 use Rattle.classic.specs.ClassicText.{is_class_named, class_missing}
 use Rattle.table.specs.RowBytes.{is_class_at, class_at, is_not_found, ClassRow, is_class_at_iff}
 
@@ -42,9 +40,9 @@ or_of a b (inl e) = rw e
 or_of true b (inr e) = refl
 or_of false b (inr e) = e
 
-is_not_found_eq : (f : Search) → is_not_found f ≡ true → f ≡ NotFound
-is_not_found_eq (At i) e = let z : ◌≡◌ {A = ℕ} 0 1 = cc in absurd (omega arith)
-is_not_found_eq NotFound e = refl
+is_not_found_eq : (f : Option ℕ) → is_not_found f ≡ true → f ≡ None
+is_not_found_eq (Some i) e = let z : ◌≡◌ {A = ℕ} 0 1 = cc in absurd (omega arith)
+is_not_found_eq None e = refl
 
 -- `class_missing` tests exactly for a row whose class row is missing.
 pub class_missing_iff : (rows : List Row) (r : Row) → (class_missing rows r ≡ true) ↔ ClassMissing rows r
@@ -57,10 +55,10 @@ class_missing_iff rows r = (
     kind : Bool
     kind = is_kind 2 r || is_kind 3 r
 
-    class : Search
+    class : Option ℕ
     class = class_at rows r.class
 
-    found : (class_at rows r.class ≡ NotFound) ↔ NoneSatisfies (ClassRow r.class) rows
+    found : (class_at rows r.class ≡ None) ↔ NoneSatisfies (ClassRow r.class) rows
     found = first_row_none (ClassRow r.class) (is_class_at r.class) (is_class_at_iff r.class) rows
 
     kinds : (is_kind 2 r ≡ true) ⊎ (is_kind 3 r ≡ true) → (r.kind ≡ 2) ⊎ (r.kind ≡ 3)

@@ -1,7 +1,7 @@
 -- Classic text (docs/FORMAT.md 7): addresses, class rows, the two lines of a row, the trailers, and the text as a list of lines.
 -- All theorems about the text use these definitions. A reader must believe them, those of digits (numbers as bytes) and of RowBytes
 -- (the class of a row, and its bytes).
-use Rattle.std.specs.Prelude.{ℕ, ◌+◌, ◌/◌, Bool, true, cond, ◌&&◌, ◌||◌, List, [], ◌∷◌, ◌++◌, length, get_or, leb, eqb}
+use Rattle.std.specs.Prelude.{ℕ, ◌+◌, ◌/◌, Bool, true, cond, ◌&&◌, ◌||◌, List, [], ◌∷◌, ◌++◌, length, get_or, leb, eqb, Option}
 use Rattle.decode.specs.declared.StringSpan.{StringSpan}
 use Rattle.encode.specs.Encode.{join}
 use Rattle.digits.specs.Digits.{ascii, text_decimal, upper_digits}
@@ -12,7 +12,6 @@ use Rattle.table.specs.RowBytes.{class_at, is_not_found, naming_class, bytes_of}
 use Rattle.table.specs.CheckOrder.{WriteResult, checked_write}
 use Rattle.table.specs.declared.Answer.{Answer}
 use Rattle.table.specs.declared.Row.{Row}
-use Rattle.table.specs.declared.Search.{Search}
 use Rattle.phd.specs.Phd.{bytes_equal}
 use Rattle.phd.specs.declared.Header.{Header}
 use Rattle.phd_check.specs.GoodRows.{good_header, first_bad, vm_text}
@@ -31,7 +30,7 @@ unfoldable pub is_class_named : List ℕ → List ℕ → Row → Bool
 is_class_named names name r = is_kind 1 r && bytes_equal (name_of names r) name
 
 -- The first class row with this name.
-abbrev pub class_named : (names : List ℕ) → List Row → (name : List ℕ) → Search
+abbrev pub class_named : (names : List ℕ) → List Row → (name : List ℕ) → Option ℕ
 class_named names rows name = first_row (is_class_named names name) rows
 
 -- Whether a row is an object or object array: its lines need the class row of its class word.

@@ -1,13 +1,14 @@
 -- The class words of primitive arrays, by type, as one pass from the last row to the first finds them.
 -- Assumes nothing; no definition of the text uses it.
-use Rattle.std.specs.Prelude.{◌≡◌, refl, ◌⊎◌, ℕ, ◌+◌, ◌-◌, ◌≤◌, ◌<◌, Bool, true, false, cond, List, [], ◌∷◌, length, get_or, set, replicate}
-use Rattle.std.proofs.Common.{ap, ◌∙◌, inl, inr, eq-or-lt_of_le, arith, length-set, get_or-set_same, get_or-set_other}
+use Rattle.std.specs.Prelude.{◌≡◌, refl, ℕ, ◌+◌, ◌-◌, ◌≤◌, ◌<◌, Bool, true, false, cond, List, [], ◌∷◌, eqb, length, get_or, replicate, Option, Some, None}
+use Rattle.std.proofs.Common.{ap, ◌∙◌, arith}
 use Rattle.std.proofs.lemmas.List.{length-replicate, get_or-replicate}
 use Rattle.table.specs.Table.{row_count}
 use Rattle.table.specs.Rows.{row_at, is_kind, rows_of, rows_left, rows_left_next, rows_left_none}
 use Rattle.table.specs.declared.Row.{Row}
 use Rattle.table.specs.Search.{first_from, found_row}
 use Rattle.table.proofs.SearchLaws.{found_row_cons}
+use Rattle.phd.specs.Phd.{bytes_equal}
 use Rattle.classic.specs.ClassicText.{primitive_array_type, is_class_named, primitive_class, class_of}
 
 -- The class word of a type among a row and the rows after it, if among the rows after it it is `class`.
@@ -24,50 +25,17 @@ pub record PrimitiveClasses (names : List ℕ) (rows : List Row) (classes : List
   pub eight : length classes ≡ 8
   pub each : (type : ℕ) → type < 8 → get_or classes type 0 ≡ primitive_class names rows type
 
--- ---- the loop over the types
+-- ---- the type with a name
 
--- Its invariant: the row was entered for the types below `next`.
-pub record EnteredBelow (names : List ℕ) (r : Row) (before : List ℕ) (next : ℕ) (after : List ℕ) : Type 0 where
-  pub most : next ≤ 8
-  pub eight : length after ≡ 8
-  pub done : (type : ℕ) → type < next → get_or after type 0 ≡ entered_class names r type (get_or before type 0)
-  pub rest : (type : ℕ) → next ≤ type → get_or after type 0 ≡ get_or before type 0
+-- Whether a search found the type.
+abbrev pub is_type : ℕ → Option ℕ → Bool
+is_type type (Some found) = eqb found type
+is_type type None = false
 
-module _ (names : List ℕ) (r : Row) (before : List ℕ) where
-  -- It holds at the start.
-  pub entered_start : length before ≡ 8 → EnteredBelow names r before 0 before
-  entered_start l = record { most = omega arith; eight = l; done = λ type b. absurd (omega arith); rest = λ type b. refl }
-
-  -- At the end, the row is entered.
-  pub entered_end : (next : ℕ) (after : List ℕ) → EnteredBelow names r before next after → 8 ≤ next → Entered names r before after
-  entered_end next after e l = record { eight = e.eight; each = λ type b. e.done type (omega arith) }
-
-  module _ (next : ℕ) (after : List ℕ) (e : EnteredBelow names r before next after) (l : next < 8) where
-    -- If the row is a class row with the name of the next type, its address is stored there.
-    pub entered_store : is_class_named names (primitive_array_type next) r ≡ true → EnteredBelow names r before (next + 1) (set after next r.address)
-    entered_store t = record {
-      most = omega arith;
-      eight = simp length-set e.eight;
-      done = λ type b. done type (eq-or-lt_of_le (omega arith));
-      rest = λ type b. rw (get_or-set_other after next type r.address 0 (λ q. omega arith)) (e.rest type (omega arith));
-    }
-      where
-        done : (type : ℕ) → (type ≡ next) ⊎ (type < next) → get_or (set after next r.address) type 0 ≡ entered_class names r type (get_or before type 0)
-        done type (inl q) = rw (q, t) (get_or-set_same after next r.address 0 (omega arith))
-        done type (inr b) = rw (get_or-set_other after next type r.address 0 (λ q. omega arith)) (e.done type b)
-
-    -- If not, nothing changes.
-    pub entered_skip : is_class_named names (primitive_array_type next) r ≡ false → EnteredBelow names r before (next + 1) after
-    entered_skip t = record {
-      most = omega arith;
-      eight = e.eight;
-      done = λ type b. done type (eq-or-lt_of_le (omega arith));
-      rest = λ type b. e.rest type (omega arith);
-    }
-      where
-        done : (type : ℕ) → (type ≡ next) ⊎ (type < next) → get_or after type 0 ≡ entered_class names r type (get_or before type 0)
-        done type (inl q) = rw (q, t) (e.rest next (omega arith))
-        done type (inr b) = e.done type b
+-- The type of the primitive arrays whose type has this name, if one has.
+pub record NamesPrim (name : List ℕ) (found : Option ℕ) : Type 0 where
+  pub bound : (type : ℕ) → found ≡ Some type → type < 8
+  pub each : (type : ℕ) → type < 8 → bytes_equal name (primitive_array_type type) ≡ is_type type found
 
 -- ---- the pass over the rows
 

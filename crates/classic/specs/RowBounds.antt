@@ -1,7 +1,9 @@
 -- Bounds on good rows, for the proofs about the text: names and references are in bounds, numbers are small, kinds are 1 to 4.
 -- Assumes nothing.
-use Rattle.std.specs.Prelude.{◌≡◌, ℕ, ◌+◌, ◌^◌, ◌≤◌, ◌<◌, true, List, length}
+use Rattle.std.specs.Prelude.{◌≡◌, ℕ, ◌+◌, ◌^◌, ◌≤◌, ◌<◌, true, List, [], ◌∷◌, length}
 use Rattle.std.proofs.Common.{arith}
+use Rattle.std.proofs.Props.{props}
+use Rattle.std.specs.Coded.{×_prop, Unit-prop}
 use Rattle.phd.specs.declared.Header.{Header}
 use Rattle.table.specs.Rows.{All, without_place, rec_of}
 use Rattle.phd_check.specs.GoodRows.{good_row, TablesGood}
@@ -28,6 +30,17 @@ pub record KnownKind (r : Row) : Type 0 where
 pub record AllNumbersInBounds (names : List ℕ) (rows : List Row) : Type 0 where
   pub row : All (RowNumbersInBounds names) rows
   pub kind : All KnownKind rows
+
+-- There is at most one proof of it.
+all_prop : {P : Row → Type 0} → ((r : Row) → IsProp (P r)) → (rows : List Row) → IsProp (All P rows)
+all_prop p [] = Unit-prop
+all_prop p (r ∷ rows) = ×_prop (p r) (all_prop p rows)
+
+pub all_numbers_prop : (names : List ℕ) (rows : List Row) → IsProp (AllNumbersInBounds names rows)
+all_numbers_prop names rows a b = λ i. record {
+  row = all_prop (λ r. Prim.hlevel props) rows a.row b.row i;
+  kind = all_prop (λ r. Prim.hlevel props) rows a.kind b.kind i;
+}
 
 -- A row's references lie in the table of references.
 abbrev pub RefsInBounds : List ℕ → Row → Type 0

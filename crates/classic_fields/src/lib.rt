@@ -1,57 +1,44 @@
-// Writes addresses and references of the classic text. Each function writes its bytes at an offset of the output, changes nothing
-// else, and returns the offset after them; the bytes are a definition of classic's specs/ClassicText.antt.
+// Encodes addresses and references of the classic text; the bytes are definitions of classic's specs/ClassicText.antt.
 #![tactic(auto)]
 
-ghost use Rattle.std.specs.Prelude.{◌+◌, ◌≤◌, length, take, drop};
-ghost use Rattle.encode.specs.Writes.{Writes, HasCapacity};
+ghost use Rattle.encode.specs.Wrote.{Wrote, HasRoom};
 ghost use Rattle.phd.specs.Shapes.{ValidBits};
 ghost use Rattle.classic.specs.ClassicText.{address, refs_text};
 ghost use Rattle.classic_fields.specs.AddressParts.{high_digits};
 
-// Writes the digits of an address before its last eight: eight for W 64 and none for W 32; `bits` is W.
-fn write_high_digits(out: &mut [u8], at: usize, bits: u64, a: u64) -> usize
+use encode::encoder::Encoder;
+
+// Encodes the digits of an address before its last eight: eight for W 64 and none for W 32; `bits` is W.
+fn encode_high_digits(e: &mut Encoder, bits: u64, a: u64)
     requires valid_bits { ValidBits bits }
-    requires has_capacity { HasCapacity out.old at (high_digits bits a) }
-    ensures { Writes out.old at (high_digits bits a) out.new result }
+    requires has_room { HasRoom e.old (high_digits bits a) }
+    ensures { Wrote e.old e.new (high_digits bits a) }
 {
     if bits == 64 {
-        return digits::write_hex8(out, at, a / 0x1_0000_0000);
+        digits::encode_hex8(e, a / 0x1_0000_0000);
     }
-    at
 }
 
-// Writes an address: `0x` and W / 4 upper-case hexadecimal digits; `bits` is W. The digits are written eight at a time.
-pub fn write_address(out: &mut [u8], at: usize, bits: u64, a: u64) -> usize
+// Encodes an address: `0x` and W / 4 upper-case hexadecimal digits; `bits` is W. The digits are encoded eight at a time.
+#[tactic(auto, using(crate::proofs::AddressSteps::address_steps))]
+pub fn encode_address(e: &mut Encoder, bits: u64, a: u64)
     requires valid_bits { ValidBits bits }
-    requires has_capacity { HasCapacity out.old at (address bits a) }
-    ensures { Writes out.old at (address bits a) out.new result }
+    requires has_room { HasRoom e.old (address bits a) }
+    ensures { Wrote e.old e.new (address bits a) }
 {
-    let digits = encode::encode_bytes(out, at, b"0x");
-    let last = write_high_digits(out, digits, bits, a);
-    digits::write_hex8(out, last, a)
+    e.bytes(b"0x");
+    encode_high_digits(e, bits, a);
+    digits::encode_hex8(e, a);
 }
 
-// Writes `count` references from index `first` of the table on, each after a space.
-pub fn write_refs(
-    out: &mut [u8],
-    at: usize,
-    bits: u64,
-    refs: &[u64],
-    first: usize,
-    count: usize,
-) -> usize
+// Encodes references, each after a space.
+pub fn encode_refs(e: &mut Encoder, bits: u64, refs: &[u64])
     requires valid_bits { ValidBits bits }
-    requires count_in_bounds { first + count ≤ length refs.now }
-    requires has_capacity { HasCapacity out.old at (refs_text bits (take count (drop first refs.now))) }
-    ensures { Writes out.old at (refs_text bits (take count (drop first refs.now))) out.new result }
+    requires has_room { HasRoom e.old (refs_text bits refs.now) }
+    ensures { Wrote e.old e.new (refs_text bits refs.now) }
 {
-    let mut to = at;
-    let mut i: usize = 0;
-    while i < count {
-        let a = refs[first + i];
-        to = encode::encode_byte(out, to, 0x20);
-        to = write_address(out, to, bits, a);
-        i += 1;
+    for a in refs {
+        e.byte(b' ');
+        encode_address(e, bits, *a);
     }
-    to
 }

@@ -1,2 +1,2 @@
 -- Laws that the proofs of this crate's functions cite.
-pub mod RowTextLaws
+pub mod TypeSteps

@@ -1,3 +1,4 @@
--- RowText: a row's two lines as the functions write them, reply 18 for a row whose class row is missing, and the proof that the
--- lines are those of the definition.
+-- Label: the label of a row. RowText: a row's two lines as the functions write them, and the proof that they are those of the
+-- definition.
+pub mod Label
 pub mod RowText

@@ -1,53 +1,31 @@
 -- A row's two lines as the functions write them: from a label, which holds what the definition of the text (ClassicText) looks up
 -- among the class rows. They are proved equal to the lines of the definition.
-use Rattle.std.specs.Prelude.{◌≡◌, refl, ℕ, ◌+◌, ◌*◌, ◌/◌, ◌^◌, ◌≤◌, ◌<◌, Bool, true, false, cond, List, [], ◌∷◌, ◌++◌, length, get_or, take, drop, eqb}
+use Rattle.std.specs.Prelude.{◌≡◌, refl, ℕ, ◌+◌, ◌*◌, ◌/◌, ◌^◌, ◌≤◌, ◌<◌, Bool, true, false, cond, List, [], ◌∷◌, ◌++◌, length, get_or, eqb, Option, Some, None}
 use Rattle.std.proofs.Common.{⊎_elim, arith, length-append}
 use Rattle.decode.specs.Values.{by_cases}
 use Rattle.encode.specs.Encode.{join}
 use Rattle.phd.specs.Shapes.{ValidBits}
-use Rattle.table.specs.Rows.{is_kind, name_of, zero_row, all_nth}
+use Rattle.table.specs.Rows.{is_kind, refs_of, name_of, zero_row, all_nth}
 use Rattle.phd_check.specs.WellFormed.{length_refs_of, length_name_of}
 use Rattle.table.specs.Search.{found_row}
 use Rattle.table.proofs.SearchLaws.{found_in_bounds}
 use Rattle.table.specs.declared.Row.{Row}
-use Rattle.table.specs.declared.Search.TheVariants.{At, NotFound}
-use Rattle.table.specs.declared.Search.{Search}
 use Rattle.digits.specs.Digits.{ascii, digit_count, text_decimal}
-use Rattle.classic.specs.ClassicText.{address, class_missing, primitive_array_type, object_array_type, type_of, first_line, second_line, unlines}
+use Rattle.classic.specs.ClassicText.{address, refs_text, class_of, class_missing, primitive_array_type, object_array_type, type_of, first_line, second_line, unlines}
 use Rattle.table.specs.RowBytes.{class_at, naming_class, bytes_of}
 use Rattle.classic.specs.RowBounds.{RowNumbersInBounds, AllNumbersInBounds}
 use Rattle.classic_fields.specs.FieldLengths.{length_address, length_refs_text}
+use Rattle.classic_row.specs.declared.label.Label.{Label}
+use Rattle.classic_row.specs.Label.{type_text, IsLabel}
 use Rattle.digits.specs.DigitLengths.{length_decimal, digit_count_le_20}
-use Rattle.classic_row.specs.declared.TypeLabel.{TypeLabel}
-use Rattle.classic_row.specs.declared.LabelResult.{LabelResult}
-use Rattle.classic_row.specs.declared.LabelResult.TheVariants.{Found, Reply}
-use Rattle.classic_row.specs.declared.RowSize.{RowSize}
-use Rattle.classic_row.specs.declared.RowSize.TheVariants.{Bytes, Reply as ReplySize}
-
--- The label of a row: its bytes, and the place and length of the name in its type.
-unfoldable pub type_label : List Row → Row → TypeLabel
-type_label rows r = record { bytes = bytes_of rows r; place = (naming_class rows r).place; len = (naming_class rows r).namelen }
-
--- The label of a row, or reply 18 for an object or object array whose class row is missing.
-unfoldable pub type_label_or_18 : List Row → Row → LabelResult
-type_label_or_18 rows r = cond (class_missing rows r) (Reply 18) (Found (type_label rows r))
-
--- The name that a label selects from the name bytes.
-abbrev pub label_name : List ℕ → TypeLabel → List ℕ
-label_name names e = take e.len (drop e.place names)
-
--- The type of a row of this kind and primitive type, from its label.
-unfoldable pub label_type : List ℕ → ℕ → ℕ → TypeLabel → List ℕ
-label_type names kind prim e = cond (eqb kind 4) (primitive_array_type prim) (cond (eqb kind 3) (object_array_type (label_name names e)) (label_name names e))
 
 -- `CLS` or `OBJ`, with the bracket after the bytes and the spaces: 6 bytes.
 unfoldable pub kind_mark : ℕ → List ℕ
 kind_mark kind = cond (eqb kind 1) (ascii "] CLS ") (ascii "] OBJ ")
 
--- The first line of a row, from its label.
-unfoldable pub label_line : ℕ → List ℕ → Row → TypeLabel → List ℕ
-label_line bits names r e = join (
-    address bits r.address ∷ text_decimal " [" e.bytes ∷ kind_mark r.kind ∷ label_type names r.kind r.prim e ∷ [])
+-- The first line of a row, from its bytes and its type.
+unfoldable pub label_line : ℕ → Row → (bytes : ℕ) → (type : List ℕ) → List ℕ
+label_line bits r bytes type = join (address bits r.address ∷ text_decimal " [" bytes ∷ kind_mark r.kind ∷ type ∷ [])
 
 -- A row's two lines as bytes.
 unfoldable pub row_text : ℕ → (names refs : List ℕ) → List Row → Row → List ℕ
@@ -56,44 +34,29 @@ row_text bits names refs rows r = unlines (first_line bits names rows r ∷ seco
 -- The size of a row's two lines, as the functions compute it. 8 is 2 bytes of ` [` and 6 of `kind_mark`.
 unfoldable pub row_size : ℕ → (names : List ℕ) → List Row → Row → ℕ
 row_size bits names rows r =
-    let e : TypeLabel = type_label rows r in
     let one : ℕ = 2 + bits / 4 in
-    one + 8 + digit_count e.bytes + length (label_type names r.kind 0 e) + 1 + one + r.count * (1 + one) + 1
+    one + 8 + digit_count (bytes_of rows r) + length (type_of names rows r) + 1 + one + r.count * (1 + one) + 1
 
--- The size of a row's two lines, or reply 18 for an object or object array whose class row is missing.
-unfoldable pub row_size_or_18 : ℕ → (names : List ℕ) → List Row → Row → RowSize
-row_size_or_18 bits names rows r = cond (class_missing rows r) (ReplySize 18) (Bytes (row_size bits names rows r))
-
--- ---- meaning of the results
-
-module _ (rows : List Row) (r : Row) where
-  -- A label means that the row has it and its class row is not missing; a reply is 18 and means that the class row is missing.
-  abbrev pub LabelMeans : LabelResult → Type 0
-  LabelMeans (Found e) = (class_missing rows r ≡ false) × (e ≡ type_label rows r)
-  LabelMeans (Reply n) = (class_missing rows r ≡ true) × (n ≡ 18)
-
-  -- The result of `type_label_or_18` has this meaning.
-  pub label_means : (f : LabelResult) → f ≡ type_label_or_18 rows r → LabelMeans f
-  unfolding type_label_or_18
-  label_means f q = rw q (by_cases (λ t. LabelMeans (cond t (Reply 18) (Found (type_label rows r)))) (class_missing rows r) (λ p. (p, refl)) (λ p. (p, refl)))
+-- The size of a row's two lines, or none for an object or object array whose class row is missing.
+unfoldable pub row_size_or_none : ℕ → (names : List ℕ) → List Row → Row → Option ℕ
+row_size_or_none bits names rows r = cond (class_missing rows r) None (Some (row_size bits names rows r))
 
 module _ (bits : ℕ) (names : List ℕ) (rows : List Row) (r : Row) where
-  -- A size means that it is the row's and its class row is not missing; a reply is 18 and means that the class row is missing.
-  abbrev pub SizeMeans : RowSize → Type 0
-  SizeMeans (Bytes n) = (class_missing rows r ≡ false) × (n ≡ row_size bits names rows r)
-  SizeMeans (ReplySize n) = (class_missing rows r ≡ true) × (n ≡ 18)
+  -- A size means that it is the row's and its class row is not missing; none means that the class row is missing.
+  abbrev pub SizeMeans : Option ℕ → Type 0
+  SizeMeans (Some n) = (class_missing rows r ≡ false) × (n ≡ row_size bits names rows r)
+  SizeMeans None = class_missing rows r ≡ true
 
-  -- The result of `row_size_or_18` has this meaning.
-  pub size_means : (f : RowSize) → f ≡ row_size_or_18 bits names rows r → SizeMeans f
-  unfolding row_size_or_18
-  size_means f q =
-      rw q (by_cases (λ t. SizeMeans (cond t (ReplySize 18) (Bytes (row_size bits names rows r)))) (class_missing rows r) (λ p. (p, refl)) (λ p. (p, refl)))
+  -- The result of `row_size_or_none` has this meaning.
+  pub size_means : (f : Option ℕ) → f ≡ row_size_or_none bits names rows r → SizeMeans f
+  unfolding row_size_or_none
+  size_means f q = rw q (by_cases (λ t. SizeMeans (cond t None (Some (row_size bits names rows r)))) (class_missing rows r) (λ p. p) (λ p. (p, refl)))
 
 -- ---- equality with the definition
 
--- The first line from a row's label is the first line of the definition.
-pub label_line_is_first_line : (bits : ℕ) (names : List ℕ) (rows : List Row) (r : Row) → label_line bits names r (type_label rows r) ≡ first_line bits names rows r
-unfolding label_line first_line type_label label_type type_of kind_mark name_of
+-- The first line from a row's bytes and type is the first line of the definition.
+pub label_line_is_first_line : (bits : ℕ) (names : List ℕ) (rows : List Row) (r : Row) → label_line bits r (bytes_of rows r) (type_of names rows r) ≡ first_line bits names rows r
+unfolding label_line first_line kind_mark
 label_line_is_first_line bits names rows r = refl
 
 -- ---- bounds
@@ -106,9 +69,9 @@ naming_class_in_bounds names rows r a s = by_kind (is_kind 1 r) (is_kind 4 r)
     none : RowNumbersInBounds names zero_row
     none = record { name_in_bounds = omega arith; short = omega arith; size = omega arith; few = omega arith; prim_lt = omega arith }
 
-    found : (f : Search) → class_at rows r.class ≡ f → RowNumbersInBounds names (found_row rows f)
-    found (At i) e = all_nth _ rows i a.row (found_in_bounds _ rows i e)
-    found NotFound e = none
+    found : (f : Option ℕ) → class_at rows r.class ≡ f → RowNumbersInBounds names (found_row rows f)
+    found (Some i) e = all_nth _ rows i a.row (found_in_bounds _ rows i e)
+    found None e = none
 
     by_kind : (b c : Bool) → RowNumbersInBounds names (cond b r (cond c zero_row (found_row rows (class_at rows r.class))))
     by_kind true c = s
@@ -127,21 +90,12 @@ bytes_of_lt names rows r a s = by_kind (is_kind 1 r) (is_kind 2 r)
 
 -- ---- sizes
 
--- The length of a type does not depend on the primitive type.
-length_type : (names : List ℕ) (kind prim : ℕ) (e : TypeLabel) → length (label_type names kind prim e) ≡ length (label_type names kind 0 e)
-unfolding label_type primitive_array_type
-length_type names kind prim e = by_kind (eqb kind 4) _
+-- A type is at most three bytes longer than the name in it.
+type_le : (names : List ℕ) (rows : List Row) (r : Row) → length (type_of names rows r) ≤ 3 + length (name_of names (naming_class rows r))
+unfolding type_of primitive_array_type object_array_type
+type_le names rows r = by_kind (is_kind 4 r) (is_kind 3 r) (eqb (get_or (name_of names (naming_class rows r)) 0 0) 0x5B) (name_of names (naming_class rows r))
   where
-    by_kind : (b : Bool) (other : List ℕ) → length (cond b (primitive_array_type prim) other) ≡ length (cond b (primitive_array_type 0) other)
-    by_kind true other = refl
-    by_kind false other = refl
-
--- A type is at most three bytes longer than the name of its label.
-type_le : (names : List ℕ) (kind : ℕ) (e : TypeLabel) → length (label_type names kind 0 e) ≤ 3 + length (label_name names e)
-unfolding label_type primitive_array_type object_array_type
-type_le names kind e = by_kind (eqb kind 4) (eqb kind 3) (eqb (get_or (label_name names e) 0 0) 0x5B) (label_name names e)
-  where
-    by_kind : (b c d : Bool) (name : List ℕ) → length (cond b (primitive_array_type 0) (cond c (cond d (ascii "[" ++ name) (ascii "[L" ++ (name ++ ascii ";"))) name)) ≤ 3 + length name
+    by_kind : (b c d : Bool) (name : List ℕ) → length (cond b (primitive_array_type r.prim) (cond c (cond d (ascii "[" ++ name) (ascii "[L" ++ (name ++ ascii ";"))) name)) ≤ 3 + length name
     by_kind true c d name = omega arith
     by_kind false true true name = omega arith
     by_kind false true false name = simp length-append (omega arith)
@@ -160,17 +114,17 @@ pub length_row_text : (bits : ℕ) (names refs : List ℕ) (rows : List Row) (r 
     → length (row_text bits names refs rows r) ≡ row_size bits names rows r
 unfolding row_text unlines row_size second_line label_line
 length_row_text bits names refs rows r l =
-    rw (← label_line_is_first_line) (simp (length-append, length_address, length_decimal, length_refs_text, length_mark, length_type, length_refs_of) (omega arith))
+    rw (← label_line_is_first_line) (simp (length-append, length_address, length_decimal, length_refs_text, length_mark, length_refs_of) (omega arith))
 
 -- A row's two lines have at most 65,700 bytes and 19 for each reference.
 pub row_size_le : (bits : ℕ) (names : List ℕ) (rows : List Row) (r : Row) → ValidBits bits → AllNumbersInBounds names rows → RowNumbersInBounds names r
     → row_size bits names rows r ≤ 65700 + r.count * 19
-unfolding row_size type_label name_of
+unfolding row_size
 row_size_le bits names rows r w a s =
     let n = naming_class_in_bounds names rows r a s in
     let b = bytes_of_lt names rows r a s in
     let p = digit_count_le_20 (bytes_of rows r) (omega arith) in
-    let t = type_le names r.kind (type_label rows r) in
+    let t = type_le names rows r in
     let m = length_name_of names (naming_class rows r) n.name_in_bounds in
     ⊎_elim (λ e. rw e (omega arith)) (λ e. rw e (omega arith)) w
 
@@ -181,6 +135,8 @@ unfolding row_text unlines
 row_text_parts bits names refs rows r = refl
 
 -- The same, with the first line from the row's label.
-pub row_text_label_parts : (bits : ℕ) (names refs : List ℕ) (rows : List Row) (r : Row)
-    → row_text bits names refs rows r ≡ label_line bits names r (type_label rows r) ++ ((0x0A ∷ []) ++ (second_line bits names refs rows r ++ (0x0A ∷ [])))
-row_text_label_parts bits names refs rows r = rw label_line_is_first_line (row_text_parts bits names refs rows r)
+pub row_text_label_parts : (bits : ℕ) (names refs : List ℕ) (rows : List Row) (r : Row) (label : Label) → IsLabel names rows r label
+    → row_text bits names refs rows r
+    ≡ label_line bits r label.bytes (type_text label.type_name) ++ ((0x0A ∷ []) ++ ((address bits (class_of names rows r) ++ refs_text bits (refs_of refs r)) ++ (0x0A ∷ [])))
+unfolding second_line
+row_text_label_parts bits names refs rows r label l = rw (l.bytes, l.type_is, label_line_is_first_line) (row_text_parts bits names refs rows r)

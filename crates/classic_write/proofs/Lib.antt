@@ -1,3 +1,3 @@
--- Laws that the proofs of this crate's functions cite: VersionParts (the version line in parts) and WriteText (the whole text).
-pub mod VersionParts
+-- Laws that the proofs of this crate's functions cite.
+pub mod TextSteps
 pub mod WriteText

@@ -1,12 +1,13 @@
--- The three parts of the text, sized and written one after the other, give the whole text: for `size_good` and `write_if_fits`. And what the
+-- The three parts of the text, sized and written one after the other, give the whole text: for `Source`. And what the
 -- class index asks of good tables.
 use mathlib.Core.Path.{◌≡◌}
 use Prim.Native.Nat.{ℕ, ◌+◌, ◌^◌, ◌≤◌, ◌<◌}
 use native.Mathlib.Omega.{arith}
 use mathlib.Core.List.{List, ◌++◌}
 use lib.ListN.{length}
-use lib.Seq.{sets}
-use Rattle.encode.specs.Writes.{Writes, HasCapacity, writes_then, capacity_first, capacity_after}
+use lib.ListN.{length-append}
+use Rattle.encode.specs.declared.encoder.Encoder.{Encoder}
+use Rattle.encode.specs.Wrote.{Wrote, wrote_then}
 use Rattle.table.specs.Table.{row_count}
 use Rattle.table.specs.Rows.{rows_of, length_rows}
 use Rattle.table.specs.declared.Row.{Row}
@@ -54,21 +55,11 @@ module _ (h : Header) (names refs : List ℕ) (rows : List Row) (t : Tally) (e :
         let z = trailers_is in
         omega arith
 
-  -- An output with capacity for the text has capacity for each part, and the parts, written one after the other, are the text.
-  module _ (out : List ℕ) (l : length (text_of h names refs rows) ≤ length out) where
-    text_capacity : HasCapacity out 0 (version_text names h.vm ++ (rows_text h.bits names refs rows ++ tally_trailers t))
-    text_capacity = omega (arith, rw parts at l)
+  -- The parts, encoded one after the other, are the text.
+  module _ {first second third last : Encoder} (p : Wrote first second (version_text names h.vm)) (q : Wrote second third (rows_text h.bits names refs rows)) (r : Wrote third last (tally_trailers t)) where
+    pub text_encoded : Wrote first last (text_of h names refs rows)
+    text_encoded = rw parts (wrote_then p (wrote_then q r))
 
-    pub version_capacity : HasCapacity out 0 (version_text names h.vm)
-    version_capacity = capacity_first out 0 (version_text names h.vm) (rows_text h.bits names refs rows ++ tally_trailers t) text_capacity
-
-    module _ {out₁ : List ℕ} {at : ℕ} (p : Writes out 0 (version_text names h.vm) out₁ at) where
-      pub rows_capacity : HasCapacity out₁ at (rows_text h.bits names refs rows)
-      rows_capacity = capacity_first out₁ at (rows_text h.bits names refs rows) (tally_trailers t) (capacity_after p (rows_text h.bits names refs rows ++ tally_trailers t) text_capacity)
-
-      module _ {out₂ : List ℕ} {end : ℕ} (q : Writes out₁ at (rows_text h.bits names refs rows) out₂ end) where
-        pub trailers_capacity : HasCapacity out₂ end (tally_trailers t)
-        trailers_capacity = capacity_after q (tally_trailers t) (capacity_after p (rows_text h.bits names refs rows ++ tally_trailers t) text_capacity)
-
-        pub text_written : {out₃ : List ℕ} {next : ℕ} → Writes out₂ end (tally_trailers t) out₃ next → out₃ ≡ sets out 0 (text_of h names refs rows)
-        text_written r = rw parts (writes_then p (writes_then q r)).out
+  -- An output with capacity for the text has room for each part.
+  pub text_room : length (text_of h names refs rows) ≡ length (version_text names h.vm) + length (rows_text h.bits names refs rows) + length (tally_trailers t)
+  text_room = rw parts (simp length-append (omega arith))

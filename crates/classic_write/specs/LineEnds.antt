@@ -1,7 +1,7 @@
 -- No line of a written text but the version line ends in a space; the version line does exactly if the VM string is absent, is
 -- empty or ends in a space itself (docs/FORMAT.md 7.1; 01 demands "no trailing space but where shown").
 -- A reader must believe `last_or`, `last_byte`, `EndsInSpace` and `Each`. Assumes nothing.
-use Rattle.std.specs.Prelude.{◌≡◌, ◌↔◌, ◌⊎◌, Bool, cond, ◌&&◌, leb, ltb, eqb, length, get_or}
+use Rattle.std.specs.Prelude.{◌≡◌, ◌↔◌, ◌⊎◌, Bool, cond, ◌&&◌, leb, ltb, eqb, length, get_or, Option, Some, None}
 use Rattle.std.proofs.Math.Path.{refl}
 use Rattle.std.proofs.Common.{inl, inr, arith}
 use Prim.Native.Nat.{ℕ, zero, suc, ◌+◌, ◌-◌, ◌/◌, ◌%◌, ◌≤◌, ◌<◌}
@@ -17,8 +17,6 @@ use Rattle.digits.specs.DigitLengths.{upper_digits_ten, digit_count_fewest}
 use Rattle.table.specs.Rows.{is_kind, nth, All, all_nth, without_place, rec_of, refs_of, name_of}
 use Rattle.table.specs.Search.{first_row, found_row}
 use Rattle.table.specs.declared.Row.{Row}
-use Rattle.table.specs.declared.Search.{Search}
-use Rattle.table.specs.declared.Search.TheVariants.{At, NotFound}
 use Rattle.phd.specs.Shapes.{ValidBits}
 use Rattle.phd.specs.declared.Header.{Header}
 use Rattle.phd_check.specs.GoodRows.{good_row, vm_text, TablesGood}
@@ -207,11 +205,11 @@ module _ (names : List ℕ) (rows : List Row) (all : All (GoodName names) rows) 
   unfolding found_row
   class_row_name_no_space r k missing = by (class_at rows r.class) refl
     where
-      by : (f : Search) → class_at rows r.class ≡ f → NoFinalSpace (name_of names (found_row rows f))
-      by (At i) e =
+      by : (f : Option ℕ) → class_at rows r.class ≡ f → NoFinalSpace (name_of names (found_row rows f))
+      by (Some i) e =
           let c = (class_at_first rows r.class i).0 e in
           class_name_no_space (nth rows i) (all_nth (GoodName names) rows i all c.inside) c.holds.kind
-      by NotFound e = absurd (missing (record { kind = k; none = (class_at_none rows r.class).0 e }))
+      by None e = absurd (missing (record { kind = k; none = (class_at_none rows r.class).0 e }))
 
   final_type : (r : Row) → GoodName names r → (ClassMissing rows r → ⊥) → NoFinalSpace (type_of names rows r)
   unfolding type_of naming_class without_place
@@ -237,7 +235,7 @@ final_first bits names rows r t =
 -- ---- all lines
 
 -- Both conditions on the tables hold exactly if a size query returns 0 (`TextSizeReplies.done`), and so for every text written.
-module _ (h : Header) (names refs : List ℕ) (rows : List Row) (a : TablesGood h names refs rows) (f : first_row (class_missing rows) rows ≡ NotFound) where
+module _ (h : Header) (names refs : List ℕ) (rows : List Row) (a : TablesGood h names refs rows) (f : first_row (class_missing rows) rows ≡ None) where
   all_named : All (GoodName names) rows
   unfolding rec_of without_place
   all_named = each_row h names refs (GoodName names) named rows a.1

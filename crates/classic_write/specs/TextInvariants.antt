@@ -1,26 +1,28 @@
 -- The loop invariants of the functions that size and write the rows: each holds at the start, every row preserves it, and at the
 -- end it implies the contract.
 -- Assumes nothing.
-use Rattle.std.specs.Prelude.{◌≡◌, ℕ, ◌+◌, ◌^◌, ◌≤◌, ◌<◌, Bool, true, false, List, [], ◌++◌}
+use Rattle.std.specs.Prelude.{Result, Ok, Err, ◌≡◌, ℕ, ◌+◌, ◌^◌, ◌≤◌, ◌<◌, Bool, true, false, List, [], ◌++◌, None}
 use Rattle.std.proofs.Math.Path.{refl}
 use native.Mathlib.Omega.{arith}
-use Rattle.encode.specs.Writes.{Writes, HasCapacity, Remaining, capacity_first, remaining_start, remaining_next, remaining_capacity, remaining_done}
+use Rattle.std.proofs.Math.ListN.{length-append}
+use Rattle.encode.specs.declared.encoder.Encoder.{Encoder}
+use Rattle.encode.specs.Wrote.{Wrote, HasRoom, Remains, remains_start, remains_next, remains_done}
 use Rattle.table.specs.Table.{row_count}
 use Rattle.table.specs.Rows.{row_at, rows_of, all_at, rows_left, rows_left_next, rows_left_none, length_rows, nth_row}
 use Rattle.table.specs.Sums.{sum_left, sum_left_next, sum_left_none}
 use Rattle.table.specs.Search.{first_row, SearchInvariant, search_start, search_done}
 use Rattle.table.proofs.SearchLaws.{first_row_none, search_found, search_next}
 use Rattle.table.specs.declared.Row.{Row}
-use Rattle.table.specs.declared.Search.TheVariants.{NotFound}
 use Rattle.classic.specs.ClassicText.{class_missing, row_lines, unlines}
 use Rattle.classic.specs.RowBounds.{RowNumbersInBounds, KnownKind, AllNumbersInBounds, RefsInBounds, AllRefsInBounds}
 use Rattle.classic_row.specs.RowText.{row_text, row_size}
 use Rattle.phd_counts.specs.Counts.{tally_of}
 use Rattle.phd_counts.specs.declared.Tally.{Tally}
-use Rattle.classic_write.specs.TextParts.{rows_text, rows_size, size_or_18}
+use Rattle.classic_write.specs.TextParts.{rows_text, rows_size, size_or_missing}
 use Rattle.classic_write.specs.TextSizes.{unlines_row_cons}
-use Rattle.classic_write.specs.declared.rows.LinesSize.{LinesSize}
-use Rattle.classic_write.specs.declared.rows.LinesSize.TheVariants.{Bytes, Refused}
+use Rattle.table.specs.declared.Refusal.{Refusal}
+use Rattle.table.specs.declared.Refusal.TheVariants.{ClassMissing}
+use Rattle.classic_write.specs.declared.TextSize.{TextSize}
 
 -- ---- the rest of a table, from row i on
 
@@ -41,7 +43,7 @@ module _ (table : List ℕ) (i : ℕ) (r : Row) (l : i < row_count table) (e : r
   row_refs_in_bounds refs a = rw e (all_at (RefsInBounds refs) table i a.span l)
 
   -- If no class row is missing, that of r is not.
-  pub row_has_class : first_row (class_missing (rows_of table)) (rows_of table) ≡ NotFound → class_missing (rows_of table) r ≡ false
+  pub row_has_class : first_row (class_missing (rows_of table)) (rows_of table) ≡ None → class_missing (rows_of table) r ≡ false
   row_has_class f = by (class_missing (rows_of table) r) refl
     where
       by : (b : Bool) → class_missing (rows_of table) r ≡ b → b ≡ false
@@ -87,11 +89,11 @@ module _ (bits : ℕ) (names table : List ℕ) where
   size_loop_start version_size l = record { sum = refl; small = l; no_class_missing = search_start _ _ }
 
   -- The result that the contract requires.
-  abbrev size_loop_answer : ℕ → LinesSize
-  size_loop_answer version_size = size_or_18 (first_row (class_missing (rows_of table)) (rows_of table)) (version_size + rows_size bits names (rows_of table)) (tally_of (rows_of table))
+  abbrev size_loop_answer : ℕ → Result TextSize Refusal
+  size_loop_answer version_size = size_or_missing (first_row (class_missing (rows_of table)) (rows_of table)) (version_size + rows_size bits names (rows_of table)) (tally_of (rows_of table))
 
   -- After the last row, the total and the tally of all rows are the required result.
-  pub size_loop_end : (version_size i total : ℕ) (t : Tally) → SizeLoop version_size i total → t ≡ tally_of (rows_of table) → row_count table ≤ i → Bytes total t ≡ size_loop_answer version_size
+  pub size_loop_end : (version_size i total : ℕ) (t : Tally) → SizeLoop version_size i total → t ≡ tally_of (rows_of table) → row_count table ≤ i → Ok (record { bytes = total; tally = t }) ≡ size_loop_answer version_size
   unfolding rows_size
   size_loop_end version_size i total t z q l =
       let n = sum_left_none (row_size bits names (rows_of table)) table i l in
@@ -99,9 +101,9 @@ module _ (bits : ℕ) (names table : List ℕ) where
       let e : total ≡ version_size + rows_size bits names (rows_of table) = omega arith in
       rw (e, q, ← search_done _ _ _ z.no_class_missing l)
 
-  -- If the class row of row i, which is r, is missing, reply 18 with the place i is the required result.
+  -- If the class row of row i, which is r, is missing, the refusal at index i is the required result.
   pub size_loop_refuses : (version_size i total : ℕ) (r : Row) → SizeLoop version_size i total → i < row_count table → r ≡ row_at table i → class_missing (rows_of table) r ≡ true
-      → Refused (record { reply = 18; place = i }) ≡ size_loop_answer version_size
+      → Err (ClassMissing i) ≡ size_loop_answer version_size
   size_loop_refuses version_size i total r z l e t = rw (← search_found _ _ _ r z.no_class_missing l e t)
 
   -- Let row i be r, and s the size of its lines.
@@ -124,33 +126,36 @@ module _ (bits : ℕ) (names table : List ℕ) where
     pub size_loop_step : class_missing (rows_of table) r ≡ false → SizeLoop version_size (i + 1) (total + s)
     size_loop_step t = record { sum = size_loop_sum; small = z.small; no_class_missing = search_next _ _ _ _ z.no_class_missing l e t }
 
--- ---- the loop that writes the rows
+-- ---- the loop that encodes the rows
 
-module _ (bits : ℕ) (names refs table : List ℕ) where
-  -- Its invariant, for an output that was out₀, written from offset at₀ on: the rest of the text remains to be written at offset
-  -- `to` of the output as it is now, out; out₀ has capacity for the lines of all rows.
-  pub record WriteLoop (at₀ : ℕ) (out₀ : List ℕ) (i to : ℕ) (out : List ℕ) : Type 0 where
-    pub rest : Remaining out₀ at₀ (rows_text bits names refs (rows_of table)) out to (text_left bits names refs table i)
-    pub capacity : HasCapacity out₀ at₀ (rows_text bits names refs (rows_of table))
+module _ (bits : ℕ) (names refs table : List ℕ) (first : Encoder) where
+  -- Its invariant, from a state `first` of the encoder on: the rest of the text remains to be encoded; there was room for the lines of
+  -- all rows.
+  pub record WriteLoop (i : ℕ) (now : Encoder) : Type 0 where
+    pub rest : Remains first now (rows_text bits names refs (rows_of table)) (text_left bits names refs table i)
+    pub room : HasRoom first (rows_text bits names refs (rows_of table))
 
   -- It holds at the start.
-  pub write_loop_start : (at : ℕ) (out : List ℕ) → HasCapacity out at (rows_text bits names refs (rows_of table)) → WriteLoop at out 0 at out
-  write_loop_start at out l = record { rest = rw text_left_all (remaining_start out at _); capacity = l }
+  pub write_loop_start : HasRoom first (rows_text bits names refs (rows_of table)) → WriteLoop 0 first
+  write_loop_start l = record { rest = rw text_left_all (remains_start first _); room = l }
 
-  -- After the last row, all lines are written.
-  pub write_loop_end : (at₀ : ℕ) (out₀ : List ℕ) (i to : ℕ) (out : List ℕ) → WriteLoop at₀ out₀ i to out → row_count table ≤ i
-      → Writes out₀ at₀ (rows_text bits names refs (rows_of table)) out to
-  write_loop_end at₀ out₀ i to out z l = remaining_done (rw (text_left_none bits names refs table i l) at z.rest)
+  -- After the last row, all lines are encoded.
+  pub write_loop_end : (i : ℕ) (now : Encoder) → WriteLoop i now → row_count table ≤ i → Wrote first now (rows_text bits names refs (rows_of table))
+  write_loop_end i now z l = remains_done (rw (text_left_none bits names refs table i l) at z.rest)
 
   -- Let row i be r.
-  module _ (at₀ : ℕ) (out₀ : List ℕ) (i to : ℕ) (out : List ℕ) (r : Row) (z : WriteLoop at₀ out₀ i to out) (l : i < row_count table) (e : r ≡ row_at table i) where
-    progress_split : Remaining out₀ at₀ (rows_text bits names refs (rows_of table)) out to (row_text bits names refs (rows_of table) r ++ text_left bits names refs table (i + 1))
+  module _ (i : ℕ) (now : Encoder) (r : Row) (z : WriteLoop i now) (l : i < row_count table) (e : r ≡ row_at table i) where
+    progress_split : Remains first now (rows_text bits names refs (rows_of table)) (row_text bits names refs (rows_of table) r ++ text_left bits names refs table (i + 1))
     progress_split = rw e (rw (text_left_next bits names refs table i l) at z.rest)
 
-    -- The output has capacity for its lines.
-    pub write_loop_capacity : HasCapacity out to (row_text bits names refs (rows_of table) r)
-    write_loop_capacity = capacity_first out to (row_text bits names refs (rows_of table) r) (text_left bits names refs table (i + 1)) (remaining_capacity progress_split z.capacity)
+    -- There is room for its lines.
+    pub write_loop_room : HasRoom now (row_text bits names refs (rows_of table) r)
+    write_loop_room =
+        let p = rw length-append at progress_split.place in
+        let s = progress_split.long in
+        let m = z.room in
+        omega arith
 
-    -- After its lines are written, the invariant holds for the next row.
-    pub write_loop_step : (to' : ℕ) (out' : List ℕ) → Writes out to (row_text bits names refs (rows_of table) r) out' to' → WriteLoop at₀ out₀ (i + 1) to' out'
-    write_loop_step to' out' p = record { rest = remaining_next progress_split p; capacity = z.capacity }
+    -- After its lines are encoded, the invariant holds for the next row.
+    pub write_loop_step : (next : Encoder) → Wrote now next (row_text bits names refs (rows_of table) r) → WriteLoop (i + 1) next
+    write_loop_step next w = record { rest = remains_next _ progress_split w; room = z.room }

@@ -1,6 +1,6 @@
 -- The replies of the text and its size query by their checks, and bounds that good tables satisfy.
 -- Assumes nothing.
-use Rattle.std.specs.Prelude.{◌≡◌, ℕ, ◌+◌, ◌^◌, ◌<◌, true, ◌&&◌, List, length, leb}
+use Rattle.std.specs.Prelude.{◌≡◌, ℕ, ◌+◌, ◌^◌, ◌<◌, true, ◌&&◌, List, length, leb, Option, Some, None, Ok, Err}
 use Rattle.std.proofs.Math.Path.{refl, ap}
 use Rattle.std.proofs.Common.{sym, arith, le-leb}
 use Rattle.std.proofs.Math.Bool.{and-true}
@@ -12,14 +12,15 @@ use Rattle.table.specs.SizeQuery.{QueryAgrees, query_refused, query_size, query_
 use Rattle.phd_check.specs.WellFormed.{VmInBounds, vm_in_bounds, header_vm_good, header_bits_good, row_count_bound, ref_count_bound}
 use Rattle.table.specs.Search.{first_row}
 use Rattle.table.specs.declared.Answer.{Answer}
-use Rattle.table.specs.declared.Search.TheVariants.{At, NotFound}
-use Rattle.table.specs.declared.Search.{Search}
+use Rattle.table.specs.declared.Refusal.{Refusal}
+use Rattle.table.specs.declared.Refusal.TheVariants.{ClassMissing}
+use Rattle.table.specs.Refusals.{refusal_answer}
 use Rattle.classic.specs.ClassicText.{class_missing, text_of, text_rows, text_rows_size}
 use Rattle.classic.specs.RowBounds.{all_in_bounds, all_refs_in_bounds}
 use Rattle.phd_counts.specs.declared.Tally.{Tally}
-use Rattle.classic_write.specs.TextParts.{version_text, rows_size, size_or_18}
+use Rattle.classic_write.specs.TextParts.{version_text, rows_size, size_or_missing}
 use Rattle.classic_write.specs.TextSizes.{version_le, rows_size_le}
-use Rattle.classic_write.specs.declared.rows.LinesSize.TheVariants.{Bytes, Refused}
+use Rattle.classic_write.specs.declared.TextSize.{TextSize}
 
 -- ---- replies by the checks
 
@@ -27,7 +28,7 @@ module _ (h : Header) (names refs : List ℕ) (rows : List Row) (out_capacity : 
   abbrev text : List ℕ
   text = text_of h names refs rows
 
-  abbrev missing : Search
+  abbrev missing : Option ℕ
   missing = first_row (class_missing rows) rows
 
   abbrev outcome : WriteResult
@@ -41,15 +42,15 @@ module _ (h : Header) (names refs : List ℕ) (rows : List Row) (out_capacity : 
 -- ---- the size query
 
 -- If the pass that sizes the rows returns a size, no class row is missing, and it is the size n.
-pub size_has_classes : (f : Search) (n m : ℕ) (t u : Tally) → Bytes m u ≡ size_or_18 f n t → (f ≡ NotFound) × (m ≡ n) × (u ≡ t)
-size_has_classes (At i) n m t u e = let z : ◌≡◌ {A = ℕ} 0 1 = cc in absurd (omega arith)
-size_has_classes NotFound n m t u e = (refl, cc, cc)
+pub size_has_classes : (f : Option ℕ) (n : ℕ) (t : Tally) (s : TextSize) → Ok s ≡ size_or_missing f n t → (f ≡ None) × (s.bytes ≡ n) × (s.tally ≡ t)
+size_has_classes (Some i) n t s e = let z : ◌≡◌ {A = ℕ} 0 1 = cc in absurd (omega arith)
+size_has_classes None n t s e = let q : s ≡ record { bytes = n; tally = t } = cc in (refl, ap (λ (x : TextSize). x.bytes) q, ap (λ (x : TextSize). x.tally) q)
 
 -- If it returns a refusal, that is the refusal of the third check, 18.
-refusal_is_18 : (f : Search) (n : ℕ) (t : Tally) (w : Answer) (bytes : List ℕ) → Refused w ≡ size_or_18 f n t → (w ≡ (checked_write true NotFound f true bytes).answer) × (w.reply ≡ 0 → ⊥)
+refusal_is_18 : (f : Option ℕ) (n : ℕ) (t : Tally) (x : Refusal) (bytes : List ℕ) → Err x ≡ size_or_missing f n t → refusal_answer x ≡ (checked_write true None f true bytes).answer
 unfolding checked_write refused
-refusal_is_18 (At i) n t w bytes e = let q : w ≡ record { reply = 18; place = i } = cc in (q, λ z. omega (arith, rw q at z))
-refusal_is_18 NotFound n t w bytes e = let z : ◌≡◌ {A = ℕ} 0 1 = cc in absurd (omega arith)
+refusal_is_18 (Some i) n t x bytes e = let q : x ≡ ClassMissing i = cc in rw q
+refusal_is_18 None n t x bytes e = let z : ◌≡◌ {A = ℕ} 0 1 = cc in absurd (omega arith)
 
 module _ (h : Header) (names refs : List ℕ) (rows : List Row) where
   -- A refusal by the first two checks (15, 16) is the answer of the size query.
@@ -58,13 +59,13 @@ module _ (h : Header) (names refs : List ℕ) (rows : List Row) where
   check_refusal w e z = query_refused _ _ _ _ _ w e z
 
   -- For good tables a refusal by the pass that sizes the rows is the answer of the size query.
-  pub class_refusal : TablesGood h names refs rows → (w : Answer) (n : ℕ) (t : Tally) → Refused w ≡ size_or_18 (first_row (class_missing rows) rows) n t
-      → (w ≡ text_rows_size h names refs rows) × (w.reply ≡ 0 → ⊥)
+  pub class_refusal : TablesGood h names refs rows → (x : Refusal) (n : ℕ) (t : Tally) → Err x ≡ size_or_missing (first_row (class_missing rows) rows) n t
+      → refusal_answer x ≡ text_rows_size h names refs rows
   unfolding text_rows_size
-  class_refusal a w n t e = rw (a.0, a.1, text_rows_size) (refusal_is_18 _ n t w _ e)
+  class_refusal a x n t e = rw (a.0, a.1, text_rows_size) (refusal_is_18 _ n t x _ e)
 
   -- If all three checks pass, the size query returns 0 with the length of the text.
-  pub size_query_size : TablesGood h names refs rows → first_row (class_missing rows) rows ≡ NotFound
+  pub size_query_size : TablesGood h names refs rows → first_row (class_missing rows) rows ≡ None
       → record { reply = 0; place = length (text_of h names refs rows) } ≡ text_rows_size h names refs rows
   unfolding text_rows_size
   size_query_size a f = query_size _ _ _ _ _ a.0 a.1 f refl

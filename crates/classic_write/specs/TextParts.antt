@@ -1,12 +1,10 @@
 -- The text in its three parts, as the functions size and write them: the version line, the lines of the rows, and the trailers
 -- from a tally of the rows. Together they are proved equal to the text of the definition (ClassicText).
-use Rattle.std.specs.Prelude.{◌≡◌, refl, ℕ, ◌+◌, ◌^◌, ◌<◌, List, [], ◌∷◌, ◌++◌}
+use Rattle.std.specs.Prelude.{◌≡◌, refl, ℕ, ◌+◌, ◌^◌, ◌<◌, List, [], ◌∷◌, ◌++◌, Option, Some, None, Result, Ok, Err}
 use Rattle.std.proofs.Common.{append_assoc}
 use Rattle.decode.specs.declared.StringSpan.{StringSpan}
 use Rattle.encode.specs.Encode.{join}
 use Rattle.table.specs.declared.Row.{Row}
-use Rattle.table.specs.declared.Search.{Search}
-use Rattle.table.specs.declared.Search.TheVariants.{At, NotFound}
 use Rattle.phd.specs.declared.Header.{Header}
 use Rattle.table.specs.Sums.{sum}
 use Rattle.phd_counts.specs.Counts.{tally_of}
@@ -14,8 +12,9 @@ use Rattle.phd_counts.specs.declared.Tally.{Tally}
 use Rattle.digits.specs.Digits.{ascii, text_decimal}
 use Rattle.classic.specs.ClassicText.{row_lines, version_line, breakdown_line, totals_line, unlines, text_lines, text_of}
 use Rattle.classic_row.specs.RowText.{row_size}
-use Rattle.classic_write.specs.declared.rows.LinesSize.{LinesSize}
-use Rattle.classic_write.specs.declared.rows.LinesSize.TheVariants.{Bytes, Refused}
+use Rattle.table.specs.declared.Refusal.{Refusal}
+use Rattle.table.specs.declared.Refusal.TheVariants.{ClassMissing}
+use Rattle.classic_write.specs.declared.TextSize.{TextSize}
 
 -- ---- the version line
 
@@ -33,10 +32,10 @@ rows_text bits names refs rows = unlines (row_lines bits names refs rows rows)
 unfoldable pub rows_size : ℕ → (names : List ℕ) → List Row → ℕ
 rows_size bits names rows = sum (row_size bits names rows) rows
 
--- From the search for missing class rows: reply 18 with the index of the first row found, or n bytes and the counts t if none is found.
-abbrev pub size_or_18 : Search → ℕ → Tally → LinesSize
-size_or_18 (At i) n t = Refused (record { reply = 18; place = i })
-size_or_18 NotFound n t = Bytes n t
+-- From the search for missing class rows: a refusal with the index of the first row found, or n bytes and the counts t if none is found.
+abbrev pub size_or_missing : Option ℕ → ℕ → Tally → Result TextSize Refusal
+size_or_missing (Some i) n t = Err (ClassMissing i)
+size_or_missing None n t = Ok (record { bytes = n; tally = t })
 
 -- ---- the trailers
 

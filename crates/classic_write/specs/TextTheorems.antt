@@ -1,7 +1,7 @@
 -- The theorems about the text and its size query, `text_rows` and `text_rows_size`, in reading order.
 -- A reader must believe the statements and their records, those of Search, SizeQuery and OffsetsIgnored (table), those of
 -- ClassRows (classic), and `with_nulls` (ExactCounts). Assumes nothing.
-use Rattle.std.specs.Prelude.{◌≡◌, refl, ◌↔◌, ◌⊎◌, ℕ, ◌+◌, ◌*◌, ◌≤◌, ◌<◌, true, false, List, [], ◌∷◌, length, leb}
+use Rattle.std.specs.Prelude.{◌≡◌, refl, ◌↔◌, ◌⊎◌, ℕ, ◌+◌, ◌*◌, ◌≤◌, ◌<◌, true, false, List, [], ◌∷◌, length, leb, Option, Some, None}
 use Rattle.std.proofs.Common.{ap, ◌∙◌, arith, length-append, le-leb, leb-true, leb-false}
 use Rattle.std.proofs.lemmas.Bool.{lt-leb}
 use Rattle.table.specs.declared.Row.{Row}
@@ -14,8 +14,6 @@ use Rattle.table.specs.OffsetsIgnored.{EqualExceptOffsets, rows_of_equal}
 use Rattle.table.specs.SizeQuery.{QueryAgrees}
 use Rattle.table.specs.Sums.{sum}
 use Rattle.table.specs.declared.Answer.{Answer}
-use Rattle.table.specs.declared.Search.{Search}
-use Rattle.table.specs.declared.Search.TheVariants.{At, NotFound}
 use Rattle.phd_counts.specs.Counts.{nulls, tally_of}
 use Rattle.phd_counts.specs.ExactCounts.{with_nulls, exact_counts as all_exact}
 use Rattle.table.specs.Rows.{nth}
@@ -38,15 +36,15 @@ pub record TextReplies (h : Header) (names refs : List ℕ) (rows : List Row) (o
   pub header : (w.answer.reply ≡ 15) ↔ (good_header h names rows refs ≡ false)
   -- 16 with the place i: the header is good, and the first bad row is row i.
   pub row : (i : ℕ) → ((w.answer.reply ≡ 16) × (w.answer.place ≡ i))
-      ↔ ((good_header h names rows refs ≡ true) × (first_bad h names refs rows ≡ At i))
+      ↔ ((good_header h names rows refs ≡ true) × (first_bad h names refs rows ≡ Some i))
   -- 18 with the place i: the header is good, no row is bad, and the first row whose class row is missing is row i.
-  pub no_class : (i : ℕ) → ((w.answer.reply ≡ 18) × (w.answer.place ≡ i)) ↔ ((TablesGood h names refs rows) × (first_row (class_missing rows) rows ≡ At i))
+  pub no_class : (i : ℕ) → ((w.answer.reply ≡ 18) × (w.answer.place ≡ i)) ↔ ((TablesGood h names refs rows) × (first_row (class_missing rows) rows ≡ Some i))
   -- 17: the header is good, no row is bad, no class row is missing, and the text is longer than the output.
   pub too_small : (w.answer.reply ≡ 17)
-      ↔ ((TablesGood h names refs rows) × (first_row (class_missing rows) rows ≡ NotFound) × (out_capacity < length (text_of h names refs rows)))
+      ↔ ((TablesGood h names refs rows) × (first_row (class_missing rows) rows ≡ None) × (out_capacity < length (text_of h names refs rows)))
   -- 0: the same, but the text fits the output.
   pub done : (w.answer.reply ≡ 0)
-      ↔ ((TablesGood h names refs rows) × (first_row (class_missing rows) rows ≡ NotFound) × (length (text_of h names refs rows) ≤ out_capacity))
+      ↔ ((TablesGood h names refs rows) × (first_row (class_missing rows) rows ≡ None) × (length (text_of h names refs rows) ≤ out_capacity))
   -- There is no other reply.
   pub reply_cases : (w.answer.reply ≡ 0) ⊎ ((w.answer.reply ≡ 15) ⊎ ((w.answer.reply ≡ 16) ⊎ ((w.answer.reply ≡ 17) ⊎ (w.answer.reply ≡ 18))))
   -- 15 and 17 have the place 0.
@@ -88,7 +86,7 @@ pub record TextSizeReplies (h : Header) (names refs : List ℕ) (rows : List Row
   -- It is the answer of writing the text to an output of exactly its length, so each reply is returned exactly in its case above.
   pub as_write : query ≡ (text_rows h names refs rows (length (text_of h names refs rows))).answer
   -- 0: the header is good, no row is bad and no class row is missing; the place is the number of bytes of the text.
-  pub done : (query.reply ≡ 0) ↔ ((TablesGood h names refs rows) × (first_row (class_missing rows) rows ≡ NotFound))
+  pub done : (query.reply ≡ 0) ↔ ((TablesGood h names refs rows) × (first_row (class_missing rows) rows ≡ None))
   pub count : query.reply ≡ 0 → query.place ≡ length (text_of h names refs rows)
   -- Never 17: the text has no limit but the output.
   pub never_17 : query.reply ≡ 17 → ⊥
@@ -131,11 +129,11 @@ text_ignores_offsets h names refs out_capacity a = (ap (λ rows. text_rows h nam
 
 -- The search for missing class rows finds row i exactly if it is the first object or object array for whose class word there is
 -- no class row.
-pub first_class_missing : (rows : List Row) (i : ℕ) → (first_row (class_missing rows) rows ≡ At i) ↔ IsFirst (ClassMissing rows) rows i
+pub first_class_missing : (rows : List Row) (i : ℕ) → (first_row (class_missing rows) rows ≡ Some i) ↔ IsFirst (ClassMissing rows) rows i
 first_class_missing rows = first_row_at (ClassMissing rows) (class_missing rows) (class_missing_iff rows) rows
 
 -- It finds no row exactly if there is no such object or object array.
-pub no_class_missing : (rows : List Row) → (first_row (class_missing rows) rows ≡ NotFound) ↔ NoneSatisfies (ClassMissing rows) rows
+pub no_class_missing : (rows : List Row) → (first_row (class_missing rows) rows ≡ None) ↔ NoneSatisfies (ClassMissing rows) rows
 no_class_missing rows = first_row_none (ClassMissing rows) (class_missing rows) (class_missing_iff rows) rows
 
 -- The reply is 18 with the place i exactly if the tables are good and row i is the first whose class row is missing.
@@ -147,33 +145,33 @@ reply_18_row h names refs rows out_capacity i =
     (λ z. ((x.0 z).0, (first_class_missing rows i).0 (x.0 z).1), λ e. x.1 (e.0, (first_class_missing rows i).1 e.1))
 
 -- The class row of an address is the first class row with this address.
-pub class_at_first : (rows : List Row) (a i : ℕ) → (class_at rows a ≡ At i) ↔ IsFirst (ClassRow a) rows i
+pub class_at_first : (rows : List Row) (a i : ℕ) → (class_at rows a ≡ Some i) ↔ IsFirst (ClassRow a) rows i
 class_at_first rows a = first_row_at (ClassRow a) (is_class_at a) (is_class_at_iff a) rows
 
 -- No class row is found exactly if none has this address.
-pub class_at_none : (rows : List Row) (a : ℕ) → (class_at rows a ≡ NotFound) ↔ NoneSatisfies (ClassRow a) rows
+pub class_at_none : (rows : List Row) (a : ℕ) → (class_at rows a ≡ None) ↔ NoneSatisfies (ClassRow a) rows
 class_at_none rows a = first_row_none (ClassRow a) (is_class_at a) (is_class_at_iff a) rows
 
 -- ---- the class row of a name
 
 -- The class row of a name is the first class row with this name.
-pub class_named_first : (names : List ℕ) (rows : List Row) (name : List ℕ) (i : ℕ) → (class_named names rows name ≡ At i) ↔ IsFirst (ClassNamed names name) rows i
+pub class_named_first : (names : List ℕ) (rows : List Row) (name : List ℕ) (i : ℕ) → (class_named names rows name ≡ Some i) ↔ IsFirst (ClassNamed names name) rows i
 class_named_first names rows name = first_row_at (ClassNamed names name) (is_class_named names name) (is_class_named_iff names name) rows
 
 -- No class row is found exactly if none has this name.
-pub class_named_none : (names : List ℕ) (rows : List Row) (name : List ℕ) → (class_named names rows name ≡ NotFound) ↔ NoneSatisfies (ClassNamed names name) rows
+pub class_named_none : (names : List ℕ) (rows : List Row) (name : List ℕ) → (class_named names rows name ≡ None) ↔ NoneSatisfies (ClassNamed names name) rows
 class_named_none names rows name = first_row_none (ClassNamed names name) (is_class_named names name) (is_class_named_iff names name) rows
 
 -- The class word of a primitive array is the address of the first class row that is named as its type.
 pub primitive_class_first : (names : List ℕ) (rows : List Row) (type i : ℕ) → IsFirst (ClassNamed names (primitive_array_type type)) rows i
     → primitive_class names rows type ≡ (nth rows i).address
 unfolding primitive_class found_row
-primitive_class_first names rows type i f = ap (λ (found : Search). (found_row rows found).address) ((class_named_first names rows (primitive_array_type type) i).1 f)
+primitive_class_first names rows type i f = ap (λ (found : Option ℕ). (found_row rows found).address) ((class_named_first names rows (primitive_array_type type) i).1 f)
 
 -- It is 0 if no class row is named so.
 pub primitive_class_none : (names : List ℕ) (rows : List Row) (type : ℕ) → NoneSatisfies (ClassNamed names (primitive_array_type type)) rows → primitive_class names rows type ≡ 0
 unfolding primitive_class found_row
-primitive_class_none names rows type n = ap (λ (found : Search). (found_row rows found).address) ((class_named_none names rows (primitive_array_type type)).1 n)
+primitive_class_none names rows type n = ap (λ (found : Option ℕ). (found_row rows found).address) ((class_named_none names rows (primitive_array_type type)).1 n)
 
 -- ---- totals of the last line
 

@@ -1,8 +1,9 @@
-// The two trailers, from the counts of the rows: their size in bytes, line ends included, and writing them.
+// The two trailers, from the counts of the rows: their size in bytes, line ends included, and encoding them.
 ghost use Rattle.std.specs.Prelude.{◌≡◌, length};
-ghost use Rattle.encode.specs.Writes.{Writes, HasCapacity};
+ghost use Rattle.encode.specs.Wrote.{Wrote, HasRoom};
 ghost use Rattle.classic_write.specs.TextParts.{TallyBound, tally_breakdown, tally_totals, tally_trailers};
 
+use encode::encoder::Encoder;
 use phd_counts::Tally;
 
 // Returns the size of both trailers: 113 bytes that do not depend on the counts, and the digits of the counts.
@@ -21,38 +22,41 @@ pub fn trailers_size(t: Tally) -> usize
     113 + kinds + all
 }
 
-// Writes the first trailer, the rows by kind, without its line end.
-fn write_breakdown(out: &mut [u8], at: usize, t: Tally) -> usize
-    requires { HasCapacity out.old at (tally_breakdown t) }
-    ensures { Writes out.old at (tally_breakdown t) out.new result }
+// Encodes the first trailer, the rows by kind, without its line end.
+#[tactic(auto, using(crate::proofs::TextSteps::breakdown_steps))]
+fn encode_breakdown(e: &mut Encoder, t: Tally)
+    requires { HasRoom e.old (tally_breakdown t) }
+    ensures { Wrote e.old e.new (tally_breakdown t) }
 {
-    let a = digits::write_text_decimal(out, at, b"// Breakdown - Classes: ", t.classes);
-    let b = digits::write_text_decimal(out, a, b", Objects: ", t.objects);
-    let c = digits::write_text_decimal(out, b, b", ObjectArrays: ", t.arrays);
-    digits::write_text_decimal(out, c, b", PrimitiveArrays: ", t.primitives)
+    digits::encode_text_decimal(e, b"// Breakdown - Classes: ", t.classes);
+    digits::encode_text_decimal(e, b", Objects: ", t.objects);
+    digits::encode_text_decimal(e, b", ObjectArrays: ", t.arrays);
+    digits::encode_text_decimal(e, b", PrimitiveArrays: ", t.primitives);
 }
 
-// Writes the second trailer, the totals, without its line end.
-fn write_totals(out: &mut [u8], at: usize, t: Tally) -> usize
+// Encodes the second trailer, the totals, without its line end.
+#[tactic(auto, using(crate::proofs::TextSteps::totals_steps))]
+fn encode_totals(e: &mut Encoder, t: Tally)
     requires tally_bound { TallyBound t }
-    requires has_capacity { HasCapacity out.old at (tally_totals t) }
-    ensures { Writes out.old at (tally_totals t) out.new result }
+    requires has_room { HasRoom e.old (tally_totals t) }
+    ensures { Wrote e.old e.new (tally_totals t) }
 {
     let refs = t.refs + t.nulls;
-    let a = digits::write_text_decimal(out, at, b"// EOF:  Total 'Objects',Refs(null) : ", t.rows);
-    let b = digits::write_text_decimal(out, a, b",", refs);
-    let c = digits::write_text_decimal(out, b, b"(", t.nulls);
-    encode::encode_bytes(out, c, b")")
+    digits::encode_text_decimal(e, b"// EOF:  Total 'Objects',Refs(null) : ", t.rows);
+    digits::encode_text_decimal(e, b",", refs);
+    digits::encode_text_decimal(e, b"(", t.nulls);
+    e.bytes(b")");
 }
 
-// Writes both trailers with their line ends, and returns the offset after them.
-pub fn write_trailers(out: &mut [u8], at: usize, t: Tally) -> usize
+// Encodes both trailers with their line ends.
+#[tactic(auto, using(crate::proofs::TextSteps::trailer_steps))]
+pub fn encode_trailers(e: &mut Encoder, t: Tally)
     requires tally_bound { TallyBound t }
-    requires has_capacity { HasCapacity out.old at (tally_trailers t) }
-    ensures { Writes out.old at (tally_trailers t) out.new result }
+    requires has_room { HasRoom e.old (tally_trailers t) }
+    ensures { Wrote e.old e.new (tally_trailers t) }
 {
-    let a = write_breakdown(out, at, t);
-    let b = encode::encode_byte(out, a, 0x0A);
-    let c = write_totals(out, b, t);
-    encode::encode_byte(out, c, 0x0A)
+    encode_breakdown(e, t);
+    e.byte(b'\n');
+    encode_totals(e, t);
+    e.byte(b'\n');
 }

@@ -1,23 +1,23 @@
 -- Laws of big-endian digits, two's complement, signs and exact sums, in the form in which the functions compute them.
 use mathlib.Core.Path.{◌≡◌, refl, sym, ap, ◌∙◌}
-use mathlib.Core.Bool.{true, false, cond, ◌&&◌}
+use mathlib.Core.Bool.{true, false, cond}
 use mathlib.Core.List.{List}
 use Prim.Native.Nat.{ℕ, zero, suc, ◌+◌, ◌-◌, ◌*◌, ◌^◌, ◌≤◌, ◌<◌}
 use native.Mathlib.Nat.{pow-suc, pow-le-pow_right, mul-suc, two-pow-succ, zero-add}
 use native.Mathlib.Numerals.{add-one}
 use native.Mathlib.Omega.{arith}
-use lib.ListN.{length, take, drop, get_or}
+use lib.ListN.{length, drop, get_or}
+use lib.Seq.{drop-cons}
 use lib.Arith.{digits_lt}
 use lib.Pow.{pow-add}
 use lib.Dec.{leb, ltb}
 use lib.IntN.{ℤ, pos, negsuc, ◌-ℤ◌}
 use lib.Signed.{lt_z}
-use borrow.Author.Tests.{lt-ltb, le-ltb, ltb-true, le-leb, lt-leb}
-use Rattle.decode.specs.Slices.{slice_next}
-use Rattle.decode.specs.Numbers.{value_after, signed, sign_case, add_gap, in_range, to_count, all_within}
+use borrow.Author.Tests.{lt-ltb, le-ltb, ltb-true}
+use Rattle.decode.specs.Numbers.{value_after, signed, sign_case, add_gap, in_range, to_count}
 use Rattle.decode.specs.Values.{true_not_false}
 use Rattle.decode.specs.declared.SignCase.TheVariants.{NonNeg, NegSuc}
-use Rattle.decode.specs.declared.Maybe.TheVariants.{Just, Nothing}
+use Rattle.std.specs.Prelude.{Some, None}
 
 -- ---- digits
 
@@ -34,10 +34,9 @@ pub bytes_le_u64 : (n : ℕ) → n ≤ 8 → 256 ^ n ≤ 2 ^ 64
 bytes_le_u64 n h = pow-le-pow_right {n = 256} (omega arith) {i = n} {j = 8} h
 
 -- Reading byte i multiplies the value so far by 256 and adds the byte.
-pub value_after_step : (s : List ℕ) (at n i v : ℕ) → i < n → at + n ≤ length s
-    → value_after v (take (n - i) (drop (at + i) s)) ≡ value_after (v * 256 + get_or s (at + i) 0) (take (n - (i + 1)) (drop (at + (i + 1)) s))
+pub value_after_step : (s : List ℕ) (i v : ℕ) → i < length s → value_after v (drop i s) ≡ value_after (v * 256 + get_or s i 0) (drop (i + 1) s)
 unfolding value_after
-value_after_step s at n i v h in_bounds = rw (slice_next s at n i h in_bounds)
+value_after_step s i v h = rw (drop-cons s i 0, add-one)
 
 -- ---- two's complement
 
@@ -102,38 +101,16 @@ add_gap_nonneg highest base z n e = rw (sign_case_nonneg z n e)
 
 -- `add_gap` for the gap -1 - n.
 pub add_gap_negsuc : (highest base : ℕ) (z : ℤ) (n : ℕ) → sign_case z ≡ NegSuc n
-    → add_gap highest base z ≡ cond (leb (4 * suc n) base) (in_range highest (base - 4 * suc n)) Nothing
+    → add_gap highest base z ≡ cond (leb (4 * suc n) base) (in_range highest (base - 4 * suc n)) None
 unfolding add_gap
 add_gap_negsuc highest base z n e = rw (sign_case_negsuc z n e)
 
 -- A number n of at least 0 is a valid count if it is below 2^31.
-pub to_count_nonneg : (z : ℤ) (n : ℕ) → sign_case z ≡ NonNeg n → to_count z ≡ cond (ltb n (2 ^ 31)) (Just n) Nothing
+pub to_count_nonneg : (z : ℤ) (n : ℕ) → sign_case z ≡ NonNeg n → to_count z ≡ cond (ltb n (2 ^ 31)) (Some n) None
 unfolding to_count
 to_count_nonneg z n e = rw (sign_case_nonneg z n e)
 
 -- A negative number is no count.
-pub to_count_negsuc : (z : ℤ) (n : ℕ) → sign_case z ≡ NegSuc n → to_count z ≡ Nothing
+pub to_count_negsuc : (z : ℤ) (n : ℕ) → sign_case z ≡ NegSuc n → to_count z ≡ None
 unfolding to_count
 to_count_negsuc z n e = rw (sign_case_negsuc z n e)
-
--- ---- bytes in a range
-
-module _ (s : List ℕ) (at n i low high : ℕ) (h : i < n) (in_bounds : at + n ≤ length s) where
-  -- The bytes from index i on are in range if byte i is, and those after it are.
-  all_within_step : all_within low high (take (n - i) (drop (at + i) s))
-      ≡ (leb low (get_or s (at + i) 0) && leb (get_or s (at + i) 0) high) && all_within low high (take (n - (i + 1)) (drop (at + (i + 1)) s))
-  unfolding all_within
-  all_within_step = rw (slice_next s at n i h in_bounds)
-
-  -- If byte i is below low, the bytes from index i on are not all in range.
-  pub all_within_too_low : get_or s (at + i) 0 < low → all_within low high (take (n - i) (drop (at + i) s)) ≡ false
-  all_within_too_low l = rw (all_within_step, lt-leb _ _ l)
-
-  -- If byte i is above high, the bytes from index i on are not all in range.
-  pub all_within_too_high : low ≤ get_or s (at + i) 0 → high < get_or s (at + i) 0 → all_within low high (take (n - i) (drop (at + i) s)) ≡ false
-  all_within_too_high k l = rw (all_within_step, le-leb _ _ k, lt-leb _ _ l)
-
-  -- If byte i is in range, the bytes after it decide.
-  pub all_within_next : low ≤ get_or s (at + i) 0 → get_or s (at + i) 0 ≤ high
-      → all_within low high (take (n - i) (drop (at + i) s)) ≡ all_within low high (take (n - (i + 1)) (drop (at + (i + 1)) s))
-  all_within_next k l = rw (all_within_step, le-leb _ _ k, le-leb _ _ l)

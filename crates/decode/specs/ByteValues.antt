@@ -1,7 +1,7 @@
 -- Laws of values read from bytes, each below 256: a field of n bytes is below 256 ^ n, an address stored as a gap from a multiple
 -- of 4 is a multiple of 4, and a string lies within the dump.
 -- A reader must believe `AllBytes` and `StringAt`.
-use Rattle.std.specs.Prelude.{◌≡◌, refl, Bool, true, false, cond, List, leb, length, get_or, take, drop, ℤ, pos, negsuc}
+use Rattle.std.specs.Prelude.{◌≡◌, refl, Bool, true, false, cond, List, leb, length, get_or, take, drop, ℤ, pos, negsuc, Some, None}
 use Rattle.std.proofs.Common.{sym, ◌∙◌, leb-true}
 use Prim.Native.Nat.{ℕ, zero, suc, ◌+◌, ◌-◌, ◌*◌, ◌%◌, ◌^◌, ◌≤◌, ◌<◌}
 use native.Mathlib.Omega.{arith}
@@ -10,7 +10,6 @@ use Rattle.decode.specs.Slices.{slice_cons}
 use Rattle.decode.specs.Layout.{Layout, yield, whole, run_then, run_enough, run_position, run_raw, whole_has_bytes, then_inv, ◌>>=◌, raw, field, position}
 use Rattle.decode.specs.Fields.{address, ref_field, count, string}
 use Rattle.decode.specs.Values.{Gives, gives_then, gives_then_any, gives_weaken, gives_yield, gives_check, gives_need, in_range_inv, to_count_lt}
-use Rattle.decode.specs.declared.Maybe.TheVariants.{Just, Nothing}
 use Rattle.decode.specs.declared.StringSpan.{StringSpan}
 
 -- Every number of the list is a byte.
@@ -59,9 +58,9 @@ gives_field {s} b n = record {
 -- ---- counts
 
 -- A count of no bytes is 0.
-to_count_empty : (v a : ℕ) → v < 1 → to_count (signed 0 v) ≡ Just a → a ≡ 0
+to_count_empty : (v a : ℕ) → v < 1 → to_count (signed 0 v) ≡ Some a → a ≡ 0
 unfolding to_count signed
-to_count_empty v a l h = let z : v ≡ 0 = omega arith in let e : Just 0 ≡ Just a = rw z at h in cc
+to_count_empty v a l h = let z : v ≡ 0 = omega arith in let e : Some 0 ≡ Some a = rw z at h in cc
 
 -- A count is below 2^31, and 0 if it has no bytes.
 pub gives_count_bounds : {s : List ℕ} → AllBytes s → (n : ℕ) → Gives s (λ a. (a < 2 ^ 31) × (n ≡ 0 → a ≡ 0)) (count n)
@@ -72,12 +71,12 @@ gives_count_bounds b n = gives_then _ _ _ (gives_field b n) (λ v k. gives_weake
 -- ---- alignment of addresses and references
 
 -- A gap from a multiple of 4 leads to a multiple of 4.
-pub add_gap_aligned : (highest base : ℕ) (gap : ℤ) (a : ℕ) → base % 4 ≡ 0 → add_gap highest base gap ≡ Just a → a % 4 ≡ 0
+pub add_gap_aligned : (highest base : ℕ) (gap : ℤ) (a : ℕ) → base % 4 ≡ 0 → add_gap highest base gap ≡ Some a → a % 4 ≡ 0
 unfolding add_gap
 add_gap_aligned highest base (pos n) a z h = omega (arith, (in_range_inv highest (base + 4 * n) a h).0)
 add_gap_aligned highest base (negsuc n) a z h = by (leb (4 * suc n) base) refl h
   where
-    by : (b : Bool) → leb (4 * suc n) base ≡ b → cond b (in_range highest (base - 4 * suc n)) Nothing ≡ Just a → a % 4 ≡ 0
+    by : (b : Bool) → leb (4 * suc n) base ≡ b → cond b (in_range highest (base - 4 * suc n)) None ≡ Some a → a % 4 ≡ 0
     by true e g = let l : 4 * suc n ≤ base = leb-true _ _ e in omega (arith, (in_range_inv highest (base - 4 * suc n) a g).0)
     by false e g = let x : ◌≡◌ {A = ℕ} 0 1 = cc in absurd (omega arith)
 

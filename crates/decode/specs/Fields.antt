@@ -2,12 +2,8 @@
 -- A reader must believe these definitions; the functions of this crate are proved equal to them.
 use Rattle.std.specs.Prelude.{ℕ, ◌^◌, ◌<◌, true, false, not, leb, ltb, eqb}
 use Rattle.decode.specs.Numbers.{signed, add_gap, to_count, all_within}
-use Rattle.decode.specs.Layout.{Layout, yield, Outcome, whole, stops, ◌>>=◌, ◌>>◌, position, raw, field, check, need}
-use Rattle.decode.specs.declared.NumberRead.{NumberRead}
-use Rattle.decode.specs.declared.NumberRead.TheVariants.{Is, Stops}
+use Rattle.decode.specs.Layout.{Layout, yield, ◌>>=◌, ◌>>◌, position, raw, field, check, need}
 use Rattle.decode.specs.declared.StringSpan.{StringSpan}
-use Rattle.decode.specs.declared.StringRead.{StringRead}
-use Rattle.decode.specs.declared.StringRead.TheVariants.{Is as IsText, Stops as StopsText}
 
 -- A field of n bytes that must be v, else `reply`.
 unfoldable pub exactly : ℕ → ℕ → ℕ → Layout ℕ
@@ -55,20 +51,3 @@ string low least = do
 -- The absent string.
 abbrev pub no_string : StringSpan
 no_string = record { present = false; place = 0; len = 0 }
-
--- ---- results of the functions
-
--- The outcome that a `NumberRead` represents.
-abbrev pub outcome : NumberRead → Outcome ℕ
-outcome (Is a next) = whole a next
-outcome (Stops w) = stops w
-
--- The outcome that a `StringRead` represents.
-abbrev pub string_outcome : StringRead → Outcome StringSpan
-string_outcome (IsText t next) = whole t next
-string_outcome (StopsText w) = stops w
-
--- The number, if one was read, is below 256 ^ n.
-abbrev pub FitsWidth : ℕ → NumberRead → Type 0
-FitsWidth n (Is a next) = a < 256 ^ n
-FitsWidth n (Stops w) = Unit {0}

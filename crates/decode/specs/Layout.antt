@@ -1,7 +1,7 @@
 -- A layout describes which bytes come next and what they mean; `run` reads a layout at an offset of a dump.
 -- The records of every format are described in this language. A reader must believe `run`; the laws of every layout are
 -- proved once, here, in CutLaws, in Values and in Takes.
-use Rattle.std.specs.Prelude.{◌≡◌, refl, ℕ, ◌+◌, ◌-◌, ◌≤◌, ◌<◌, Bool, true, false, List, length, take, drop, leb}
+use Rattle.std.specs.Prelude.{◌≡◌, refl, ℕ, ◌+◌, ◌-◌, ◌≤◌, ◌<◌, Bool, true, false, List, length, take, drop, leb, Option, Some, None}
 use Rattle.std.proofs.Common.{sym, ap, ◌∙◌, arith, le-leb}
 use Rattle.std.proofs.Math.Path.{fun_ext}
 use Rattle.std.proofs.Math.Decide.{dec_le}
@@ -9,8 +9,6 @@ use Rattle.std.proofs.lemmas.Bool.{lt-leb}
 use Rattle.decode.specs.Numbers.{value, value_after}
 use Rattle.decode.specs.declared.Stop.{Stop}
 use Rattle.decode.specs.declared.Stop.TheVariants.{Cut, Refused}
-use Rattle.decode.specs.declared.Maybe.{Maybe}
-use Rattle.decode.specs.declared.Maybe.TheVariants.{Just, Nothing}
 
 infixl 20 ◌>>=◌
 infixl 20 ◌>>◌
@@ -69,9 +67,9 @@ check r true = yield tt
 check r false = refuse r
 
 -- Reads nothing, and gives the value if there is one, else refuses with r.
-unfoldable pub need : ℕ → Maybe → Layout ℕ
-need r (Just a) = yield a
-need r Nothing = refuse r
+unfoldable pub need : ℕ → Option ℕ → Layout ℕ
+need r (Some a) = yield a
+need r None = refuse r
 
 -- The reply, the scope paper's term: 1 for a cut, else the number that a field is refused with (docs/FORMAT.md 8).
 unfoldable pub reply_of : Stop → ℕ
@@ -194,14 +192,14 @@ run_check r true s at = refl
 run_check r false s at = refl
 
 -- The outcome of `need r m` at an offset.
-abbrev pub need_outcome : ℕ → Maybe → ℕ → Outcome ℕ
-need_outcome r (Just a) at = whole a at
-need_outcome r Nothing at = stops (Refused r)
+abbrev pub need_outcome : ℕ → Option ℕ → ℕ → Outcome ℕ
+need_outcome r (Some a) at = whole a at
+need_outcome r None at = stops (Refused r)
 
-pub run_need : (r : ℕ) (m : Maybe) (s : List ℕ) (at : ℕ) → run (need r m) s at ≡ need_outcome r m at
+pub run_need : (r : ℕ) (m : Option ℕ) (s : List ℕ) (at : ℕ) → run (need r m) s at ≡ need_outcome r m at
 unfolding run need
-run_need r (Just a) s at = refl
-run_need r Nothing s at = refl
+run_need r (Some a) s at = refl
+run_need r None s at = refl
 
 -- ---- bounds of the end offset
 

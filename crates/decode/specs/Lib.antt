@@ -5,6 +5,8 @@
 pub mod Numbers
 pub mod Layout
 pub mod Fields
+pub mod Reads
+pub mod ReadsAs
 pub mod Slices
 pub mod CutLaws
 pub mod Values

@@ -1,9 +1,7 @@
 -- Numbers as a dump stores them: big-endian bytes, two's complement, and the exact sums that give an address.
 -- A reader must believe that `value`, `signed`, `add_gap`, `to_count` and `all_within` state what docs/FORMAT.md 1.1 to 1.3, 3.4 and
 -- 3.6 require.
-use Rattle.std.specs.Prelude.{ℕ, suc, ◌+◌, ◌-◌, ◌*◌, ◌^◌, Bool, true, cond, ◌&&◌, List, [], ◌∷◌, leb, ltb, ℤ, pos, negsuc}
-use Rattle.decode.specs.declared.Maybe.{Maybe}
-use Rattle.decode.specs.declared.Maybe.TheVariants.{Just, Nothing}
+use Rattle.std.specs.Prelude.{ℕ, suc, ◌+◌, ◌-◌, ◌*◌, ◌^◌, Bool, true, cond, ◌&&◌, List, [], ◌∷◌, leb, ltb, ℤ, pos, negsuc, Option, Some, None}
 use Rattle.decode.specs.declared.SignCase.{SignCase}
 use Rattle.decode.specs.declared.SignCase.TheVariants.{NonNeg, NegSuc}
 
@@ -26,19 +24,19 @@ sign_case (pos n) = NonNeg n
 sign_case (negsuc n) = NegSuc n
 
 -- The sum, if it lies in 0 to highest.
-abbrev pub in_range : ℕ → ℕ → Maybe
-in_range highest sum = cond (leb sum highest) (Just sum) Nothing
+abbrev pub in_range : ℕ → ℕ → Option ℕ
+in_range highest sum = cond (leb sum highest) (Some sum) None
 
 -- base + 4 × gap, an exact sum, if it lies in 0 to highest. (`negsuc n` is -1 - n.)
 -- A gap, the scope paper's term, is a distance between two addresses in units of 4 bytes.
-unfoldable pub add_gap : ℕ → ℕ → ℤ → Maybe
+unfoldable pub add_gap : ℕ → ℕ → ℤ → Option ℕ
 add_gap highest base (pos n) = in_range highest (base + 4 * n)
-add_gap highest base (negsuc n) = cond (leb (4 * suc n) base) (in_range highest (base - 4 * suc n)) Nothing
+add_gap highest base (negsuc n) = cond (leb (4 * suc n) base) (in_range highest (base - 4 * suc n)) None
 
 -- The number as a count, a length or an instance size: it must lie in 0 to 2^31 - 1, whatever the field's width.
-unfoldable pub to_count : ℤ → Maybe
-to_count (pos n) = cond (ltb n (2 ^ 31)) (Just n) Nothing
-to_count (negsuc n) = Nothing
+unfoldable pub to_count : ℤ → Option ℕ
+to_count (pos n) = cond (ltb n (2 ^ 31)) (Some n) None
+to_count (negsuc n) = None
 
 -- Whether every byte is from low to high.
 unfoldable pub all_within : ℕ → ℕ → List ℕ → Bool

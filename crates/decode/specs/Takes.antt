@@ -1,14 +1,12 @@
 -- How many bytes a layout takes for the value that it gives, derived from its parts: a law for each way to build a layout and for
 -- each kind of field. A reader must believe `Takes`, `AddressIn` and `CountIn`.
-use Rattle.std.specs.Prelude.{◌≡◌, refl, ℕ, ◌+◌, ◌-◌, ◌≤◌, Bool, true, false, cond, List, [], ◌∷◌, length, take, drop}
+use Rattle.std.specs.Prelude.{◌≡◌, refl, ℕ, ◌+◌, ◌-◌, ◌≤◌, Bool, true, false, cond, List, [], ◌∷◌, length, take, drop, Option, Some, None}
 use Rattle.std.proofs.Common.{subst, ◌∙◌, add-zero, arith, leb-true}
 use Rattle.decode.specs.Numbers.{value, value_after, signed, add_gap, to_count}
 use Rattle.decode.specs.Slices.{length_slice}
 use Rattle.decode.specs.Layout.{Layout, yield, refuse, bytes, whole, stops, run, ◌>>=◌, position, raw, field, check, need, run_yield, run_refuse, run_position, run_enough, whole_has_bytes, then_inv, start_le_end}
 use Rattle.decode.specs.Fields.{exactly, below, address, ref_field, count, string}
 use Rattle.decode.specs.declared.Stop.TheVariants.{Refused}
-use Rattle.decode.specs.declared.Maybe.{Maybe}
-use Rattle.decode.specs.declared.Maybe.TheVariants.{Just, Nothing}
 use Rattle.decode.specs.declared.StringSpan.{StringSpan}
 
 -- P holds for every value that the layout gives, at any offset of any dump, and the number of bytes that it takes there.
@@ -96,10 +94,10 @@ takes_check r true = takes_yield tt (refl, refl)
 takes_check r false = takes_refuse r
 
 -- `need` takes no bytes, and its value is the one required.
-pub takes_need : (r : ℕ) (m : Maybe) → Takes (λ a n. (n ≡ 0) × (m ≡ Just a)) (need r m)
+pub takes_need : (r : ℕ) (m : Option ℕ) → Takes (λ a n. (n ≡ 0) × (m ≡ Some a)) (need r m)
 unfolding need
-takes_need r (Just a) = takes_yield a (refl, refl)
-takes_need r Nothing = takes_refuse r
+takes_need r (Some a) = takes_yield a (refl, refl)
+takes_need r None = takes_refuse r
 
 -- ---- kinds of field
 
@@ -118,7 +116,7 @@ takes_below w top r =
 -- a is base + 4 × a signed number of w bytes, and in 0 to highest: how addresses and references are stored.
 pub record AddressIn (w base highest a : ℕ) : Type 0 where
   pub number : ℕ
-  pub address_is : add_gap highest base (signed w number) ≡ Just a
+  pub address_is : add_gap highest base (signed w number) ≡ Some a
 
 -- An address takes its w bytes and satisfies `AddressIn`.
 pub takes_address : (w base highest : ℕ) → Takes (λ a n. (n ≡ w) × AddressIn w base highest a) (address w base highest)
@@ -137,7 +135,7 @@ takes_ref w base highest =
 -- a is a valid count, stored as a signed number of w bytes.
 pub record CountIn (w a : ℕ) : Type 0 where
   pub number : ℕ
-  pub counts : to_count (signed w number) ≡ Just a
+  pub counts : to_count (signed w number) ≡ Some a
 
 -- A count takes its w bytes and satisfies `CountIn`.
 pub takes_count : (w : ℕ) → Takes (λ a n. (n ≡ w) × CountIn w a) (count w)

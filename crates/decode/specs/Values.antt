@@ -1,6 +1,6 @@
 -- Properties of every value that a layout gives, and of every reply that it refuses with, derived from its parts.
 -- Assumes nothing.
-use Rattle.std.specs.Prelude.{◌≡◌, refl, ℕ, suc, ◌+◌, ◌-◌, ◌*◌, ◌^◌, ◌≤◌, ◌<◌, Bool, true, false, cond, ◌&&◌, List, length, take, drop, leb, ltb, ℤ, pos, negsuc}
+use Rattle.std.specs.Prelude.{◌≡◌, refl, ℕ, suc, ◌+◌, ◌-◌, ◌*◌, ◌^◌, ◌≤◌, ◌<◌, Bool, true, false, cond, ◌&&◌, List, length, take, drop, leb, ltb, ℤ, pos, negsuc, Option, Some, None}
 use Rattle.std.proofs.Common.{sym, ap, subst, ◌∙◌, arith, leb-true, ltb-true}
 use Rattle.std.proofs.Math.Decide.{dec_le}
 use Rattle.std.proofs.lemmas.Bool.{eqb-false, not-true}
@@ -8,8 +8,6 @@ use Rattle.decode.specs.Numbers.{value, signed, in_range, add_gap, to_count}
 use Rattle.decode.specs.Layout.{Layout, yield, refuse, bytes, Outcome, whole, stops, run, run_enough, run_short, run_then, then_inv, and_then, run_yield, run_refuse, run_position, end_in_bounds, ◌>>=◌, position, raw, field, check, need}
 use Rattle.decode.specs.Fields.{exactly, below, address, ref_field, count, string}
 use Rattle.decode.specs.declared.Stop.TheVariants.{Cut, Refused}
-use Rattle.decode.specs.declared.Maybe.{Maybe}
-use Rattle.decode.specs.declared.Maybe.TheVariants.{Just, Nothing}
 
 -- ---- tests
 
@@ -94,10 +92,10 @@ gives_check r true = gives_yield tt refl
 gives_check r false = gives_refuse r
 
 -- The value of `need` is the one required.
-pub gives_need : {s : List ℕ} (r : ℕ) (m : Maybe) → Gives s (λ a. m ≡ Just a) (need r m)
+pub gives_need : {s : List ℕ} (r : ℕ) (m : Option ℕ) → Gives s (λ a. m ≡ Some a) (need r m)
 unfolding need
-gives_need r (Just a) = gives_yield a refl
-gives_need r Nothing = gives_refuse r
+gives_need r (Some a) = gives_yield a refl
+gives_need r None = gives_refuse r
 
 -- ---- replies of basic layouts
 
@@ -173,32 +171,32 @@ refuses_check r true p = refuses_yield tt
 refuses_check r false p = refuses_refuse r p
 
 -- `need` refuses with its reply only, and only if there is no value.
-pub refuses_need_nothing : {P : ℕ → Type 0} (r : ℕ) (m : Maybe) → (m ≡ Nothing → P r) → Refuses P (need r m)
+pub refuses_need_nothing : {P : ℕ → Type 0} (r : ℕ) (m : Option ℕ) → (m ≡ None → P r) → Refuses P (need r m)
 unfolding need
-refuses_need_nothing r (Just a) p = refuses_yield a
-refuses_need_nothing r Nothing p = refuses_refuse r (p refl)
+refuses_need_nothing r (Some a) p = refuses_yield a
+refuses_need_nothing r None p = refuses_refuse r (p refl)
 
 -- `need` refuses with its reply only.
-pub refuses_need : {P : ℕ → Type 0} (r : ℕ) (m : Maybe) → P r → Refuses P (need r m)
+pub refuses_need : {P : ℕ → Type 0} (r : ℕ) (m : Option ℕ) → P r → Refuses P (need r m)
 refuses_need r m p = refuses_need_nothing r m (λ _. p)
 
 -- ---- range of addresses and references
 
 -- If `in_range` gives a, then a is the sum and at most highest.
-pub in_range_inv : (highest sum a : ℕ) → in_range highest sum ≡ Just a → (sum ≡ a) × (a ≤ highest)
+pub in_range_inv : (highest sum a : ℕ) → in_range highest sum ≡ Some a → (sum ≡ a) × (a ≤ highest)
 in_range_inv highest sum a h = by (leb sum highest) refl h
   where
-    by : (b : Bool) → leb sum highest ≡ b → cond b (Just sum) Nothing ≡ Just a → (sum ≡ a) × (a ≤ highest)
+    by : (b : Bool) → leb sum highest ≡ b → cond b (Some sum) None ≡ Some a → (sum ≡ a) × (a ≤ highest)
     by true e g = let l : sum ≤ highest = leb-true _ _ e in let z : sum ≡ a = cc in (z, omega arith)
     by false e g = let z : ◌≡◌ {A = ℕ} 0 1 = cc in absurd (omega arith)
 
 -- If `add_gap` gives an address, it is at most highest.
-pub add_gap_le : (highest base : ℕ) (gap : ℤ) (a : ℕ) → add_gap highest base gap ≡ Just a → a ≤ highest
+pub add_gap_le : (highest base : ℕ) (gap : ℤ) (a : ℕ) → add_gap highest base gap ≡ Some a → a ≤ highest
 unfolding add_gap
 add_gap_le highest base (pos n) a h = (in_range_inv highest (base + 4 * n) a h).1
 add_gap_le highest base (negsuc n) a h = by (leb (4 * suc n) base) h
   where
-    by : (b : Bool) → cond b (in_range highest (base - 4 * suc n)) Nothing ≡ Just a → a ≤ highest
+    by : (b : Bool) → cond b (in_range highest (base - 4 * suc n)) None ≡ Some a → a ≤ highest
     by true g = (in_range_inv highest (base - 4 * suc n) a g).1
     by false g = let z : ◌≡◌ {A = ℕ} 0 1 = cc in absurd (omega arith)
 
@@ -217,17 +215,17 @@ gives_ref n base highest =
 -- ---- range of counts
 
 -- If `to_count` gives a count, it is the signed number itself, and below 2^31.
-pub to_count_inv : (z : ℤ) (n : ℕ) → to_count z ≡ Just n → (z ≡ pos n) × (n < 2 ^ 31)
+pub to_count_inv : (z : ℤ) (n : ℕ) → to_count z ≡ Some n → (z ≡ pos n) × (n < 2 ^ 31)
 unfolding to_count
 to_count_inv (pos m) n h = by (ltb m (2 ^ 31)) refl h
   where
-    by : (b : Bool) → ltb m (2 ^ 31) ≡ b → cond b (Just m) Nothing ≡ Just n → (pos m ≡ pos n) × (n < 2 ^ 31)
+    by : (b : Bool) → ltb m (2 ^ 31) ≡ b → cond b (Some m) None ≡ Some n → (pos m ≡ pos n) × (n < 2 ^ 31)
     by true e g = let l : m < 2 ^ 31 = ltb-true _ _ e in let z : m ≡ n = cc in (ap pos z, omega arith)
     by false e g = let z : ◌≡◌ {A = ℕ} 0 1 = cc in absurd (omega arith)
 to_count_inv (negsuc m) n h = let z : ◌≡◌ {A = ℕ} 0 1 = cc in absurd (omega arith)
 
 -- A valid count is below 2^31.
-pub to_count_lt : (z : ℤ) (n : ℕ) → to_count z ≡ Just n → n < 2 ^ 31
+pub to_count_lt : (z : ℤ) (n : ℕ) → to_count z ≡ Some n → n < 2 ^ 31
 to_count_lt z n h = (to_count_inv z n h).1
 
 -- A count that was read is below 2^31.

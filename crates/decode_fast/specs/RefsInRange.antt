@@ -1,6 +1,6 @@
 -- When the references of a record need no range check: its address is so far from 0 and from the highest address that every value
 -- of w bytes gives a valid reference. `target` is proved to be what the layout `ref_field` reads. Assumes nothing.
-use Rattle.std.specs.Prelude.{◌≡◌, refl, Bool, true, cond, ◌&&◌, List, leb, ltb, length, take, drop}
+use Rattle.std.specs.Prelude.{◌≡◌, refl, Bool, true, cond, ◌&&◌, List, leb, ltb, length, take, drop, Some}
 use Prim.Native.Nat.{ℕ, zero, suc, ◌+◌, ◌-◌, ◌*◌, ◌^◌, ◌≤◌, ◌<◌}
 use Rattle.std.proofs.Math.Nat.{pow-le-pow_right}
 use Rattle.std.proofs.Math.Decide.{dec_lt}
@@ -10,7 +10,6 @@ use Rattle.decode.specs.Numbers.{value_after, value, signed, add_gap}
 use Rattle.decode.specs.Layout.{whole, run, run_then, run_field, run_need, run_check, run_yield}
 use Rattle.decode.specs.Fields.{address, ref_field}
 use Rattle.decode.specs.Values.{and_left, and_right}
-use Rattle.decode.specs.declared.Maybe.TheVariants.{Just}
 
 -- The reach of w bytes: how far a gap of w bytes moves an address at most, 4 times half of 256 ^ w.
 unfoldable pub gap_reach : ℕ → ℕ
@@ -47,7 +46,7 @@ refs_in_range_high w a top c = ltb-true (a + gap_reach w) top (refs_in_range_par
 
 -- The target of every value is in range and not 0. (`some`: a negative value has at least one byte.)
 module _ (w a top v : ℕ) (low : gap_reach w < a) (high : a + gap_reach w < top) (some : 256 ^ w ≤ v + v → 2 ≤ 256 ^ w) where
-  add_gap_target : (add_gap top a (signed w v) ≡ Just (target w a v)) × (1 ≤ target w a v)
+  add_gap_target : (add_gap top a (signed w v) ≡ Some (target w a v)) × (1 ≤ target w a v)
   unfolding add_gap signed target gap_reach
   add_gap_target = elim (dec_lt (v + v) (256 ^ w)) [
     | yes e ↦ rw (lt-ltb (v + v) (256 ^ w) e, le-leb (a + 4 * v) top (omega arith)) (refl, omega arith)
@@ -69,7 +68,7 @@ pub run_ref_in_range : (w a top : ℕ) (s : List ℕ) (at : ℕ) → refs_in_ran
     → run (ref_field w a top) s at ≡ whole (target w a (value (take w (drop at s)))) (at + w)
 unfolding ref_field address
 run_ref_in_range w a top s at c h =
-    let l : (add_gap top a (signed w (value (take w (drop at s)))) ≡ Just (target w a (value (take w (drop at s)))))
+    let l : (add_gap top a (signed w (value (take w (drop at s)))) ≡ Some (target w a (value (take w (drop at s)))))
     × (1 ≤ target w a (value (take w (drop at s))))
     = add_gap_target w a top (value (take w (drop at s))) (refs_in_range_low w a top c) (refs_in_range_high w a top c) (negative_has_bytes w (drop at s)) in
     rw (

@@ -1,12 +1,14 @@
-// Writes numbers as digits. Each function that writes does so at an offset of the output, changes nothing else, and returns the
-// offset after what it wrote; the bytes are a definition of specs/Digits.antt.
+// Encodes numbers as digits. The bytes that each function encodes are a definition of specs/Digits.antt.
 #![tactic(auto)]
 
-ghost use Rattle.std.specs.Prelude.{◌≡◌, ◌++◌};
+ghost use Rattle.std.specs.Prelude.{◌≡◌, ◌+◌, ◌≤◌, ◌++◌, length};
+ghost use Rattle.std.proofs.lemmas.List.Edits.{sets};
 ghost use Rattle.io.specs.Digits.{last_digits};
 ghost use Rattle.encode.specs.Encode.{be};
-ghost use Rattle.encode.specs.Writes.{Writes, HasCapacity};
+ghost use Rattle.encode.specs.Wrote.{Wrote, HasRoom};
 ghost use Rattle.digits.specs.Digits.{upper_digits, digit_count, decimal};
+
+use encode::encoder::Encoder;
 
 // Returns the number whose eight bytes are the characters of the last eight hexadecimal digits of a number, in upper case. The
 // digits are spread to the two halves, the four quarters and the eight bytes of a word; then all bytes become characters at once.
@@ -20,27 +22,24 @@ fn hex8_characters(n: u64) -> u64
     bytes + 0x3030_3030_3030_3030 + 7 * letters
 }
 
-// Writes the last eight hexadecimal digits of a number, in upper case.
-pub fn write_hex8(out: &mut [u8], at: usize, n: u64) -> usize
-    requires { HasCapacity out.old at (upper_digits 16 8 n) }
-    ensures { Writes out.old at (upper_digits 16 8 n) out.new result }
+// Encodes the last eight hexadecimal digits of a number, in upper case.
+pub fn encode_hex8(e: &mut Encoder, n: u64)
+    requires { HasRoom e.old (upper_digits 16 8 n) }
+    ensures { Wrote e.old e.new (upper_digits 16 8 n) }
 {
-    encode::encode_be(out, at, 8, hex8_characters(n))
+    e.be(8, hex8_characters(n));
 }
 
-// Writes the last k digits of a number in base ten.
-fn write_decimal_digits(out: &mut [u8], at: usize, k: usize, n: u64) -> usize
-    requires { HasCapacity out.old at (last_digits 10 k n) }
-    ensures { Writes out.old at (last_digits 10 k n) out.new result }
+// Stores the last k digits of a number in base ten at an offset.
+fn store_digits(out: &mut [u8], at: usize, k: usize, n: u64)
+    requires { at + k ≤ length out.old }
+    ensures { out.new ≡ sets out.old at (last_digits 10 k n) }
 {
     let mut rest = n;
-    let mut i = k;
-    while 0 < i {
-        i -= 1;
-        out[at + i] = 48 + (rest % 10) as u8;
-        rest = rest / 10;
+    for i in (0..k).rev() {
+        out[at + i] = b'0' + (rest % 10) as u8;
+        rest /= 10;
     }
-    at + k
 }
 
 // Returns how many digits a number has in base ten.
@@ -50,26 +49,29 @@ pub fn digit_count(n: u64) -> usize
     let mut rest = n;
     let mut k: usize = 1;
     while 10 <= rest {
-        rest = rest / 10;
+        rest /= 10;
         k += 1;
     }
     k
 }
 
-// Writes a number in base ten.
-pub fn write_decimal(out: &mut [u8], at: usize, n: u64) -> usize
-    requires { HasCapacity out.old at (decimal n) }
-    ensures { Writes out.old at (decimal n) out.new result }
+// Encodes a number in base ten.
+#[tactic(auto, using(crate::specs::DigitLengths::length_digits), unfolding(crate::specs::Digits::decimal))]
+pub fn encode_decimal(e: &mut Encoder, n: u64)
+    requires { HasRoom e.old (decimal n) }
+    ensures { Wrote e.old e.new (decimal n) }
 {
     let k = digit_count(n);
-    write_decimal_digits(out, at, k, n)
+    store_digits(e.out, e.at, k, n);
+    e.at += k;
 }
 
-// Writes a text, then a number in base ten.
-pub fn write_text_decimal(out: &mut [u8], at: usize, text: &[u8], n: u64) -> usize
-    requires { HasCapacity out.old at (text.now ++ decimal n) }
-    ensures { Writes out.old at (text.now ++ decimal n) out.new result }
+// Encodes a text, then a number in base ten.
+#[tactic(auto, using(encode::specs::Wrote::consecutive))]
+pub fn encode_text_decimal(e: &mut Encoder, text: &[u8], n: u64)
+    requires { HasRoom e.old (text.now ++ decimal n) }
+    ensures { Wrote e.old e.new (text.now ++ decimal n) }
 {
-    let digits = encode::encode_bytes(out, at, text);
-    write_decimal(out, digits, n)
+    e.bytes(text);
+    encode_decimal(e, n);
 }

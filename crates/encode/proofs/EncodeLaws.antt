@@ -6,12 +6,13 @@ use Prim.Native.Nat.{ℕ, suc, ◌+◌, ◌-◌, ◌/◌, ◌%◌, ◌^◌, ◌�
 use native.Mathlib.Nat.{add-zero}
 use native.Mathlib.Omega.{arith}
 use native.Mathlib.Decide.{dec_le, dec_lt}
+use mir.Val.{bool_byte}
 use lib.Dec.{leb, ltb}
-use lib.ListN.{length, take, drop, get_or, set}
-use lib.Seq.{sets, set_comm}
+use lib.ListN.{length, drop, get_or, set}
+use lib.Seq.{sets, set_comm, drop-cons}
+use native.Mathlib.Numerals.{add-one}
 use lib.IntN.{pos, negsuc}
 use borrow.Author.Tests.{le-leb, lt-leb, le-ltb, lt-ltb}
-use Rattle.decode.specs.Slices.{slice_next}
 use Rattle.decode.specs.Values.{cond_elim}
 use Rattle.encode.specs.Encode.{be, gap, width_code, fits, refs_code, max, encode_ref_list, twos_complement}
 use Rattle.encode.specs.NumberRoundTrip.{length_be}
@@ -56,6 +57,10 @@ code_sign false d = refl
 pub code_gap : (from to d : ℕ) → gap from to ≡ cond (leb from to) (pos d) (negsuc d) → width_code (gap from to) ≡ width_code (pos d)
 code_gap from to d e = ap width_code e ∙ code_sign (leb from to) d
 
+bool_byte_cond : (b : Bool) → bool_byte b ≡ cond b 1 0
+bool_byte_cond true = refl
+bool_byte_cond false = refl
+
 -- A number fits n bytes exactly if it is below half of 256 ^ n.
 pub half_le_fits : (n half m : ℕ) → half + half ≡ 256 ^ n → cond {A = ℕ} (leb half m) 1 0 ≡ cond (fits n (pos m)) 0 1
 unfolding fits
@@ -92,21 +97,28 @@ code_max a b = elim (dec_le a b) [
       rw (lt-leb a b g) (max_eq_left (width_code (pos a)) (width_code (pos b)) (code_le b a k))
 ]
 
+-- The three tests of a number against half of 256 ^ n count the widths that do not hold it.
+pub code_tests : (m : ℕ) → bool_byte (leb 0x80 m) + bool_byte (leb 0x8000 m) + bool_byte (leb 0x8000_0000 m) ≡ width_code (pos m)
+code_tests m =
+    let byte = half_le_fits 1 0x80 m refl in
+    let short = half_le_fits 2 0x8000 m refl in
+    let int = half_le_fits 4 0x8000_0000 m refl in
+    omega (arith, code_count (pos m), bool_byte_cond (leb 0x80 m), bool_byte_cond (leb 0x8000 m), bool_byte_cond (leb 0x8000_0000 m))
+
 -- ---- the next reference in a loop
 
-module _ (l : List ℕ) (at n i : ℕ) (h : i < n) (in_bounds : at + n ≤ length l) where
+module _ (rs : List ℕ) (i : ℕ) (h : i < length rs) where
   -- The width code of the references from i on, starting from that of the distance m, is the width code of those after i,
   -- starting from that of the greater of m and the distance d of reference i.
-  pub refs_code_next : (m a d : ℕ) → gap a (get_or l (at + i) 0) ≡ cond (leb a (get_or l (at + i) 0)) (pos d) (negsuc d)
-      → refs_code (width_code (pos m)) a (take (n - i) (drop (at + i) l))
-      ≡ refs_code (width_code (pos (max m d))) a (take (n - (i + 1)) (drop (at + (i + 1)) l))
+  pub refs_code_drop : (m a d : ℕ) → gap a (get_or rs i 0) ≡ cond (leb a (get_or rs i 0)) (pos d) (negsuc d)
+      → refs_code (width_code (pos m)) a (drop i rs) ≡ refs_code (width_code (pos (max m d))) a (drop (i + 1) rs)
   unfolding refs_code
-  refs_code_next m a d e =
-      let c = ap (max (width_code (pos m))) (code_gap a (get_or l (at + i) 0) d e) ∙ code_max m d in
-      rw (slice_next l at n i h in_bounds) (ap (λ (k : ℕ). refs_code k a (take (n - (i + 1)) (drop (at + (i + 1)) l))) c)
+  refs_code_drop m a d e =
+      let c = ap (max (width_code (pos m))) (code_gap a (get_or rs i 0) d e) ∙ code_max m d in
+      rw (drop-cons rs i 0, add-one) (ap (λ (k : ℕ). refs_code k a (drop (suc i) rs)) c)
 
   -- The bytes of the references from i on are those of reference i and then those of the references after it.
-  pub encode_ref_list_next : (w a : ℕ) → encode_ref_list w a (take (n - i) (drop (at + i) l))
-      ≡ be w (twos_complement (gap a (get_or l (at + i) 0))) ++ encode_ref_list w a (take (n - (i + 1)) (drop (at + (i + 1)) l))
+  pub encode_ref_list_drop : (w a : ℕ) → encode_ref_list w a (drop i rs)
+      ≡ be w (twos_complement (gap a (get_or rs i 0))) ++ encode_ref_list w a (drop (i + 1) rs)
   unfolding encode_ref_list
-  encode_ref_list_next w a = rw (slice_next l at n i h in_bounds)
+  encode_ref_list_drop w a = rw (drop-cons rs i 0, add-one)

@@ -1,6 +1,6 @@
 -- An encoded address, reference, count or string is read back by the layout of that name.
 -- Assumes nothing.
-use Rattle.std.specs.Prelude.{◌≡◌, List, ◌++◌, length, eqb}
+use Rattle.std.specs.Prelude.{◌≡◌, List, ◌++◌, length, eqb, Some}
 use Prim.Native.Nat.{ℕ, suc, ◌+◌, ◌-◌, ◌*◌, ◌/◌, ◌%◌, ◌^◌, ◌≤◌, ◌<◌}
 use Rattle.std.proofs.Math.Bool.{true, not}
 use Rattle.std.proofs.Common.{arith, le-leb, lt-ltb, ne_eqb}
@@ -9,13 +9,12 @@ use Rattle.std.proofs.lemmas.Bool.{lt-leb}
 use Rattle.decode.specs.Numbers.{value, signed, add_gap, to_count, all_within}
 use Rattle.decode.specs.Layout.{position, raw}
 use Rattle.decode.specs.Fields.{address, ref_field, count, string}
-use Rattle.decode.specs.declared.Maybe.TheVariants.{Just}
 use Rattle.encode.specs.Encode.{be, gap, twos_complement, fits}
 use Rattle.encode.specs.NumberRoundTrip.{length_be, signed_be}
 use Rattle.encode.specs.Reads.{Reads, reads_then, reads_end, reads_skip, reads_yield, reads_field_value, reads_field, reads_raw, reads_position, reads_check, reads_need}
 
 -- Adding the gap between two addresses to the first gives the second, if both are multiples of 4.
-pub add_gap_gap : (highest a b : ℕ) → a % 4 ≡ 0 → b % 4 ≡ 0 → b ≤ highest → add_gap highest a (gap a b) ≡ Just b
+pub add_gap_gap : (highest a b : ℕ) → a % 4 ≡ 0 → b % 4 ≡ 0 → b ≤ highest → add_gap highest a (gap a b) ≡ Some b
 unfolding add_gap gap
 add_gap_gap highest a b p q t = elim (dec_le a b) [
   | yes l ↦
@@ -36,7 +35,7 @@ module _ (p w base highest a : ℕ) (base_aligned : base % 4 ≡ 0) (aligned : a
   unfolding address
   reads_address =
       let v : ℕ = twos_complement (gap base a) in
-      let inverse : add_gap highest base (signed w (value (be w v))) ≡ Just a =
+      let inverse : add_gap highest base (signed w (value (be w v))) ≡ Some a =
       rw (signed_be w (gap base a) some wide fit) (add_gap_gap highest base a base_aligned aligned most) in
       reads_end p _ _ (be w v) (value (be w v)) a (reads_field_value p w v) (reads_need _ 8 _ a inverse)
 
@@ -52,7 +51,7 @@ pub reads_count : (p w v : ℕ) → v < 2 ^ 31 → v + v < 256 ^ w → Reads p (
 unfolding count signed to_count
 reads_count p w v small fit =
     let l : v < 256 ^ w = omega arith in
-    let e : to_count (signed w v) ≡ Just v = rw (lt-ltb (v + v) (256 ^ w) fit, lt-ltb v (2 ^ 31) small) in
+    let e : to_count (signed w v) ≡ Some v = rw (lt-ltb (v + v) (256 ^ w) fit, lt-ltb v (2 ^ 31) small) in
     reads_end p _ _ (be w v) v v (reads_field p w v l) (reads_need _ 12 _ v e)
 
 -- An encoded string is read back. Its bytes are at offset p + 2, after its length.

@@ -10,4 +10,5 @@ pub mod Reads
 pub mod FieldRoundTrip
 pub mod SetsLaws
 pub mod Writes
+pub mod Wrote
 pub mod WriteProgress

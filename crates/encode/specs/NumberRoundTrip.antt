@@ -13,7 +13,7 @@ length_be zero v = refl
 length_be (suc n) v = simp (length-append, length_be n (v / 256)) (omega arith)
 
 -- The lowest m + n bytes of a number are m bytes and then the lowest n.
-be_split : (m n v : ℕ) → be (m + n) v ≡ be m (v / 256 ^ n) ++ be n v
+pub be_split : (m n v : ℕ) → be (m + n) v ≡ be m (v / 256 ^ n) ++ be n v
 unfolding be
 be_split m zero v = rw (add-zero m, div-one v, append-nil)
 be_split m (suc n) v =

@@ -1,13 +1,12 @@
 -- A number read from a field of n bytes fits n bytes: the gap of an address or of a reference, and a count.
 -- Assumes nothing.
-use Rattle.std.specs.Prelude.{◌≡◌, refl, ℕ, suc, ◌+◌, ◌-◌, ◌*◌, ◌/◌, ◌^◌, ◌≤◌, Bool, true, false, cond, leb, ltb, ℤ, pos, negsuc}
+use Rattle.std.specs.Prelude.{◌≡◌, refl, ℕ, suc, ◌+◌, ◌-◌, ◌*◌, ◌/◌, ◌^◌, ◌≤◌, Bool, true, false, cond, leb, ltb, ℤ, pos, negsuc, Some, None}
 use Rattle.std.proofs.Math.Nat.{one-le-pow}
 use Rattle.std.proofs.Common.{arith, le-leb, lt-ltb, leb-true, ltb-false}
 use Rattle.std.proofs.lemmas.Bool.{lt-leb}
 use Rattle.decode.specs.Numbers.{signed, in_range, add_gap}
 use Rattle.decode.specs.Values.{in_range_inv, to_count_inv}
 use Rattle.decode.specs.Takes.{AddressIn, CountIn}
-use Rattle.decode.specs.declared.Maybe.TheVariants.{Just, Nothing}
 use Rattle.encode.specs.Encode.{gap, fits}
 
 -- The signed value of n bytes fits n bytes.
@@ -24,7 +23,7 @@ signed_fits n v = by (ltb (v + v) (256 ^ n)) refl
         lt-ltb (m + m) (256 ^ n) (omega arith)
 
 -- If adding a gap to a base gives an address, it is the gap from the base to that address.
-pub gap_add_gap : (highest base : ℕ) (g : ℤ) (a : ℕ) → add_gap highest base g ≡ Just a → gap base a ≡ g
+pub gap_add_gap : (highest base : ℕ) (g : ℤ) (a : ℕ) → add_gap highest base g ≡ Some a → gap base a ≡ g
 unfolding add_gap gap
 gap_add_gap highest base (pos n) a h =
     let e : base + 4 * n ≡ a = (in_range_inv highest _ a h).0 in
@@ -32,7 +31,7 @@ gap_add_gap highest base (pos n) a h =
     rw (le-leb base a (omega arith), d)
 gap_add_gap highest base (negsuc n) a h = by (leb (4 * suc n) base) refl h
   where
-    by : (b : Bool) → leb (4 * suc n) base ≡ b → cond b (in_range highest (base - 4 * suc n)) Nothing ≡ Just a
+    by : (b : Bool) → leb (4 * suc n) base ≡ b → cond b (in_range highest (base - 4 * suc n)) None ≡ Some a
         → cond (leb base a) (pos ((a - base) / 4)) (negsuc ((base - a - 1) / 4)) ≡ negsuc n
     by true k g =
         let l : 4 * suc n ≤ base = leb-true _ _ k in

@@ -1,12 +1,10 @@
 -- `Reads p l bs a`: in any dump with the bytes bs at offset p, the layout l reads exactly these bytes from p on and gives a.
 -- There is one law for each part of a layout.
 -- Assumes nothing.
-use Rattle.std.specs.Prelude.{◌≡◌, refl, ℕ, ◌+◌, ◌^◌, ◌≤◌, ◌<◌, Bool, true, List, [], ◌++◌, length}
+use Rattle.std.specs.Prelude.{◌≡◌, refl, ℕ, ◌+◌, ◌^◌, ◌≤◌, ◌<◌, Bool, true, List, [], ◌++◌, length, Option, Some}
 use Rattle.std.proofs.Common.{add_assoc, add-zero, append_assoc, append-nil, length-append, take_at, drop_at, arith}
 use Rattle.decode.specs.Numbers.{value}
 use Rattle.decode.specs.Layout.{Layout, yield, bytes, whole, run, ◌>>=◌, position, raw, field, check, need, run_then, run_enough}
-use Rattle.decode.specs.declared.Maybe.{Maybe}
-use Rattle.decode.specs.declared.Maybe.TheVariants.{Just}
 use Rattle.encode.specs.Encode.{be}
 use Rattle.encode.specs.NumberRoundTrip.{length_be, value_be}
 
@@ -74,6 +72,6 @@ unfolding check
 reads_check p r b e = rw e (reads_yield p tt)
 
 -- A needed value that is present is given, and no bytes are read.
-pub reads_need : (p r : ℕ) (m : Maybe) (a : ℕ) → m ≡ Just a → Reads p (need r m) [] a
+pub reads_need : (p r : ℕ) (m : Option ℕ) (a : ℕ) → m ≡ Some a → Reads p (need r m) [] a
 unfolding need
 reads_need p r m a e = rw e (reads_yield p a)

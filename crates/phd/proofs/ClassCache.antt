@@ -1,13 +1,12 @@
 -- After any pushes each slot of the class cache holds the class word of docs/FORMAT.md 3.5, although `pushes` stays at most 7.
 -- A reader must believe `push_all`, and `Phd.slot_after`.
-use Rattle.std.specs.Prelude.{◌≡◌, refl, ℕ, ◌+◌, ◌%◌, ◌≤◌, ◌<◌, List, [], ◌∷◌, length}
+use Rattle.std.specs.Prelude.{◌≡◌, refl, ℕ, ◌+◌, ◌%◌, ◌≤◌, ◌<◌, List, [], ◌∷◌, length, Some}
 use Rattle.std.proofs.Common.{sym, ◌∙◌, lt-ltb, le-ltb, eq-eqb, ne_eqb}
 use Rattle.std.proofs.Math.Decide.{dec_lt, ℕ_discrete}
 use native.Mathlib.Omega.{arith}
 use Rattle.std.proofs.Math.ListN.{length-set}
 use Rattle.std.proofs.Math.Seq.{get_or-set_same, get_or-set_other}
 use Rattle.std.proofs.Math.Dec.{ltb}
-use Rattle.decode.specs.declared.Maybe.TheVariants.{Just}
 use Rattle.phd.specs.Phd.{slot_after, empty_cache, push, slot}
 use Rattle.phd.specs.declared.cache.Cache.{Cache}
 use Rattle.phd.specs.ClassCache.{push_all}
@@ -38,7 +37,7 @@ module _ (ws : List ℕ) (c : Cache) (w : ℕ) (t : CacheInvariant ws c) where
   q = (push c w).pushes
 
   -- The slot that is filled holds the new class word; every other slot is unchanged.
-  pushed_slot : (i : ℕ) → i < 4 → length ws % 4 ≡ i → slot (push c w) i ≡ Just w
+  pushed_slot : (i : ℕ) → i < 4 → length ws % 4 ≡ i → slot (push c w) i ≡ Some w
   unfolding slot push
   pushed_slot i l e =
       let n = pushes_wrap c w t.most in

@@ -2,12 +2,10 @@
 -- result of reading any bytes. A reader must believe these definitions; every promise about reading cites them.
 -- A dump and the tables are lists of numbers; a byte is a number below 256. A reply (the scope paper's term) is one of the
 -- numbers of docs/FORMAT.md 8.
-use Rattle.std.specs.Prelude.{ℕ, zero, suc, ◌+◌, ◌-◌, ◌/◌, ◌%◌, ◌^◌, Bool, true, false, not, cond, ◌&&◌, ◌||◌, List, [], ◌∷◌, length, get_or, set, leb, ltb, eqb}
+use Rattle.std.specs.Prelude.{ℕ, zero, suc, ◌+◌, ◌-◌, ◌/◌, ◌%◌, ◌^◌, Bool, true, false, not, cond, ◌&&◌, ◌||◌, List, [], ◌∷◌, length, get_or, set, leb, ltb, eqb, Option, Some, None}
 use Rattle.decode.specs.Layout.{Layout, yield, refuse, ◌>>=◌, ◌>>◌, position, raw, field, check, need}
 use Rattle.decode.specs.Fields.{exactly, below, address, ref_field, count, string, no_string}
 use Rattle.decode.specs.declared.StringSpan.{StringSpan}
-use Rattle.decode.specs.declared.Maybe.{Maybe}
-use Rattle.decode.specs.declared.Maybe.TheVariants.{Just, Nothing}
 use Rattle.reader.specs.Reader
 unfoldable pub use Rattle.reader.specs.Reader.{limit, ended}
 pub use Rattle.reader.specs.Reader.{capacity, end_item, item, go, halt}
@@ -15,14 +13,13 @@ use Rattle.phd.specs.declared.cache.Cache.{Cache}
 use Rattle.phd.specs.declared.Header.{Header}
 use Rattle.phd.specs.declared.Form.{Form}
 use Rattle.phd.specs.declared.Form.TheVariants.{Short, Medium, Long, Class, ObjectArray, Primitive, LongPrimitive}
-use Rattle.phd.specs.declared.TagForm.{TagForm}
-use Rattle.phd.specs.declared.TagForm.TheVariants.{Begins, Other}
 use Rattle.phd.specs.declared.Origin.{Origin}
 use Rattle.phd.specs.declared.Shape.{Shape}
 use Rattle.phd.specs.declared.Front.{Front}
 use Rattle.phd.specs.declared.Middle.{Middle}
 use Rattle.phd.specs.declared.Span.{Span}
 use Rattle.phd.specs.declared.Tail.{Tail}
+use Rattle.phd.specs.declared.RecordContext as Declared
 
 -- Whether the bit of value m (1, 2, 4, 8 ..) is set in x.
 unfoldable pub bit : ℕ → ℕ → Bool
@@ -100,9 +97,9 @@ empty_header = record { bits = 0; hashed = false; openj9 = false; vm = no_string
 -- The content of slot i after pushing the class words ws (the last one first): the last word whose push number, counted from 0,
 -- is i modulo 4, or Nothing. The cache below agrees with it (`ClassCache.slot_push_all`), in every reading (phd_read,
 -- `ReadTheorems.slots_before_row`).
-unfoldable pub slot_after : List ℕ → ℕ → Maybe
-slot_after [] i = Nothing
-slot_after (w ∷ ws) i = cond (eqb (length ws % 4) i) (Just w) (slot_after ws i)
+unfoldable pub slot_after : List ℕ → ℕ → Option ℕ
+slot_after [] i = None
+slot_after (w ∷ ws) i = cond (eqb (length ws % 4) i) (Some w) (slot_after ws i)
 
 -- The cache at the start of a dump: all slots are empty.
 unfoldable pub empty_cache : Cache
@@ -114,30 +111,30 @@ unfoldable pub push : Cache → ℕ → Cache
 push c w = record { classes = set c.classes (c.pushes % 4) w; pushes = cond (ltb c.pushes 7) (c.pushes + 1) 4 }
 
 -- The class word in slot i, if the slot has been filled.
-unfoldable pub slot : Cache → ℕ → Maybe
-slot c i = cond (ltb i c.pushes) (Just (get_or c.classes i 0)) Nothing
+unfoldable pub slot : Cache → ℕ → Option ℕ
+slot c i = cond (ltb i c.pushes) (Some (get_or c.classes i 0)) None
 
 -- ---- tags and flag bytes
 
 -- The form that a tag begins (docs/FORMAT.md 3.1); `Other` for the end tag and for tags that are refused.
-unfoldable pub tag_form : ℕ → TagForm
+unfoldable pub tag_form : ℕ → Option Form
 tag_form t =
-    cond (leb 0x80 t) (Begins Short)
-    (cond (leb 0x40 t) (Begins Medium)
-    (cond (leb 0x20 t) (Begins Primitive)
-    (cond (eqb t 4) (Begins Long)
-    (cond (eqb t 6) (Begins Class)
-    (cond (eqb t 7) (Begins LongPrimitive)
-    (cond (eqb t 8) (Begins ObjectArray) Other))))))
+    cond (leb 0x80 t) (Some Short)
+    (cond (leb 0x40 t) (Some Medium)
+    (cond (leb 0x20 t) (Some Primitive)
+    (cond (eqb t 4) (Some Long)
+    (cond (eqb t 6) (Some Class)
+    (cond (eqb t 7) (Some LongPrimitive)
+    (cond (eqb t 8) (Some ObjectArray) None))))))
 
 -- The form; a tag that begins no record is refused with 6.
-unfoldable pub need_form : TagForm → Layout Form
-need_form (Begins fm) = yield fm
-need_form Other = refuse 6
+unfoldable pub need_form : Option Form → Layout Form
+need_form (Some fm) = yield fm
+need_form None = refuse 6
 
 -- The class word of a short object, from the slot that its tag names; 0 for other forms, which use no slot.
-unfoldable pub slot_class : Cache → ℕ → Maybe
-slot_class c t = cond (leb 0x80 t) (slot c (t / 0x20 % 4)) (Just 0)
+unfoldable pub slot_class : Cache → ℕ → Option ℕ
+slot_class c t = cond (leb 0x80 t) (slot c (t / 0x20 % 4)) (Some 0)
 
 -- The moved bit of the flag byte f after tag t: 0x02, in a class record 0x08.
 unfoldable pub moved_bit : ℕ → ℕ → Bool
@@ -147,11 +144,15 @@ moved_bit t f = cond (eqb t 6) (bit 0x08 f) (bit 0x02 f)
 unfoldable pub hashed_bit : ℕ → ℕ → Bool
 hashed_bit t f = cond (eqb t 6) false (bit 0x01 f)
 
+-- In an all-hashed dump a flag byte has no moved and no hashed bit.
+abbrev pub flags_allowed : Header → ℕ → ℕ → Bool
+flags_allowed h t f = not (h.hashed && (moved_bit t f || hashed_bit t f))
+
 -- The flag byte if the form has one (tag below 0x20), else 0. In an all-hashed dump a moved or hashed bit is refused with 11.
 unfoldable pub flag_byte : Header → ℕ → Layout ℕ
 flag_byte h t = do
   f ← field (cond (ltb t 0x20) 1 0)
-  check 11 (not (h.hashed && (moved_bit t f || hashed_bit t f)))
+  check 11 (flags_allowed h t f)
   yield f
 
 -- The hash kind (docs/FORMAT.md 3.2): 0 not hashed, 1 hashed but no hash is stored, 2 a stored 32-bit hash, 3 a 16-bit hash.
@@ -274,9 +275,8 @@ row origin hk known sh v m name n t =
     ∷ name.place ∷ name.len ∷ sh.prim ∷ origin.offset ∷ []
 
 -- What reading a record needs from the records before it: the address of the previous one, and the cache.
-pub record RecordContext : Type 0 where
-  pub address : ℕ
-  pub cache : Cache
+abbrev pub RecordContext : Type 0
+RecordContext = Declared.RecordContext
 
 abbrev pub make_context : ℕ → Cache → RecordContext
 make_context a c = record { address = a; cache = c }

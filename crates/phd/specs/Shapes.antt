@@ -1,6 +1,6 @@
 -- Laws of tags and shapes: what a tag of each form is, that a field has at most 8 bytes, and how many bytes a record has.
 -- A reader must believe `record_bytes`.
-use Rattle.std.specs.Prelude.{◌≡◌, refl, ◌⊎◌, Bool, true, false, cond, ℕ, ◌+◌, ◌*◌, ◌/◌, ◌%◌, ◌≤◌, ◌<◌, leb, ltb, eqb}
+use Rattle.std.specs.Prelude.{◌≡◌, refl, ◌⊎◌, Bool, true, false, cond, ℕ, ◌+◌, ◌*◌, ◌/◌, ◌%◌, ◌≤◌, ◌<◌, leb, ltb, eqb, Some, None}
 use Rattle.std.proofs.Common.{subst, inl, inr, mul-le-mul_left, mul-one, arith}
 use Rattle.std.proofs.Math.Nat.{pow-le-pow_right, one-le-pow}
 use Rattle.decode.specs.Values.{bit_le_one}
@@ -9,7 +9,6 @@ use Rattle.phd.specs.Phd.{bit, tag_form, width, shape, hash_bytes}
 use Rattle.phd.specs.declared.Shape.{Shape}
 use Rattle.phd.specs.declared.Form.{Form}
 use Rattle.phd.specs.declared.Form.TheVariants.{Short, Medium, Long, Class, ObjectArray, Primitive, LongPrimitive}
-use Rattle.phd.specs.declared.TagForm.TheVariants.{Begins, Other}
 
 -- W is 32 or 64.
 abbrev pub ValidBits : ℕ → Type 0
@@ -31,16 +30,16 @@ TagMatches LongPrimitive t = (leb 0x80 t ≡ false) × (eqb t 7 ≡ true)
 TagMatches ObjectArray t = (leb 0x80 t ≡ false) × (eqb t 8 ≡ true)
 
 -- A tag that begins a form passes the tests of that form.
-pub tag_matches : (t : ℕ) (fm : Form) → tag_form t ≡ Begins fm → TagMatches fm t
+pub tag_matches : (t : ℕ) (fm : Form) → tag_form t ≡ Some fm → TagMatches fm t
 unfolding tag_form
 tag_matches t fm e = by _ _ _ _ _ _ _ refl refl refl refl refl refl refl e
   where
-    is : {a : Form} → TagMatches a t → Begins a ≡ Begins fm → TagMatches fm t
+    is : {a : Form} → TagMatches a t → Some a ≡ Some fm → TagMatches fm t
     is {a} p d = let z : a ≡ fm = cc in subst (λ (x : Form). TagMatches x t) z p
 
     by : (a b c d e f g : Bool) → leb 0x80 t ≡ a → leb 0x40 t ≡ b → leb 0x20 t ≡ c → eqb t 4 ≡ d → eqb t 6 ≡ e → eqb t 7 ≡ f → eqb t 8 ≡ g
-        → cond a (Begins Short) (cond b (Begins Medium) (cond c (Begins Primitive) (cond d (Begins Long) (cond e (Begins Class)
-        (cond f (Begins LongPrimitive) (cond g (Begins ObjectArray) Other)))))) ≡ Begins fm
+        → cond a (Some Short) (cond b (Some Medium) (cond c (Some Primitive) (cond d (Some Long) (cond e (Some Class)
+        (cond f (Some LongPrimitive) (cond g (Some ObjectArray) None)))))) ≡ Some fm
         → TagMatches fm t
     by true b c d e f g p q r s u v w x = is {a = Short} p x
     by false true c d e f g p q r s u v w x = is {a = Medium} (p, q) x

@@ -2,12 +2,10 @@
 ghost use Rattle.std.specs.Prelude.{◌≡◌, cond, ◌<◌};
 ghost use Rattle.phd.specs.Phd.{empty_cache, push as push_of, slot as slot_of};
 
-use decode::Maybe;
-
 // The class cache (the scope paper's term; docs/FORMAT.md 3.5): the class words in its four slots, and the count of pushes,
 // 0 to 7, where each of 4 to 7 represents all counts from 4 on that are equal to it modulo 4. The slots are chosen by constant indexes, so
 // that they can be kept in registers.
-#[derive(Clone, Copy)]
+#[derive(Clone, Copy, Debug, PartialEq, Eq)]
 pub struct Cache {
     pub classes: [u64; 4],
     pub pushes: usize,
@@ -15,6 +13,7 @@ pub struct Cache {
 
 impl Cache {
     // Returns the empty cache.
+    #[tactic(auto, unfolding(crate::specs::Phd::empty_cache))]
     pub fn new() -> Self
         ensures { result ≡ empty_cache }
     {
@@ -37,15 +36,9 @@ impl Cache {
             decode::choice(at == 2, class, before[2]),
             decode::choice(at == 3, class, before[3]),
         ];
-        if pushes < 7 {
-            return Cache {
-                classes: classes,
-                pushes: pushes + 1,
-            };
-        }
         Cache {
-            classes: classes,
-            pushes: 4,
+            classes,
+            pushes: if pushes < 7 { pushes + 1 } else { 4 },
         }
     }
 
@@ -53,14 +46,11 @@ impl Cache {
     pub fn push_if(self, cached: bool, class: u64) -> Self
         ensures { result ≡ cond cached (push_of self class) self }
     {
-        if cached {
-            return self.push(class);
-        }
-        self
+        if cached { self.push(class) } else { self }
     }
 
     // Returns the class word in slot i, if the slot has been filled.
-    pub fn slot(self, i: usize) -> Maybe
+    pub fn slot(self, i: usize) -> Option<u64>
         requires { i < 4 }
         ensures { result ≡ slot_of self i }
     {
@@ -68,9 +58,9 @@ impl Cache {
             let classes = self.classes;
             let low = decode::choice(i == 0, classes[0], classes[1]);
             let high = decode::choice(i == 2, classes[2], classes[3]);
-            Maybe::Just(decode::choice(i < 2, low, high))
+            Some(decode::choice(i < 2, low, high))
         } else {
-            Maybe::Nothing
+            None
         }
     }
 }

@@ -12,7 +12,7 @@ pub use cache::Cache;
 
 // The header: W (the scope paper's term: 32 or 64), whether all objects are hashed, whether the dump is from OpenJ9, and the
 // VM string.
-#[derive(Clone, Copy)]
+#[derive(Clone, Copy, Debug, PartialEq, Eq)]
 pub struct Header {
     pub bits: u64,
     pub hashed: bool,
@@ -21,7 +21,7 @@ pub struct Header {
 }
 
 // The seven forms of a record (record: the scope paper's term; docs/FORMAT.md 3.1).
-#[derive(Clone, Copy)]
+#[derive(Clone, Copy, Debug, PartialEq, Eq)]
 pub enum Form {
     Short,
     Medium,
@@ -32,15 +32,8 @@ pub enum Form {
     LongPrimitive,
 }
 
-// What a tag begins: a record of a form, or none (the end tag and tags that are refused).
-#[derive(Clone, Copy)]
-pub enum TagForm {
-    Begins(Form),
-    Other,
-}
-
 // The shape of a record: the bytes of each field, 0 for one that it lacks (docs/FORMAT.md 3.3).
-#[derive(Clone, Copy)]
+#[derive(Clone, Copy, Debug, PartialEq, Eq)]
 pub struct Shape {
     // 1 class, 2 object, 3 object array, 4 primitive array
     pub kind: u64,
@@ -64,14 +57,14 @@ pub struct Shape {
 }
 
 // The position of a record: the offset of its tag in the dump, and the number of references of all records before it.
-#[derive(Clone, Copy)]
+#[derive(Clone, Copy, Debug, PartialEq, Eq)]
 pub struct Origin {
     pub offset: usize,
     pub index: u64,
 }
 
 // The first numbers of a record: address, class word (the scope paper's term: the address of its class) and array length.
-#[derive(Clone, Copy)]
+#[derive(Clone, Copy, Debug, PartialEq, Eq)]
 pub struct Front {
     pub address: u64,
     pub class: u64,
@@ -79,15 +72,22 @@ pub struct Front {
 }
 
 // The next numbers, up to the name: instance size of a class, hash and superclass word.
-#[derive(Clone, Copy)]
+#[derive(Clone, Copy, Debug, PartialEq, Eq)]
 pub struct Middle {
     pub inst: u64,
     pub hash: u64,
     pub superclass: u64,
 }
 
-// The position of a record's references: the offset of the first, the bytes of each, and their number.
+// What reading a record needs from the records before it: the address of the previous one, and the class cache.
 #[derive(Clone, Copy)]
+pub struct RecordContext {
+    pub address: u64,
+    pub cache: Cache,
+}
+
+// The position of a record's references: the offset of the first, the bytes of each, and their number.
+#[derive(Clone, Copy, Debug, PartialEq, Eq)]
 pub struct Span {
     pub place: usize,
     pub width: usize,
@@ -95,7 +95,7 @@ pub struct Span {
 }
 
 // The numbers of an array after its references: size and true length.
-#[derive(Clone, Copy)]
+#[derive(Clone, Copy, Debug, PartialEq, Eq)]
 pub struct Tail {
     pub size: u64,
     pub truelen: u64,

@@ -5,6 +5,7 @@
 
 ghost use Rattle.std.specs.Prelude.{◌≡◌, length};
 ghost use Rattle.table.specs.Buffer.{overwrite};
+ghost use Rattle.table.specs.Refusals.{answer_of};
 ghost use Rattle.table.specs.Rows.{rows_of};
 ghost use Rattle.summaries.specs.Summaries.{summaries};
 ghost use Rattle.phd.specs.Phd.{read_result};
@@ -12,37 +13,29 @@ ghost use Rattle.phd_read.specs.ReadContract.{read_answer};
 ghost use Rattle.classes_read.specs.ClassesRead.{classes_result, classes_answer};
 ghost use Rattle.phd_write.specs.Write.{write_result, write_size_result};
 ghost use Rattle.classic.specs.ClassicText.{text_result, text_size_result};
-ghost use Rattle.phd_c.specs.Boundary.{flag as flag_of, header_from, read_answer_numbers, classes_answer_numbers, answer_numbers};
+ghost use Rattle.phd_c.specs.Boundary.{header_from, read_answer_numbers, classes_answer_numbers, answer_numbers};
 
 use classes_read::ClassesAnswer;
 use decode::StringSpan;
 use phd::Header;
+use phd_check::Tables;
 use phd_read::ReadAnswer;
 use summaries::Summary;
-use table::Answer;
+use table::{Answer, Refusal};
 
-// Returns a flag as a number: 1 if it is set, else 0.
-fn flag(set: bool) -> u64
-    ensures { result ≡ flag_of set }
-{
-    if set {
-        return 1;
-    }
-    0
-}
-
-// Returns the header that the caller passes as six numbers.
+// Returns the header that the caller passes as six numbers. It is no `From`: neither type is of this crate.
 fn header_from(h: &[u64; 6]) -> Header
     ensures { result ≡ header_from h.now }
 {
+    let [bits, hashed, openj9, present, place, len] = *h;
     Header {
-        bits: h[0],
-        hashed: h[1] != 0,
-        openj9: h[2] != 0,
+        bits,
+        hashed: hashed != 0,
+        openj9: openj9 != 0,
         vm: StringSpan {
-            present: h[3] != 0,
-            place: h[4] as usize,
-            len: h[5] as usize,
+            present: present != 0,
+            place: place as usize,
+            len: len as usize,
         },
     }
 }
@@ -59,9 +52,9 @@ fn read_answer_numbers(r: ReadAnswer) -> [u64; 16]
         r.rows as u64,
         r.refs as u64,
         f.bits,
-        flag(f.hashed),
-        flag(f.openj9),
-        flag(vm.present),
+        u64::from(f.hashed),
+        u64::from(f.openj9),
+        u64::from(vm.present),
         vm.place as u64,
         vm.len as u64,
         r.missing as u64,
@@ -77,24 +70,20 @@ fn read_answer_numbers(r: ReadAnswer) -> [u64; 16]
 fn answer_numbers(w: Answer) -> [u64; 16]
     ensures { result ≡ answer_numbers w }
 {
-    [
-        w.reply,
-        w.place as u64,
-        0,
-        0,
-        0,
-        0,
-        0,
-        0,
-        0,
-        0,
-        0,
-        0,
-        0,
-        0,
-        0,
-        0,
-    ]
+    let mut numbers = [0; 16];
+    numbers[0] = w.reply;
+    numbers[1] = w.place as u64;
+    numbers
+}
+
+// Fills in the answer of a write or of a size query, and returns the reply.
+fn store_answer(answer: &mut [u64; 16], written: Result<usize, Refusal>) -> u64
+    ensures is { result ≡ (answer_of written).reply }
+    ensures answer { answer.new ≡ answer_numbers (answer_of written) }
+{
+    let w = Answer::from(written);
+    *answer = answer_numbers(w);
+    w.reply
 }
 
 // Reads a dump into the caller's tables. Returns the reply, as do all functions below.
@@ -157,9 +146,16 @@ pub extern "C" fn phd_write_size(
     ensures is { result ≡ (write_size_result (header_from header.now) names.now refs.now rows.now).reply }
     ensures answer { answer.new ≡ answer_numbers (write_size_result (header_from header.now) names.now refs.now rows.now) }
 {
-    let w = phd_write::write_size(header_from(header), rows, refs, names);
-    *answer = answer_numbers(w);
-    w.reply
+    let header = header_from(header);
+    store_answer(
+        answer,
+        phd_write::write_size(Tables {
+            header,
+            rows,
+            refs,
+            names,
+        }),
+    )
 }
 
 // Writes the caller's tables as a dump.
@@ -176,9 +172,19 @@ pub extern "C" fn phd_write(
     ensures out { out.new ≡ overwrite out.old (write_result (header_from header.now) names.now refs.now rows.now (length out.old)).bytes }
     ensures answer { answer.new ≡ answer_numbers (write_result (header_from header.now) names.now refs.now rows.now (length out.old)).answer }
 {
-    let w = phd_write::write(header_from(header), rows, refs, names, out);
-    *answer = answer_numbers(w);
-    w.reply
+    let header = header_from(header);
+    store_answer(
+        answer,
+        phd_write::write(
+            Tables {
+                header,
+                rows,
+                refs,
+                names,
+            },
+            out,
+        ),
+    )
 }
 
 // Computes how many bytes `phd_text` would write (size query).
@@ -193,9 +199,16 @@ pub extern "C" fn phd_text_size(
     ensures is { result ≡ (text_size_result (header_from header.now) names.now refs.now rows.now).reply }
     ensures answer { answer.new ≡ answer_numbers (text_size_result (header_from header.now) names.now refs.now rows.now) }
 {
-    let w = classic_write::text_size(header_from(header), rows, refs, names);
-    *answer = answer_numbers(w);
-    w.reply
+    let header = header_from(header);
+    store_answer(
+        answer,
+        classic_write::text_size(Tables {
+            header,
+            rows,
+            refs,
+            names,
+        }),
+    )
 }
 
 // Writes the caller's tables as classic text.
@@ -212,7 +225,17 @@ pub extern "C" fn phd_text(
     ensures out { out.new ≡ overwrite out.old (text_result (header_from header.now) names.now refs.now rows.now (length out.old)).bytes }
     ensures answer { answer.new ≡ answer_numbers (text_result (header_from header.now) names.now refs.now rows.now (length out.old)).answer }
 {
-    let w = classic_write::text(header_from(header), rows, refs, names, out);
-    *answer = answer_numbers(w);
-    w.reply
+    let header = header_from(header);
+    store_answer(
+        answer,
+        classic_write::text(
+            Tables {
+                header,
+                rows,
+                refs,
+                names,
+            },
+            out,
+        ),
+    )
 }

@@ -1,6 +1,6 @@
 -- Laws of the tests of GoodRows, in the form in which the functions compute them.
 -- Assumes nothing.
-use mathlib.Core.Path.{◌≡◌, refl, sym}
+use mathlib.Core.Path.{◌≡◌, refl, sym, ap, ◌∙◌}
 use mathlib.Core.Bool.{Bool, true, false, not, ◌&&◌, ◌||◌, cond, and-true, and_assoc}
 use mathlib.Core.List.{List, [], ◌∷◌}
 use Prim.Native.Nat.{ℕ, zero, suc, ◌+◌, ◌-◌, ◌^◌, ◌≤◌, ◌<◌}
@@ -18,9 +18,9 @@ use Rattle.phd.specs.declared.Header.{Header}
 use Rattle.decode.specs.Slices.{slice_until}
 use Rattle.decode.specs.Values.{and_left, and_right}
 use Rattle.table.specs.Rows.{row_at, refs_of, name_of, rows_left, rows_left_next, rows_left_none}
-use Rattle.phd_check.specs.GoodRows.{all_true, good_vm, good_numbers, good_ref, good_refs, good_row, first_bad_from}
+use Rattle.phd_check.specs.GoodRows.{all_true, good_vm, good_class, good_object, good_array, good_primitive, good_kind, good_numbers, good_ref, good_refs, good_row, first_bad_from}
 use Rattle.table.specs.declared.Row.{Row}
-use Rattle.table.specs.declared.Search.TheVariants.{At, NotFound}
+use Rattle.std.specs.Prelude.{Some, None}
 
 -- ---- lists of tests
 
@@ -98,11 +98,6 @@ hash_none k v n = by (ltb k 2) refl
 -- ---- VM string, if present
 
 module _ (names : List ℕ) (t : StringSpan) (there : t.present ≡ true) where
-  -- A VM string of 65,536 bytes or more is not good.
-  pub vm_too_long : 65536 ≤ t.len → false ≡ good_vm names t
-  unfolding good_vm
-  vm_too_long h = rw there (sym (all_true_false _ 0 (le-ltb _ _ h)))
-
   -- A VM string that does not lie within the name bytes is not good.
   pub vm_out_of_bounds : length names < t.place + t.len → false ≡ good_vm names t
   unfolding good_vm
@@ -112,6 +107,24 @@ module _ (names : List ℕ) (t : StringSpan) (there : t.present ≡ true) where
   pub vm_by_bytes : t.len < 65536 → t.place + t.len ≤ length names → all_within 0x20 0x7E (take t.len (drop t.place names)) ≡ good_vm names t
   unfolding good_vm all_true
   vm_by_bytes h k = rw (there, lt-ltb _ _ h, le-leb _ _ k) (sym (and-true _))
+
+  -- If its numbers fail a test, it is not good.
+  pub vm_numbers_bad : t.len ≤ length names → ltb t.len 65536 && leb t.place (length names - t.len) ≡ false → false ≡ good_vm names t
+  unfolding good_vm
+  vm_numbers_bad l e =
+      let w : Bool = all_within 0x20 0x7E (take t.len (drop t.place names)) in
+      let b : Bool = leb (t.place + t.len) (length names) in
+      rw there
+      (sym (sym (all_of_all_true (ltb t.len 65536) (b ∷ w ∷ [])) ∙ ap (λ x. x && w) (ap (λ y. ltb t.len 65536 && y) (sym (leb_sum t.place t.len (length names) l)) ∙ e)))
+
+-- ---- kinds
+
+-- The conditions of a row of kind k.
+pub kind_at : (available : ℕ) (r : Row) (k : ℕ) → r.kind ≡ k → good_kind available r
+    ≡ cond (eqb k 1) (good_class available r) (cond (eqb k 2) (good_object r) (cond (eqb k 3) (good_array r) (cond (eqb k 4) (good_primitive r) false)))
+unfolding good_kind
+kind_at available r k e =
+    ap (λ n. cond (eqb n 1) (good_class available r) (cond (eqb n 2) (good_object r) (cond (eqb n 3) (good_array r) (cond (eqb n 4) (good_primitive r) false)))) e
 
 -- ---- references of the table
 
@@ -141,6 +154,35 @@ unfolding refs_of
 good_refs_of top refs r e = good_refs_take top r.count _ (good_refs_drop top r.first refs e)
 
 -- ---- first bad row
+
+-- The rows of a table from index i on, if row i exists.
+module _ (h : Header) (names refs rows : List ℕ) (i index : ℕ) (l : i < row_count rows) where
+  -- The first bad row is row i if that is bad, else the first bad one after it.
+  first_bad_step : first_bad_from h names refs i index (rows_left rows i)
+      ≡ cond (good_row h names refs index (row_at rows i)) (first_bad_from h names refs (i + 1) (index + (row_at rows i).count) (rows_left rows (i + 1))) (Some i)
+  unfolding first_bad_from
+  first_bad_step = rw (rows_left_next rows i l, add-one)
+
+  -- If row i is bad, it is the first bad row.
+  pub first_bad_here : good_row h names refs index (row_at rows i) ≡ false → first_bad_from h names refs i index (rows_left rows i) ≡ Some i
+  first_bad_here e = rw (first_bad_step, e)
+
+  -- If row i is good, the first bad row is among those after it.
+  pub first_bad_later : good_row h names refs index (row_at rows i) ≡ true
+      → first_bad_from h names refs i index (rows_left rows i) ≡ first_bad_from h names refs (i + 1) (index + (row_at rows i).count) (rows_left rows (i + 1))
+  first_bad_later e = rw (first_bad_step, e)
+
+-- If no row is left, none is bad.
+pub first_bad_end : (h : Header) (names refs rows : List ℕ) (i index : ℕ) → row_count rows ≤ i → first_bad_from h names refs i index (rows_left rows i) ≡ None
+unfolding first_bad_from
+first_bad_end h names refs rows i index l = rw (rows_left_none rows i l)
+
+-- The references from the first of the row to before its last are all of the row.
+pub refs_of_slice : (refs : List ℕ) (r : Row) → take (r.first + r.count - r.first) (drop r.first refs) ≡ refs_of refs r
+unfolding refs_of
+refs_of_slice refs r = let e : r.first + r.count - r.first ≡ r.count = omega arith in rw e
+
+-- ---- the loops over a row's references and name bytes
 
 -- The references from j on are good exactly if the one at j and those after it are.
 good_refs_step : (refs : List ℕ) (top j last : ℕ) → j < last → last ≤ length refs
@@ -190,38 +232,11 @@ pub name_bytes_next : (names : List ℕ) (k end : ℕ) → k < end → end ≤ l
     → all_within 0x21 0x7E (take (end - k) (drop k names)) ≡ all_within 0x21 0x7E (take (end - (k + 1)) (drop (k + 1) names))
 name_bytes_next names k end h in_bounds e = rw (name_bytes_step names k end h in_bounds, e)
 
--- The rows of a table from index i on, if row i exists.
-module _ (h : Header) (names refs rows : List ℕ) (i index : ℕ) (l : i < row_count rows) where
-  -- The first bad row is row i if that is bad, else the first bad one after it.
-  first_bad_step : first_bad_from h names refs i index (rows_left rows i)
-      ≡ cond (good_row h names refs index (row_at rows i)) (first_bad_from h names refs (i + 1) (index + (row_at rows i).count) (rows_left rows (i + 1))) (At i)
-  unfolding first_bad_from
-  first_bad_step = rw (rows_left_next rows i l, add-one)
-
-  -- If row i is bad, it is the first bad row.
-  pub first_bad_here : good_row h names refs index (row_at rows i) ≡ false → first_bad_from h names refs i index (rows_left rows i) ≡ At i
-  first_bad_here e = rw (first_bad_step, e)
-
-  -- If row i is good, the first bad row is among those after it.
-  pub first_bad_later : good_row h names refs index (row_at rows i) ≡ true
-      → first_bad_from h names refs i index (rows_left rows i) ≡ first_bad_from h names refs (i + 1) (index + (row_at rows i).count) (rows_left rows (i + 1))
-  first_bad_later e = rw (first_bad_step, e)
-
--- If no row is left, none is bad.
-pub first_bad_end : (h : Header) (names refs rows : List ℕ) (i index : ℕ) → row_count rows ≤ i → first_bad_from h names refs i index (rows_left rows i) ≡ NotFound
-unfolding first_bad_from
-first_bad_end h names refs rows i index l = rw (rows_left_none rows i l)
-
 -- A row is good if its numbers, its references and its name bytes are.
 pub good_row_by_parts : (h : Header) (names refs : List ℕ) (index : ℕ) (r : Row) → good_numbers h index (length refs) (length names) r ≡ true
     → good_refs (max_address h.bits) (refs_of refs r) ≡ true → all_within 0x21 0x7E (name_of names r) ≡ true → good_row h names refs index r ≡ true
 unfolding good_row all_true
 good_row_by_parts h names refs index r e f g = rw (e, f, g)
-
--- The slice with which the loop over the references begins is all references of the row.
-pub refs_of_slice : (refs : List ℕ) (r : Row) → take (r.first + r.count - r.first) (drop r.first refs) ≡ refs_of refs r
-unfolding refs_of
-refs_of_slice refs r = let e : r.first + r.count - r.first ≡ r.count = omega arith in rw e
 
 -- The slice with which the loop over the name begins is the whole name.
 pub name_of_slice : (names : List ℕ) (r : Row) → take (r.place + r.namelen - r.place) (drop r.place names) ≡ name_of names r

@@ -1,14 +1,12 @@
 -- Which header and which rows may be written (docs/FORMAT.md 6.1). The classic text has the same conditions.
 -- A reader must believe these tests.
-use Rattle.std.specs.Prelude.{◌≡◌, ℕ, suc, ◌+◌, ◌%◌, ◌^◌, Bool, true, false, not, cond, ◌&&◌, ◌||◌, List, [], ◌∷◌, length, take, drop, leb, ltb, eqb}
+use Rattle.std.specs.Prelude.{◌≡◌, ℕ, suc, ◌+◌, ◌%◌, ◌^◌, Bool, true, false, not, cond, ◌&&◌, ◌||◌, List, [], ◌∷◌, length, take, drop, leb, ltb, eqb, Option, Some, None}
 use Rattle.decode.specs.Numbers.{all_within}
 use Rattle.decode.specs.declared.StringSpan.{StringSpan}
 use Rattle.phd.specs.Phd.{max_address, hash_bytes}
 use Rattle.phd.specs.declared.Header.{Header}
 use Rattle.table.specs.Rows.{refs_of, name_of}
 use Rattle.table.specs.declared.Row.{Row}
-use Rattle.table.specs.declared.Search.TheVariants.{At, NotFound}
-use Rattle.table.specs.declared.Search.{Search}
 
 -- Every test in the list holds.
 unfoldable pub all_true : List Bool → Bool
@@ -104,15 +102,15 @@ good_row h names refs index r = all_true (
     ∷ all_within 0x21 0x7E (name_of names r) ∷ [])
 
 -- The index of the first bad row, if there is one; the first row has index i, and its references begin at `index`.
-unfoldable pub first_bad_from : Header → (names refs : List ℕ) → ℕ → ℕ → List Row → Search
-first_bad_from h names refs i index [] = NotFound
+unfoldable pub first_bad_from : Header → (names refs : List ℕ) → ℕ → ℕ → List Row → Option ℕ
+first_bad_from h names refs i index [] = None
 first_bad_from h names refs i index (r ∷ rows) =
-    cond (good_row h names refs index r) (first_bad_from h names refs (suc i) (index + r.count) rows) (At i)
+    cond (good_row h names refs index r) (first_bad_from h names refs (suc i) (index + r.count) rows) (Some i)
 
 -- The index of the first bad row of a table, if there is one.
-abbrev pub first_bad : Header → (names refs : List ℕ) → List Row → Search
+abbrev pub first_bad : Header → (names refs : List ℕ) → List Row → Option ℕ
 first_bad h names refs rows = first_bad_from h names refs 0 0 rows
 
 -- The header is good and no row is bad.
 abbrev pub TablesGood : Header → (names refs : List ℕ) → List Row → Type 0
-TablesGood h names refs rows = (good_header h names rows refs ≡ true) × (first_bad h names refs rows ≡ NotFound)
+TablesGood h names refs rows = (good_header h names rows refs ≡ true) × (first_bad h names refs rows ≡ None)

@@ -2,7 +2,7 @@
 -- Assumes nothing.
 use Rattle.std.proofs.Math.Path.{◌≡◌, refl}
 use Rattle.std.proofs.Math.Logic.{inl, inr}
-use Rattle.std.specs.Prelude.{ℕ, zero, suc, ◌+◌, ◌%◌, ◌^◌, ◌≤◌, ◌<◌, ◌||◌, List, [], ◌∷◌, eqb, length, get_or}
+use Rattle.std.specs.Prelude.{ℕ, zero, suc, ◌+◌, ◌%◌, ◌^◌, ◌≤◌, ◌<◌, ◌||◌, List, [], ◌∷◌, eqb, length, get_or, Option, Some, None}
 use native.Mathlib.Omega.{arith}
 use Rattle.std.proofs.Math.Bool.{Bool, true, false, cond}
 use Rattle.std.proofs.Math.Dec.{ltb}
@@ -18,8 +18,6 @@ use Rattle.table.specs.Table.{row_count}
 use Rattle.table.specs.Rows.{rows_of, length_rows, All, Rec, refs_of, name_of, without_place, rec_of}
 use Rattle.phd_check.specs.GoodRows.{all_true, good_vm, good_header, good_hash, good_class, no_name, good_object, good_array, good_primitive, good_kind, good_addresses, good_span, good_numbers, good_ref, good_refs, good_row, first_bad_from, first_bad, vm_text}
 use Rattle.table.specs.declared.Row.{Row}
-use Rattle.table.specs.declared.Search.TheVariants.{At, NotFound}
-use Rattle.table.specs.declared.Search.{Search}
 
 -- A good reference: a multiple of 4 in 1 to `top`.
 pub record GoodRef (top a : ℕ) : Type 0 where
@@ -159,7 +157,7 @@ module _ (h : Header) (names refs : List ℕ) (index : ℕ) (r : Row) (g : good_
 
 -- A good row.
 module _ (h : Header) (names refs : List ℕ) (index : ℕ) (r : Row) (g : good_row h names refs index r ≡ true) where
-  row_numbers_good : good_numbers h index (length refs) (length names) r ≡ true
+  pub row_numbers_good : good_numbers h index (length refs) (length names) r ≡ true
   unfolding good_row
   row_numbers_good = all_true_at _ g 0
 
@@ -195,25 +193,25 @@ module _ (h : Header) (names refs : List ℕ) (index : ℕ) (r : Row) (g : good_
 -- ---- tables without a bad row
 
 -- If a step of the search finds nothing, its row passed the test and the later rows give nothing.
-none_found : (b : Bool) (x : Search) (i : ℕ) → cond b x (At i) ≡ NotFound → (b ≡ true) × (x ≡ NotFound)
+none_found : (b : Bool) (x : Option ℕ) (i : ℕ) → cond b x (Some i) ≡ None → (b ≡ true) × (x ≡ None)
 none_found true x i e = (refl, e)
 none_found false x i e = let z : ◌≡◌ {A = ℕ} 0 1 = cc in absurd (omega arith)
 
 -- If no row is bad, the first row is good and none of the others is bad.
-pub none_bad : (h : Header) (names refs : List ℕ) (i index : ℕ) (r : Row) (rows : List Row) → first_bad_from h names refs i index (r ∷ rows) ≡ NotFound
-    → (good_row h names refs index r ≡ true) × (first_bad_from h names refs (suc i) (index + r.count) rows ≡ NotFound)
+pub none_bad : (h : Header) (names refs : List ℕ) (i index : ℕ) (r : Row) (rows : List Row) → first_bad_from h names refs i index (r ∷ rows) ≡ None
+    → (good_row h names refs index r ≡ true) × (first_bad_from h names refs (suc i) (index + r.count) rows ≡ None)
 unfolding first_bad_from
 none_bad h names refs i index r rows e = none_found (good_row h names refs index r) _ i e
 
 -- If no row is bad, a property P of good rows holds of every row.
 module _ (h : Header) (names refs : List ℕ) (P : Row → Type 0) (f : (index : ℕ) (r : Row) → good_row h names refs index r ≡ true → P r) where
-  each_from : (rows : List Row) (i index : ℕ) → first_bad_from h names refs i index rows ≡ NotFound → All P rows
+  each_from : (rows : List Row) (i index : ℕ) → first_bad_from h names refs i index rows ≡ None → All P rows
   each_from [] i index e = tt
   each_from (r ∷ rows) i index e =
       let b = none_bad h names refs i index r rows e in
       (f index r b.0, each_from rows (suc i) (index + r.count) b.1)
 
-  pub each_row : (rows : List Row) → first_bad h names refs rows ≡ NotFound → All P rows
+  pub each_row : (rows : List Row) → first_bad h names refs rows ≡ None → All P rows
   each_row rows e = each_from rows 0 0 e
 
 -- ---- good headers

@@ -4,19 +4,20 @@ ghost use Rattle.phd.specs.Shapes.{ValidBits};
 ghost use Rattle.phd_check.specs.GoodRows.{good_hash, good_class, no_name, good_object, good_array, good_primitive, good_kind, good_addresses, good_span, good_numbers, good_ref};
 
 use phd::Header;
-use table::Row;
+use table::{Kind, Row};
 
 // Checks the hash kind and the hash; `hashed` is whether the dump is all-hashed.
+#[tactic(auto, using(crate::proofs::CheckLaws::hash_3, crate::proofs::CheckLaws::hash_2, crate::proofs::CheckLaws::hash_none), unfolding(crate::specs::GoodRows::good_hash))]
 fn hash_good(hashed: bool, r: Row) -> bool
     ensures { result ≡ good_hash hashed r }
 {
     if hashed {
-        return (r.hashkind == 3) & (r.hash < 0x1_0000);
+        (r.hashkind == 3) & (r.hash < 0x1_0000)
+    } else if r.hashkind == 2 {
+        r.hash < 0x1_0000_0000
+    } else {
+        (r.hashkind < 2) & (r.hash == 0)
     }
-    if r.hashkind == 2 {
-        return r.hash < 0x1_0000_0000;
-    }
-    (r.hashkind < 2) & (r.hash == 0)
 }
 
 // Checks the conditions specific to classes; `available` is the number of name bytes.
@@ -24,6 +25,7 @@ fn class_good(available: usize, r: Row) -> bool
     ensures { result ≡ good_class available r }
 {
     let n = available as u64;
+    // The guard stays in front: the difference below needs it.
     if n < r.namelen {
         return false;
     }
@@ -37,6 +39,7 @@ fn class_good(available: usize, r: Row) -> bool
 }
 
 // Checks whether the row has no name: place and length are 0.
+#[tactic(auto, unfolding(crate::specs::GoodRows::no_name))]
 fn name_absent(r: Row) -> bool
     ensures { result ≡ no_name r }
 {
@@ -77,19 +80,13 @@ fn primitive_good(r: Row) -> bool
 fn kind_good(available: usize, r: Row) -> bool
     ensures { result ≡ good_kind available r }
 {
-    if r.kind == 1 {
-        return class_good(available, r);
+    match Kind::of(r.kind) {
+        Some(Kind::Class) => class_good(available, r),
+        Some(Kind::Object) => object_good(r),
+        Some(Kind::ObjectArray) => array_good(r),
+        Some(Kind::PrimitiveArray) => primitive_good(r),
+        None => false,
     }
-    if r.kind == 2 {
-        return object_good(r);
-    }
-    if r.kind == 3 {
-        return array_good(r);
-    }
-    if r.kind == 4 {
-        return primitive_good(r);
-    }
-    false
 }
 
 // Checks the address and the class word; `top` is the highest address.
@@ -104,6 +101,7 @@ fn span_good(index: u64, available: usize, r: Row) -> bool
     ensures { result ≡ good_span index available r }
 {
     let n = available as u64;
+    // The guard stays in front: the difference below needs it.
     if n < r.count {
         return false;
     }

@@ -1,6 +1,6 @@
 -- The rows of a batch: how many there are, that their numbers are small, that the rows before them are kept, and how many keys they have.
 -- Assumes nothing.
-use Rattle.std.specs.Prelude.{◌≡◌, refl, ◌⊎◌, ℕ, zero, suc, ◌+◌, ◌-◌, ◌*◌, ◌^◌, ◌≤◌, ◌<◌, false, length, take, drop}
+use Rattle.std.specs.Prelude.{◌≡◌, refl, ◌⊎◌, ℕ, zero, suc, ◌+◌, ◌-◌, ◌*◌, ◌^◌, ◌≤◌, ◌<◌, length, take, drop}
 use Rattle.std.proofs.Common.{sym, ap, ◌∙◌, inl, inr, length-append, take-append-drop, length-take-le, take-add, get_or-take}
 use native.Mathlib.Omega.{arith}
 use mathlib.Core.List.{List, [], ◌∷◌, ◌++◌, append-nil}
@@ -9,10 +9,8 @@ use Rattle.table.specs.Buffer.{overwrite}
 use Rattle.table.specs.Table.{row_width, row_count, number}
 use Rattle.table.specs.Rows.{zero_row, rows_of, nth, row_at, length_rows, nth_row, rows_of_snoc}
 use Rattle.table.specs.declared.Row.{Row}
-use Rattle.summaries.specs.Summaries.{keys}
+use Rattle.summaries.specs.Summaries.{keyed, keys}
 use Rattle.summaries.specs.SummaryKeys.{keys_append, keys_next}
-use Rattle.summary_pass.specs.PassState.{keys_counted}
-use Rattle.summary_pass.specs.declared.Pass.{Pass}
 use Rattle.summaries.specs.KeyCounts.{keys_from_length}
 use Rattle.summaries.specs.EntryBounds.{SmallRow}
 use Rattle.phd.specs.Phd.{limit, phd, State, read_result, capacity}
@@ -27,7 +25,7 @@ use Rattle.phd_read.specs.PhdSteps.{cursor_of, ManySteps, Continued, initial_cur
 use Rattle.phd_read.specs.SizeBounds.{SizeInBounds, read_sizes_in_bounds}
 use Rattle.phd_read.specs.declared.records.Cursor.{Cursor}
 use Rattle.classes_read.specs.RowLists.{rows_of_take, rows_of_prefix}
-use Rattle.phd_classes.specs.ReadState.{Opened, FittingRecord, EntryNeeded}
+use Rattle.phd_classes.specs.ReadState.{Opened, FittingRecord}
 use Rattle.phd_classes.specs.PassRows.{same_rows}
 use Rattle.phd_classes.specs.EndResults.{here, read_here, in_table}
 
@@ -157,15 +155,16 @@ module _ {h : Header} {dump rows refs rows' refs' : List ℕ} {k k' : Cursor} {u
       most (inr q) = omega arith
 
   -- The keys of the rows up to the end of the batch fit a list of C entries.
-  pub batch_keys : (C : ℕ) (p : Pass) → keys_counted rows p ≡ keys (take k.rows (rows_of rows)) → k.refs ≤ length refs → length (keys (take k.rows (rows_of rows))) ≤ C
-      → (length (keys (take k.rows (rows_of rows))) + upto ≤ k.rows + C) ⊎ ((upto ≡ k.rows + 1) × EntryNeeded h dump rows refs p k false)
+  pub batch_keys : (C : ℕ) → k.refs ≤ length refs → length (keys (take k.rows (rows_of rows))) ≤ C
+      → (length (keys (take k.rows (rows_of rows))) + upto ≤ k.rows + C)
+      ⊎ ((upto ≡ k.rows + 1) × ((row : List ℕ) → FittingRecord h dump rows refs k row → length (keyed (row_at row 0) (keys (take k.rows (rows_of rows)))) ≤ length (keys (take k.rows (rows_of rows)))))
       → length (keys (take k'.rows (rows_of rows'))) ≤ C
-  batch_keys C p same r_in fits (inl l) = let m = keys_more in let r = c.steps.rows_le in most c.at_most
+  batch_keys C r_in fits (inl l) = let m = keys_more in let r = c.steps.rows_le in most c.at_most
     where
       most : (k'.rows ≤ upto) ⊎ (k'.rows ≡ k.rows) → length (keys (take k'.rows (rows_of rows'))) ≤ C
       most (inl q) = let m = keys_more in let r = c.steps.rows_le in omega arith
       most (inr q) = let m = keys_more in omega arith
-  batch_keys C p same r_in fits (inr (u, none)) = by c.steps.begins
+  batch_keys C r_in fits (inr (u, none)) = by c.steps.begins
     where
       by : NoStep (cursor_of k) rows refs rows' refs' (cursor_of k') ⊎ FirstStep phd h dump (cursor_of k) rows refs rows' (cursor_of k') → length (keys (take k'.rows (rows_of rows'))) ≤ C
       by (inl n) =
@@ -174,4 +173,4 @@ module _ {h : Header} {dump rows refs rows' refs' : List ℕ} {k k' : Cursor} {u
           omega arith
       by (inr f) =
           let g = none f.item.row (fitting f r_in) in
-          rw (one_row u f r_in, keys_next (take k.rows (rows_of rows)) (row_at f.item.row 0)) (let z = rw same at g in omega arith)
+          rw (one_row u f r_in, keys_next (take k.rows (rows_of rows)) (row_at f.item.row 0)) (omega arith)

@@ -2,45 +2,49 @@
 -- Assumes nothing.
 use Rattle.std.proofs.Math.Path.{◌≡◌, refl, sym}
 use Rattle.std.proofs.Common.{◌∙◌, add-one, take-suc, take-add}
-use Rattle.std.specs.Prelude.{ℕ, suc, ◌+◌, ◌-◌, ◌≤◌, ◌<◌, Bool, ◌&&◌, ◌||◌, eqb, take, drop}
+use Rattle.std.specs.Prelude.{ℕ, suc, ◌+◌, ◌-◌, ◌≤◌, ◌<◌, Bool, ◌||◌, take, drop, Option, Some, None}
 use native.Mathlib.Omega.{arith}
 use Rattle.std.proofs.Math.Bool.{true, false, cond}
 use mathlib.Core.List.{List, [], ◌∷◌, ◌++◌}
 use Rattle.std.proofs.Math.Dec.{ltb}
 use Rattle.std.proofs.Math.ListN.{length, length-append}
-use borrow.Author.Tests.{lt-ltb, le-ltb, ltb-true, ltb-false, eq-eqb, ne_eqb}
+use borrow.Author.Tests.{lt-ltb, le-ltb, ltb-true, ltb-false}
 use Rattle.table.specs.Table.{row_count}
 use Rattle.table.specs.Rows.{is_kind, row_at, rows_of, zero_row, length_rows, nth_row}
 use Rattle.table.specs.declared.Row.{Row}
 use Rattle.summaries.specs.Summaries.{Key, same_key, key_of, has, with_key, keyed, keys_from, keys}
-use Rattle.summaries.specs.SummaryKeys.{same_turn, mem, with_other, keyed_has}
-use Rattle.table.specs.declared.Search.TheVariants.{At, NotFound}
-use Rattle.summary_index.specs.SummaryIndex.{make_key, find, IndexHolds, found, not_found}
+use Rattle.summaries.specs.declared.Key.{Key as CodeKey}
+use Rattle.summaries.specs.EntrySteps.{numbers, key_of_row, no_key, some_key, numbers_differ}
+use Rattle.summaries.specs.SummaryKeys.{same_self, same_turn, mem, with_other, keyed_has}
+use Rattle.summary_index.specs.declared.Bucket.{Bucket}
+use Rattle.summary_index.specs.SummaryIndex.{find, IndexHolds, found, not_found}
 use Rattle.summary_pass.specs.PassState.{place_of}
 use Rattle.summary_pass.specs.KeyPlaces.{place_key, place_before, with_same, with_new}
 use Rattle.phd_classes.specs.ReadState.{among, key_among}
 
 -- ---- one row
 
--- Whether a row has a key, by its kind.
-module _ (r : Row) (class mark : ℕ) where
-  pub class_has : r.kind ≡ 1 → has (make_key class mark) r ≡ false
+-- A row is counted under its key, and under no other.
+module _ (r : Row) (key : CodeKey) where
+  pub has_key : key_of_row r ≡ Some key → has (numbers key) r ≡ true
   unfolding has
-  class_has e = rw (eq-eqb r.kind 1 e)
+  has_key e = let k = some_key r key e in rw (k.0, k.1, same_self (key_of r))
 
-  turned : (a b : Bool) → a && b ≡ b && a
-  turned true true = refl
-  turned true false = refl
-  turned false true = refl
-  turned false false = refl
+  pub has_other : (key_of_row r ≡ Some key → ⊥) → has (numbers key) r ≡ false
+  unfolding has
+  has_other n = by (key_of_row r) refl
+    where
+      other : (j : CodeKey) → key_of_row r ≡ Some j → cond (is_kind 1 r) false (same_key (key_of r) (numbers key)) ≡ false
+      other j e = let k = some_key r j e in rw (k.0, ← k.1, numbers_differ j key (λ q. n (rw q at e)))
 
-  pub primitive_has : r.kind ≡ 4 → has (make_key class mark) r ≡ eqb r.prim class && eqb 1 mark
-  unfolding has key_of same_key
-  primitive_has e = rw (ne_eqb r.kind 1 (λ f. omega arith), eq-eqb r.kind 4 e) (turned (eqb 1 mark) (eqb r.prim class))
+      by : (o : Option CodeKey) → key_of_row r ≡ o → cond (is_kind 1 r) false (same_key (key_of r) (numbers key)) ≡ false
+      by None e = rw (no_key r e)
+      by (Some j) e = other j e
 
-  pub object_has : (r.kind ≡ 1 → ⊥) → (r.kind ≡ 4 → ⊥) → has (make_key class mark) r ≡ eqb r.class class && eqb 0 mark
-  unfolding has key_of same_key
-  object_has e f = rw (ne_eqb r.kind 1 e, ne_eqb r.kind 4 f) (turned (eqb 0 mark) (eqb r.class class))
+  -- A test of the row's own key for being the key.
+  pub has_test : (own : CodeKey) → key_of_row r ≡ Some own → (b : Bool) → (b ≡ true → own ≡ key) → (b ≡ false → own ≡ key → ⊥) → b ≡ has (numbers key) r
+  has_test own e true hit miss = sym (has_key (rw (hit refl) at e))
+  has_test own e false hit miss = sym (has_other (λ q. miss refl (let z : ◌≡◌ {A = Option CodeKey} (Some own) (Some key) = sym e ∙ q in cc)))
 
 -- ---- row by row
 
@@ -140,14 +144,14 @@ module _ (k : Key) where
       by false = refl
 
 -- A key that the index finds is in use; if the index is complete, one that it does not find is not.
-module _ {ks : List Key} {buckets : List ℕ} {complete : Bool} (w : IndexHolds ks buckets complete) (k : Key) where
-  pub found_in_use : (i : ℕ) → find buckets k ≡ At i → in_use k ks ≡ true
+module _ {ks : List Key} {buckets : List Bucket} {complete : Bool} (w : IndexHolds ks buckets complete) (k : Key) where
+  pub found_in_use : (i : ℕ) → find buckets k ≡ Some i → in_use k ks ≡ true
   found_in_use i e =
       let f = found w k i e in
       let before : i < place_of k ks → ⊥ = λ l. place_before k ks i l f.1 in
       lt-ltb (place_of k ks) (length ks) (omega (arith, f.0))
 
-  pub not_found_not_in_use : complete ≡ true → find buckets k ≡ NotFound → in_use k ks ≡ false
+  pub not_found_not_in_use : complete ≡ true → find buckets k ≡ None → in_use k ks ≡ false
   not_found_not_in_use c e =
       let at : place_of k ks < length ks → ⊥ = λ l. not_found w k c e (place_of k ks) l (place_key k ks l) in
       le-ltb (place_of k ks) (length ks) (omega arith)
@@ -156,9 +160,9 @@ module _ {ks : List Key} {buckets : List ℕ} {complete : Bool} (w : IndexHolds 
 
 module _ (r : Row) (ks : List Key) where
   -- A class row has no key.
-  pub class_adds_none : r.kind ≡ 1 → length (keyed r ks) ≤ length ks
+  pub class_adds_none : is_kind 1 r ≡ true → length (keyed r ks) ≤ length ks
   unfolding keyed
-  class_adds_none e = rw (eq-eqb r.kind 1 e) (omega arith)
+  class_adds_none e = rw e (omega arith)
 
   -- A key in use adds nothing; a new one is added.
   pub in_use_adds_none : in_use (key_of r) ks ≡ true → length (keyed r ks) ≤ length ks
@@ -169,16 +173,6 @@ module _ (r : Row) (ks : List Key) where
       by true = omega arith
       by false = rw (with_same (key_of r) ks (ltb-true _ _ e)) (omega arith)
 
-  pub new_adds_one : (r.kind ≡ 1 → ⊥) → in_use (key_of r) ks ≡ false → length ks < length (keyed r ks)
+  pub new_adds_one : is_kind 1 r ≡ false → in_use (key_of r) ks ≡ false → length ks < length (keyed r ks)
   unfolding keyed
-  new_adds_one f e = rw (ne_eqb r.kind 1 f, with_new (key_of r) ks (ltb-false _ _ e), length-append ks (key_of r ∷ [])) (omega arith)
-
--- The key of a row that is not a class row, by its kind.
-module _ (r : Row) where
-  pub primitive_key : r.kind ≡ 4 → key_of r ≡ make_key r.prim 1
-  unfolding key_of
-  primitive_key e = rw (eq-eqb r.kind 4 e)
-
-  pub object_key : (r.kind ≡ 4 → ⊥) → key_of r ≡ make_key r.class 0
-  unfolding key_of
-  object_key e = rw (ne_eqb r.kind 4 e)
+  new_adds_one f e = rw (f, with_new (key_of r) ks (ltb-false _ _ e), length-append ks (key_of r ∷ [])) (omega arith)

@@ -9,56 +9,50 @@ ghost use Rattle.std.specs.Prelude.{◌≡◌, length, replicate};
 ghost use Rattle.table.specs.Buffer.{overwrite};
 ghost use Rattle.table.specs.Rows.{rows_of};
 ghost use Rattle.summaries.specs.Summaries.{summaries};
+ghost use Rattle.summary_index.specs.SummaryIndex.{empty};
 ghost use Rattle.classes_read.specs.ClassesRead.{classes_result, classes_answer};
-ghost use Rattle.phd_classes.specs.ReadState.{progress_answer, Finished};
+ghost use Rattle.phd_classes.specs.ReadState.{Started, Finished};
 
+use batches::Progress;
 use classes_read::ClassesAnswer;
 use phd_read::ReadAnswer;
-use progress::Progress;
 use summaries::Summary;
+use summary_index::Bucket;
 
 pub mod batches;
-pub mod progress;
+pub mod begin;
 
-// Returns the answer of a reading that has ended.
-fn answer(s: Progress) -> ClassesAnswer
-    ensures { result ≡ progress_answer s }
-{
-    let k = s.cursor;
-    let header = s.header;
-    let p = s.pass;
-    ClassesAnswer {
-        read: ReadAnswer {
-            reply: s.reply,
-            place: s.place,
-            missing: s.missing,
-            rows: k.rows,
-            refs: k.refs,
-            header: header,
-        },
-        entries: p.used,
-    }
-}
-
-// Reads a dump, with a summary index that is empty.
-pub fn read_with(
+// Reads a dump from its first record on, with a summary index that is empty.
+pub fn read_from(
     dump: &[u8],
     rows: &mut [u64],
     refs: &mut [u64],
-    buckets: &mut [u64],
+    buckets: &mut [Bucket],
     classes: &mut [Summary],
-) -> Progress
-    requires { buckets.old ≡ replicate 65664 0 }
+    start: Progress,
+) -> ClassesAnswer
+    requires { (buckets.old ≡ replicate 32832 empty) × Started dump.now start }
     ensures { Finished dump.now rows.old refs.old classes.old result rows.new refs.new classes.new }
 {
-    let mut s = progress::begin(dump, classes.len());
-    while s.on {
-        let b = batches::advance(dump, rows, refs, buckets, s);
-        let p = b.pass;
-        let q = summary_pass::sum_rows(rows, buckets, classes, p);
-        s = progress::with_pass(b, q);
+    let mut s = start;
+    loop {
+        let read = batches::advance(dump, rows, refs, buckets, classes.len(), &mut s);
+        s.tally = s.tally.count_rows(rows, buckets, classes, s.cursor.rows);
+        if let Err(end) = read {
+            s.tally.size_rows(rows, buckets, classes);
+            return ClassesAnswer {
+                read: ReadAnswer {
+                    reply: end.reply,
+                    place: end.place,
+                    missing: end.missing,
+                    rows: s.cursor.rows,
+                    refs: s.cursor.refs,
+                    header: s.header,
+                },
+                entries: s.tally.used,
+            };
+        }
     }
-    s
 }
 
 // Reads a dump. Stores its rows at the start of `rows`, `table::ROW_WIDTH` numbers each, its references at the start of `refs`, and the
@@ -74,7 +68,9 @@ pub fn read(
         × (refs.new ≡ overwrite refs.old (classes_result dump.now (length rows.old) (length refs.old) (length classes.old)).refs)
         × (classes.new ≡ overwrite classes.old (summaries (rows_of (classes_result dump.now (length rows.old) (length refs.old) (length classes.old)).rows))) }
 {
-    let mut buckets = [0u64; summary_index::LEN];
-    let s = read_with(dump, rows, refs, &mut buckets, classes);
-    answer(s)
+    let mut buckets = [Bucket::EMPTY; summary_index::LEN];
+    match begin::begin(dump) {
+        Ok(start) => read_from(dump, rows, refs, &mut buckets, classes, start),
+        Err(answer) => answer,
+    }
 }

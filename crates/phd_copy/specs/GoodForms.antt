@@ -1,12 +1,11 @@
 -- The row of a record that was read passes the writer's checks (GoodRows), whatever its form: they follow from its `RowBounds`.
 -- Assumes nothing.
-use Rattle.std.specs.Prelude.{◌≡◌, ℕ, ◌+◌, ◌/◌, ◌%◌, ◌^◌, ◌≤◌, ◌<◌, Bool, true, false, cond, List, [], ◌∷◌, ◌++◌, leb, eqb, take, drop}
+use Rattle.std.specs.Prelude.{◌≡◌, ℕ, ◌+◌, ◌/◌, ◌%◌, ◌^◌, ◌≤◌, ◌<◌, Bool, true, false, cond, List, [], ◌∷◌, ◌++◌, leb, eqb, take, drop, Some}
 use Rattle.std.proofs.Math.Path.{refl}
 use Rattle.std.proofs.Common.{sym, ◌∙◌, inl, inr, arith, take_all, drop_at, le-leb, lt-ltb, eq-eqb, ne_eqb}
 use Rattle.std.proofs.Math.ListN.{length, length-append}
 use Rattle.decode.specs.Numbers.{all_within}
 use Rattle.decode.specs.Values.{cond_elim}
-use Rattle.decode.specs.declared.Maybe.TheVariants.{Just}
 use Rattle.table.specs.Rows.{refs_of, name_of}
 use Rattle.table.specs.declared.Row.{Row}
 use Rattle.phd.specs.Phd.{bit, max_address, tag_form, slot_class, moved_bit, hashed_bit, hash_kind, hash_bytes, shape}
@@ -15,7 +14,6 @@ use Rattle.phd.specs.declared.cache.Cache.{Cache}
 use Rattle.phd.specs.declared.Header.{Header}
 use Rattle.phd.specs.declared.Form.{Form}
 use Rattle.phd.specs.declared.Form.TheVariants.{Short, Medium, Long, Class, ObjectArray, Primitive, LongPrimitive}
-use Rattle.phd.specs.declared.TagForm.TheVariants.{Begins}
 use Rattle.phd_check.specs.GoodRows.{all_true, good_hash, good_class, no_name, good_object, good_array, good_primitive, good_kind, good_addresses, good_span, good_numbers, good_ref, good_refs, good_row}
 use Rattle.phd_check.specs.WellFormed.{GoodRefs}
 use Rattle.phd_copy.specs.ReadRows.{RowBounds}
@@ -120,9 +118,9 @@ class_le_max W x (inl e) l = let k : x < 256 ^ 4 = rw e at l in rw e (omega arit
 class_le_max W x (inr e) l = let k : x < 256 ^ 8 = rw e at l in rw e (omega arith)
 
 -- A record that is not a short object has no class word from a slot.
-known_zero : (c : Cache) (t known : ℕ) → leb 0x80 t ≡ false → slot_class c t ≡ Just known → known ≡ 0
+known_zero : (c : Cache) (t known : ℕ) → leb 0x80 t ≡ false → slot_class c t ≡ Some known → known ≡ 0
 unfolding slot_class
-known_zero c t known x e = let z : Just 0 ≡ Just known = rw x at e in cc
+known_zero c t known x e = let z : Some 0 ≡ Some known = rw x at e in cc
 
 -- The checks of a row that depend on its form: all but those of its address, its hash and where its references lie.
 record GoodInForm (top : ℕ) (s : List ℕ) (r : Row) : Type 0 where
@@ -144,7 +142,7 @@ module _ (top : ℕ) (s : List ℕ) (r : Row) where
 
 -- The row r and the references rs of a record that was read with the tag t and the flag byte f.
 module _ (h : Header) (w : ValidBits h.bits) (s : List ℕ) (c : Cache) (t f known index : ℕ) (r : Row) (rs : List ℕ)
-    (d : slot_class c t ≡ Just known) (k : known ≤ max_address h.bits) where
+    (d : slot_class c t ≡ Some known) (k : known ≤ max_address h.bits) where
   abbrev top : ℕ
   top = max_address h.bits
 
@@ -157,7 +155,7 @@ module _ (h : Header) (w : ValidBits h.bits) (s : List ℕ) (c : Cache) (t f kno
   class_in_range : r.class < 256 ^ (h.bits / 8) → r.class ≤ top
   class_in_range = class_le_max h.bits r.class w
 
-  row_good_in_form : (fm : Form) → tag_form t ≡ Begins fm → ShapeBounds fm → GoodInForm top s r
+  row_good_in_form : (fm : Form) → tag_form t ≡ Some fm → ShapeBounds fm → GoodInForm top s r
   unfolding shape name_of
   row_good_in_form Short g o =
       object_in_form top s r o.kind (o.size refl) ((o.len refl).1 refl) (o.name.none refl) o.prim (omega (arith, o.class_known refl refl)) (omega (arith, o.count.fixed refl))
@@ -189,7 +187,7 @@ module _ (h : Header) (w : ValidBits h.bits) (s : List ℕ) (c : Cache) (t f kno
       primitive_in_form top s r o.kind (o.class_known refl refl ∙ z) (o.count.fixed refl) (o.size refl) (o.len refl).0 (o.name.none refl) (omega (arith, o.prim))
 
   -- The row is good, with its references after those of the rows before it, and its class word is in range.
-  pub row_good : (fm : Form) (refs : List ℕ) → tag_form t ≡ Begins fm → index ≡ length refs → ShapeBounds fm
+  pub row_good : (fm : Form) (refs : List ℕ) → tag_form t ≡ Some fm → index ≡ length refs → ShapeBounds fm
       → (good_row h s (refs ++ rs) (length refs) r ≡ true) × (r.class ≤ top)
   unfolding good_row good_numbers all_true refs_of
   row_good fm refs g e o =

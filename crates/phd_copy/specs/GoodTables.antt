@@ -1,18 +1,16 @@
 -- Every row that a reading of bytes stores passes the writer's checks: the invariant `GoodState` holds after each record.
 -- Assumes nothing.
-use Rattle.std.specs.Prelude.{◌≡◌, refl, ℕ, suc, ◌+◌, ◌/◌, ◌%◌, ◌≤◌, true, List, [], ◌∷◌, ◌++◌, eqb, length, get_or, drop}
+use Rattle.std.specs.Prelude.{◌≡◌, refl, ℕ, suc, ◌+◌, ◌/◌, ◌%◌, ◌≤◌, true, List, [], ◌∷◌, ◌++◌, eqb, length, get_or, drop, Some, None}
 use Rattle.std.proofs.Common.{zero-add, add-zero, arith, length-append, length-drop}
 use Rattle.std.proofs.lemmas.List.{take-append-le, drop-append-le}
 use Rattle.decode.specs.Numbers.{all_within}
 use Rattle.decode.specs.Layout.{whole, run}
 use Rattle.decode.specs.Values.{Gives, gives_yield, gives_then, gives_then_any, gives_weaken, gives_cond, gives_need}
 use Rattle.decode.specs.ByteValues.{AllBytes}
-use Rattle.decode.specs.declared.Maybe.TheVariants.{Just}
 use Rattle.table.specs.Table.{row_width, whole_append}
 use Rattle.table.specs.Rows.{row_at, rows_of, rows_of_snoc, refs_of, name_of}
 use Rattle.table.specs.Sums.{sum, sum_snoc}
 use Rattle.table.specs.declared.Row.{Row}
-use Rattle.table.specs.declared.Search.TheVariants.{NotFound}
 use Rattle.phd.specs.Phd.{max_address, tag_form, slot_class, shape, hash_kind, RecordContext, Item, end_item, item, record_body, from_tag, entry, State, phd, make_context}
 use Rattle.phd.specs.EntryLaws.{origin_at, entry_from_tag}
 use Rattle.phd.specs.Shapes.{ValidBits}
@@ -21,7 +19,6 @@ use Rattle.phd.specs.declared.Header.{Header}
 use Rattle.phd.specs.declared.Form.{Form}
 use Rattle.phd.specs.declared.Origin.{Origin}
 use Rattle.phd.specs.declared.Span.{Span}
-use Rattle.phd.specs.declared.TagForm.TheVariants.{Begins}
 use Rattle.phd_counts.specs.Counts.{row_ref_count}
 use Rattle.phd_check.specs.GoodRows.{all_true, good_hash, good_kind, good_addresses, good_numbers, good_refs, good_row, first_bad_from, first_bad}
 use Rattle.phd_check.specs.WellFormed.{all_true_at, row_first, spans_in_bounds, none_bad}
@@ -66,8 +63,8 @@ good_row_append h names refs rs index r g =
     )
 
 -- Rows of which none is bad stay so if references are appended to the table.
-first_bad_append : (h : Header) (names refs rs : List ℕ) (i index : ℕ) (rows : List Row) → first_bad_from h names refs i index rows ≡ NotFound
-    → first_bad_from h names (refs ++ rs) i index rows ≡ NotFound
+first_bad_append : (h : Header) (names refs rs : List ℕ) (i index : ℕ) (rows : List Row) → first_bad_from h names refs i index rows ≡ None
+    → first_bad_from h names (refs ++ rs) i index rows ≡ None
 unfolding first_bad_from
 first_bad_append h names refs rs i index [] e = refl
 first_bad_append h names refs rs i index (r ∷ rows) e =
@@ -75,8 +72,8 @@ first_bad_append h names refs rs i index (r ∷ rows) e =
     rw (good_row_append h names refs rs index r b.0) (first_bad_append h names refs rs (suc i) (index + r.count) rows b.1)
 
 -- Rows of which none is bad stay so if a good row is appended.
-first_bad_snoc : (h : Header) (names refs : List ℕ) (i index : ℕ) (rows : List Row) (r : Row) → first_bad_from h names refs i index rows ≡ NotFound
-    → good_row h names refs (index + sum row_ref_count rows) r ≡ true → first_bad_from h names refs i index (rows ++ (r ∷ [])) ≡ NotFound
+first_bad_snoc : (h : Header) (names refs : List ℕ) (i index : ℕ) (rows : List Row) (r : Row) → first_bad_from h names refs i index rows ≡ None
+    → good_row h names refs (index + sum row_ref_count rows) r ≡ true → first_bad_from h names refs i index (rows ++ (r ∷ [])) ≡ None
 unfolding first_bad_from sum
 first_bad_snoc h names refs i index [] r e g = rw (rw add-zero at g)
 first_bad_snoc h names refs i index (x ∷ rows) r e g =
@@ -104,7 +101,7 @@ module _ (h : Header) (w : ValidBits h.bits) (s : List ℕ) (b : AllBytes s) (be
       gives_then _ _ _ (gives_need_form (tag_form t)) (λ fm a. gives_then _ _ _ (gives_need 10 _) (λ known d. gives_then_any _ _ (λ f.
       gives_weaken (gives_fields b (max_address h.bits) before c origin known (hash_kind h t f) (shape (h.bits / 8) fm t f) g.aligned) (by fm known f a d))))
     where
-      by : (fm : Form) (known f : ℕ) → tag_form t ≡ Begins fm → slot_class c t ≡ Just known
+      by : (fm : Form) (known f : ℕ) → tag_form t ≡ Some fm → slot_class c t ≡ Some known
           → (i : Item) → ItemBounds (max_address h.bits) known (hash_kind h t f) origin.index s (shape (h.bits / 8) fm t f) i → GoodItem i
       by fm known f a d end_item x = tt
       by fm known f a d (item r rs sp k) x =
@@ -133,7 +130,7 @@ pub record GoodState (h : Header) (s : List ℕ) (st : State) : Type 0 where
   pub before : GoodContext h st.context
   pub whole_rows : length st.rows % row_width ≡ 0
   pub counts : sum row_ref_count (rows_of st.rows) ≡ length st.refs
-  pub good : first_bad h s st.refs (rows_of st.rows) ≡ NotFound
+  pub good : first_bad h s st.refs (rows_of st.rows) ≡ None
 
 -- Storing the next record keeps the invariant.
 pub good_state_step : (h : Header) (s : List ℕ) → AllBytes s → (st : State) → GoodState h s st → (r rs : List ℕ) (m : Span) (k : RecordContext) (n : ℕ)

@@ -1,7 +1,7 @@
 -- The row of a record that was read from bytes satisfies the bounds of its shape (`RowBounds`). GoodForms derives the writer's
 -- checks from them.
 -- Assumes nothing.
-use Rattle.std.specs.Prelude.{◌≡◌, refl, Bool, true, false, cond, leb, ltb, eqb, length, get_or, set}
+use Rattle.std.specs.Prelude.{◌≡◌, refl, Bool, true, false, cond, leb, ltb, eqb, length, get_or, set, Some, None}
 use Rattle.std.proofs.Common.{sym, ◌∙◌, arith, get_or-set_same, get_or-set_other, eq-eqb}
 use Rattle.std.proofs.Math.Path.{ap}
 use Prim.Native.Nat.{ℕ, zero, suc, ◌/◌, ◌%◌, ◌^◌, ◌≤◌, ◌<◌}
@@ -11,7 +11,6 @@ use Rattle.std.proofs.Math.Seq.{set_out}
 use Rattle.decode.specs.Fields.{no_string}
 use Rattle.decode.specs.Values.{Gives, gives_yield, gives_then, gives_then_any, gives_weaken, gives_cases, gives_count, gives_address, gives_ref, true_not_false}
 use Rattle.decode.specs.ByteValues.{AllBytes, StringAt, gives_and, gives_field, gives_count_bounds, gives_address_aligned, gives_ref_aligned, gives_string}
-use Rattle.decode.specs.declared.Maybe.TheVariants.{Just, Nothing}
 use Rattle.decode.specs.declared.StringSpan.{StringSpan}
 use Rattle.table.specs.Rows.{row_at}
 use Rattle.table.specs.declared.Row.{Row}
@@ -61,11 +60,11 @@ push_le c true w top m k = set_le c.classes (c.pushes % 4) w top m k
 push_le c false w top m k = m
 
 -- Then the class word of a short object, from its slot, is at most `top` too.
-pub known_le : (c : Cache) (t known top : ℕ) → ((i : ℕ) → get_or c.classes i 0 ≤ top) → slot_class c t ≡ Just known → known ≤ top
+pub known_le : (c : Cache) (t known top : ℕ) → ((i : ℕ) → get_or c.classes i 0 ≤ top) → slot_class c t ≡ Some known → known ≤ top
 unfolding slot_class slot
 known_le c t known top m e = by (leb 0x80 t) (ltb (t / 0x20 % 4) c.pushes) e
   where
-    by : (x y : Bool) → cond x (cond y (Just (get_or c.classes (t / 0x20 % 4) 0)) Nothing) (Just 0) ≡ Just known → known ≤ top
+    by : (x y : Bool) → cond x (cond y (Some (get_or c.classes (t / 0x20 % 4) 0)) None) (Some 0) ≡ Some known → known ≤ top
     by true true e = let z : get_or c.classes (t / 0x20 % 4) 0 ≡ known = cc in omega (arith, m (t / 0x20 % 4))
     by true false e = let z : ◌≡◌ {A = ℕ} 0 1 = cc in absurd (omega arith)
     by false y e = let z : 0 ≡ known = cc in omega arith

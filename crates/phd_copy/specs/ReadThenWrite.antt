@@ -2,7 +2,7 @@
 -- bytes they pass every check. So a copy of a damaged dump is refused only if the output is too small or the size limit is
 -- exceeded, and its text only if the output is too small or a class row is missing.
 -- A reader must believe the records `WriteAfterRead` and `TextAfterRead`.
-use Rattle.std.specs.Prelude.{◌≡◌, refl, ◌↔◌, ◌⊎◌, ℕ, ◌+◌, ◌*◌, ◌^◌, ◌≤◌, ◌<◌, Bool, true, false, not, ◌||◌, List, [], ◌∷◌, leb, ltb, eqb, length, take, drop}
+use Rattle.std.specs.Prelude.{◌≡◌, refl, ◌↔◌, ◌⊎◌, ℕ, ◌+◌, ◌*◌, ◌^◌, ◌≤◌, ◌<◌, Bool, true, false, not, ◌||◌, List, [], ◌∷◌, leb, ltb, eqb, length, take, drop, Some, None}
 use Rattle.std.proofs.Common.{sym, ◌∙◌, inl, inr, arith, le-leb, lt-ltb}
 use Rattle.std.proofs.Math.Decide.{dec_le}
 use Rattle.std.proofs.Math.Seq.{take-append_seam}
@@ -19,7 +19,6 @@ use Rattle.table.specs.Search.{first_row}
 use Rattle.table.specs.Sums.{sum}
 use Rattle.table.specs.CheckOrder.{WriteResult}
 use Rattle.table.specs.declared.Row.{Row}
-use Rattle.table.specs.declared.Search.TheVariants.{At, NotFound}
 use Rattle.phd.specs.Phd.{limit, header_records, make_header, header, empty_header, Result, State, phd, capacity, read_result}
 use Rattle.phd.specs.Shapes.{ValidBits}
 use Rattle.phd.specs.declared.Header.{Header}
@@ -45,7 +44,7 @@ use Rattle.phd_copy.specs.GoodTables.{GoodState, good_state_step}
 abbrev VmInDump : List ℕ → StringSpan → Type 0
 VmInDump s t = t.present ≡ true → StringAt s 0x20 0 t
 
-at_is_not_notfound : {P : Type 0} {i : ℕ} → At i ≡ NotFound → P
+at_is_not_notfound : {P : Type 0} {i : ℕ} → Some i ≡ None → P
 at_is_not_notfound e = let z : ◌≡◌ {A = ℕ} 0 1 = cc in absurd (omega arith)
 
 gives_vm : {s : List ℕ} → AllBytes s → Gives s (VmInDump s) header_records
@@ -84,7 +83,7 @@ header_good h s rows refs w v p q =
 record GoodResult (s : List ℕ) (r : Result) : Type 0 where
   pub bits : ValidBits r.header.bits
   pub vm : VmInDump s r.header.vm
-  pub rows : first_bad r.header s r.refs (rows_of r.rows) ≡ NotFound
+  pub rows : first_bad r.header s r.refs (rows_of r.rows) ≡ None
 
 module _ (s : List ℕ) (b : AllBytes s) (R F : ℕ) where
   -- The result is good if the header was read; otherwise W is 0.
@@ -145,9 +144,9 @@ pub record WriteAfterRead (h : Header) (names refs : List ℕ) (rows : List Row)
 -- output, and no other refusal.
 pub record TextAfterRead (h : Header) (names refs : List ℕ) (rows : List Row) (out_capacity : ℕ) (w : WriteResult) : Type 0 where
   pub reply_cases : (w.answer.reply ≡ 0) ⊎ ((w.answer.reply ≡ 17) ⊎ (w.answer.reply ≡ 18))
-  pub done : (w.answer.reply ≡ 0) ↔ ((first_row (class_missing rows) rows ≡ NotFound) × (length (text_of h names refs rows) ≤ out_capacity))
-  pub too_small : (w.answer.reply ≡ 17) ↔ ((first_row (class_missing rows) rows ≡ NotFound) × (out_capacity < length (text_of h names refs rows)))
-  pub no_class : (i : ℕ) → ((w.answer.reply ≡ 18) × (w.answer.place ≡ i)) ↔ (first_row (class_missing rows) rows ≡ At i)
+  pub done : (w.answer.reply ≡ 0) ↔ ((first_row (class_missing rows) rows ≡ None) × (length (text_of h names refs rows) ≤ out_capacity))
+  pub too_small : (w.answer.reply ≡ 17) ↔ ((first_row (class_missing rows) rows ≡ None) × (out_capacity < length (text_of h names refs rows)))
+  pub no_class : (i : ℕ) → ((w.answer.reply ≡ 18) × (w.answer.place ≡ i)) ↔ (first_row (class_missing rows) rows ≡ Some i)
 
 -- Tables that pass every check.
 module _ (h : Header) (names refs : List ℕ) (rows : List Row) (a : TablesGood h names refs rows) (out_capacity : ℕ) where

@@ -1,8 +1,8 @@
 -- The loop invariant of counting: each count so far, plus what the remaining rows add to it, is the sum over all rows. It holds
 -- at the start, each row preserves it, and at the end it gives the tally of all rows.
 -- Assumes nothing.
-use Rattle.std.specs.Prelude.{◌≡◌, refl, ℕ, ◌+◌, ◌^◌, ◌≤◌, ◌<◌, List, [], ◌∷◌}
-use Rattle.std.proofs.Common.{arith}
+use Rattle.std.specs.Prelude.{◌≡◌, ◌≢◌, refl, ℕ, ◌+◌, ◌^◌, ◌≤◌, ◌<◌, Bool, true, false, cond, eqb, List, [], ◌∷◌}
+use Rattle.std.proofs.Common.{arith, ne_eqb, add-zero}
 use Rattle.std.proofs.Math.ListN.{length}
 use Rattle.decode.specs.Values.{bit_le_one}
 use Rattle.table.specs.Table.{row_count}
@@ -38,19 +38,30 @@ sum_le_length k (r ∷ rows) = omega (arith, bit_le_one (is_kind k r), sum_le_le
 
 -- ---- adding a row
 
--- The tally with one more row, given the numbers added to its counts.
-pub add_row_is : (t : Tally) (r : Row) {a b c d n : ℕ} → a ≡ kind_count 1 r → b ≡ kind_count 2 r → c ≡ kind_count 3 r → d ≡ kind_count 4 r → n ≡ nulls_of r
-    → record {
-      classes = t.classes + a;
-      objects = t.objects + b;
-      arrays = t.arrays + c;
-      primitives = t.primitives + d;
-      rows = t.rows + 1;
-      refs = t.refs + r.count;
-      nulls = t.nulls + n;
-    } ≡ add_row t r
-unfolding add_row
-add_row_is t r p q u v w = rw (p, q, u, v, w)
+-- The tally with one more row, of kind k: the count of that kind grows by one.
+module _ (t : Tally) (r : Row) {n : ℕ} where
+  pub add_row_at : (k : ℕ) → r.kind ≡ k → n ≡ nulls_of r
+      → record {
+        classes = cond (eqb k 1) (t.classes + 1) t.classes;
+        objects = cond (eqb k 2) (t.objects + 1) t.objects;
+        arrays = cond (eqb k 3) (t.arrays + 1) t.arrays;
+        primitives = cond (eqb k 4) (t.primitives + 1) t.primitives;
+        rows = t.rows + 1;
+        refs = t.refs + r.count;
+        nulls = t.nulls + n;
+      } ≡ add_row t r
+  unfolding add_row
+  add_row_at k e w = rw (← e, grows t.classes (eqb r.kind 1), grows t.objects (eqb r.kind 2), grows t.arrays (eqb r.kind 3), grows t.primitives (eqb r.kind 4), w)
+    where
+      grows : (m : ℕ) (b : Bool) → cond b (m + 1) m ≡ m + cond b 1 0
+      grows m true = refl
+      grows m false = omega arith
+
+  -- Of no kind: none of these counts grows.
+  pub add_row_other : (r.kind ≢ 1) × (r.kind ≢ 2) × (r.kind ≢ 3) × (r.kind ≢ 4) → n ≡ nulls_of r
+      → record { classes = t.classes; objects = t.objects; arrays = t.arrays; primitives = t.primitives; rows = t.rows + 1; refs = t.refs + r.count; nulls = t.nulls + n } ≡ add_row t r
+  unfolding add_row
+  add_row_other o w = rw (ne_eqb _ 1 o.0, ne_eqb _ 2 o.1, ne_eqb _ 3 o.2, ne_eqb _ 4 o.3, w) (simp add-zero)
 
 -- ---- the loop invariant
 

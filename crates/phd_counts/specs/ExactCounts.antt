@@ -1,6 +1,6 @@
 -- The counts of good tables are exact: in each object array, references and nulls add up to the true length; over all rows, they
 -- add up to the total; and every sum is far below what 64 bits hold. A reader must believe the record `ExactCounts`.
-use Rattle.std.specs.Prelude.{◌≡◌, refl, ℕ, suc, ◌+◌, ◌*◌, ◌^◌, ◌≤◌, ◌<◌, true, cond}
+use Rattle.std.specs.Prelude.{◌≡◌, refl, ℕ, suc, ◌+◌, ◌*◌, ◌^◌, ◌≤◌, ◌<◌, true, cond, None}
 use Rattle.std.proofs.Math.Nat.{zero-add}
 use native.Mathlib.Omega.{arith}
 use mathlib.Core.List.{List, [], ◌∷◌}
@@ -9,7 +9,6 @@ use Rattle.std.proofs.Common.{eq-eqb, ne_eqb}
 use Rattle.table.specs.Rows.{All, is_kind, without_place, rec_of}
 use Rattle.table.specs.Sums.{sum}
 use Rattle.table.specs.declared.Row.{Row}
-use Rattle.table.specs.declared.Search.TheVariants.{NotFound}
 use Rattle.phd.specs.declared.Header.{Header}
 use Rattle.phd_check.specs.GoodRows.{good_row, first_bad_from, TablesGood}
 use Rattle.phd_check.specs.WellFormed.{GoodKind, a_class, an_object, an_array, a_primitive, none_bad, spans_in_bounds, good_rec, each_row, row_count_bound, ref_count_bound}
@@ -84,7 +83,7 @@ arrays_exact (r ∷ rows) a = (λ e. rw (eq-eqb r.kind 3 e) at a.0.whole, arrays
 
 module _ (h : Header) (names refs : List ℕ) where
   -- The references of good rows, from an index on, lie within the table.
-  refs_in_bounds_from : (rows : List Row) (i index : ℕ) → first_bad_from h names refs i index rows ≡ NotFound → index ≤ length refs → index + sum row_ref_count rows ≤ length refs
+  refs_in_bounds_from : (rows : List Row) (i index : ℕ) → first_bad_from h names refs i index rows ≡ None → index ≤ length refs → index + sum row_ref_count rows ≤ length refs
   unfolding sum rec_of without_place
   refs_in_bounds_from [] i index e l = omega arith
   refs_in_bounds_from (r ∷ rows) i index e l =

@@ -6,8 +6,7 @@ ghost use Rattle.std.specs.Prelude.{◌≡◌};
 ghost use Rattle.phd_counts.specs.Counts.{nulls_of, no_rows, add_row};
 ghost use Rattle.phd_counts.specs.CountLoop.{NoOverflow};
 
-use decode::choice;
-use table::Row;
+use table::{Kind, Row};
 
 // The numbers of rows of each kind, of all rows, and of their references and nulls.
 #[derive(Clone, Copy)]
@@ -21,55 +20,64 @@ pub struct Tally {
     pub nulls: u64,
 }
 
+impl Tally {
+    // Returns the tally of no rows.
+    pub fn no_rows() -> Tally
+        ensures { result ≡ no_rows }
+    {
+        Tally {
+            classes: 0,
+            objects: 0,
+            arrays: 0,
+            primitives: 0,
+            rows: 0,
+            refs: 0,
+            nulls: 0,
+        }
+    }
+
+    // Returns the tally with one more row.
+    pub fn add_row(self, row: Row) -> Tally
+        requires { NoOverflow self row }
+        ensures { result ≡ add_row self row }
+    {
+        let unlisted = row_nulls(row);
+        let t = Tally {
+            rows: self.rows + 1,
+            refs: self.refs + row.count,
+            nulls: self.nulls + unlisted,
+            ..self
+        };
+        match Kind::of(row.kind) {
+            Some(Kind::Class) => Tally {
+                classes: t.classes + 1,
+                ..t
+            },
+            Some(Kind::Object) => Tally {
+                objects: t.objects + 1,
+                ..t
+            },
+            Some(Kind::ObjectArray) => Tally {
+                arrays: t.arrays + 1,
+                ..t
+            },
+            Some(Kind::PrimitiveArray) => Tally {
+                primitives: t.primitives + 1,
+                ..t
+            },
+            None => t,
+        }
+    }
+}
+
 // Returns the number of nulls of a row: an object array's true length minus its reference count; 0 for any other row.
+// The test is of the number: a match on `Kind` needs four arms that give 0, since a default arm hides which kinds it takes.
 pub fn row_nulls(row: Row) -> u64
     ensures { result ≡ nulls_of row }
 {
-    if row.kind != 3 {
-        return 0;
-    }
-    if row.len < row.count {
-        return 0;
-    }
-    row.len - row.count
-}
-
-// Returns the tally with one more row.
-pub fn add_row(t: Tally, row: Row) -> Tally
-    requires { NoOverflow t row }
-    ensures { result ≡ add_row t row }
-{
-    let listed = row.count;
-    let unlisted = row_nulls(row);
-    let classes = t.classes + choice(row.kind == 1, 1, 0);
-    let objects = t.objects + choice(row.kind == 2, 1, 0);
-    let arrays = t.arrays + choice(row.kind == 3, 1, 0);
-    let primitives = t.primitives + choice(row.kind == 4, 1, 0);
-    let rows = t.rows + 1;
-    let refs = t.refs + listed;
-    let nulls = t.nulls + unlisted;
-    Tally {
-        classes,
-        objects,
-        arrays,
-        primitives,
-        rows,
-        refs,
-        nulls,
-    }
-}
-
-// Returns the tally of no rows.
-pub fn no_rows() -> Tally
-    ensures { result ≡ no_rows }
-{
-    Tally {
-        classes: 0,
-        objects: 0,
-        arrays: 0,
-        primitives: 0,
-        rows: 0,
-        refs: 0,
-        nulls: 0,
+    if row.kind == 3 {
+        row.len.saturating_sub(row.count)
+    } else {
+        0
     }
 }

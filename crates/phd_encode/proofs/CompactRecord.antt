@@ -1,15 +1,17 @@
 -- The bytes of a compact record are those of its five fields, and `is_compact` recognizes one.
-use mathlib.Core.Path.{◌≡◌, sym, ap, ◌∙◌}
+use mathlib.Core.Path.{◌≡◌, refl, sym, ap, ◌∙◌}
 use Prim.Native.Nat.{ℕ, ◌≤◌}
 use mathlib.Core.Bool.{Bool, true, cond}
-use mathlib.Core.List.{List, [], ◌∷◌, append-nil, append_assoc}
-use lib.ListN.{take, drop}
+use mathlib.Core.List.{List, [], ◌∷◌, ◌++◌, append-nil, append_assoc}
+use lib.ListN.{length}
+use native.Mathlib.Omega.{arith}
+use Rattle.std.proofs.Common.{length-append}
 use lib.Dec.{leb, ltb, eqb}
 use borrow.Author.Tests.{leb-true, eqb-true, le-ltb}
-use Rattle.encode.specs.Encode.{join, be, gap, twos_complement, encode_ref_list}
+use Rattle.encode.specs.Encode.{be, gap, twos_complement, encode_ref_list}
+use Rattle.encode.specs.SetsLaws.{sets_append}
 use Rattle.phd.specs.Phd.{hash_bytes}
 use Rattle.phd_plan.specs.declared.Plan.{Plan}
-use Rattle.table.specs.Rows.{name_of}
 use Rattle.phd_check.specs.WellFormed.{all_true_at}
 use Rattle.table.specs.declared.Row.{Row}
 use Rattle.phd_check.proofs.CheckLaws.{all_of, all_of_all_true}
@@ -58,37 +60,33 @@ unfolding be
 no_flag_byte p h = rw (le-ltb p.tag 0x20 h)
 
 -- A name of length 0 has no bytes.
-no_name_bytes : (names : List ℕ) (r : Row) → r.namelen ≡ 0 → name_of names r ≡ []
-unfolding name_of
-no_name_bytes names r e = ap (λ (k : ℕ). take k (drop r.place names)) e
+no_name_bytes : (name : List ℕ) → length name ≡ 0 → name ≡ []
+no_name_bytes [] e = refl
+no_name_bytes (x ∷ name) e = absurd (omega arith)
 
--- The tag and the fields of a compact record; the hash has b bytes.
-abbrev pub compact_parts : ℕ → Plan → Row → List ℕ → ℕ → List (List ℕ)
-compact_parts before p r refs b =
-    let sh = p.shape in
-    be 1 p.tag
-    ∷ be sh.gap (twos_complement (gap before r.address))
-    ∷ be sh.class r.class
-    ∷ be b r.hash
-    ∷ encode_ref_list sh.refwidth r.address refs
-    ∷ []
-
--- A compact record consists of these parts.
-pub encode_compact_parts : (before : ℕ) (p : Plan) (r : Row) (refs names : List ℕ) → Compact p r.namelen → (b : ℕ) → b ≡ hash_bytes r.hashkind
-    → encode_planned before p r refs (name_of names r) ≡ join (compact_parts before p r refs b)
+-- A compact record consists of its tag, its gap, its class word, its hash and its references.
+pub encode_compact_parts : (before : ℕ) (p : Plan) (r : Row) (refs name : List ℕ) → Compact p (length name)
+    → encode_planned before p r refs name
+    ≡ be 1 p.tag
+    ++ be p.shape.gap (twos_complement (gap before r.address))
+    ++ be p.shape.class r.class
+    ++ be (hash_bytes r.hashkind) r.hash
+    ++ encode_ref_list p.shape.refwidth r.address refs
 unfolding encode_planned encode_tag encode_fields encode_front encode_middle encode_name encode_refs encode_tail
-encode_compact_parts before p r refs names l b e =
+encode_compact_parts before p r refs name l =
     simp (
-      e,
       no_flag_byte p l.tag,
       be_zero_width _ r.len l.len,
       be_zero_width _ r.size l.inst,
       be_zero_width _ r.class l.superclass,
       be_zero_width _ r.namelen l.name,
-      no_name_bytes names r l.unnamed,
+      no_name_bytes name l.unnamed,
       be_zero_width _ r.count l.countwidth,
       be_zero_width _ r.size l.size,
       be_zero_width _ r.len l.truelen,
       append-nil,
       append_assoc,
     )
+
+-- The laws by which the check proves that the fields of a compact record are written in order.
+pub ruleset compact_fields = (encode_compact_parts, sets_append, length-append)

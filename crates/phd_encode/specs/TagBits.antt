@@ -1,9 +1,8 @@
 -- The bit fields of each tag and flag byte: decoded, they give back the widths and counts of the form, and the hash kind.
 -- Assumes nothing.
-use Rattle.std.specs.Prelude.{◌≡◌, refl, ℕ, zero, suc, ◌+◌, ◌*◌, ◌/◌, ◌%◌, ◌≤◌, ◌<◌, Bool, true, false, cond, ◌&&◌, ◌||◌, get_or, ltb, eqb}
+use Rattle.std.specs.Prelude.{◌≡◌, refl, ℕ, zero, suc, ◌+◌, ◌*◌, ◌/◌, ◌%◌, ◌≤◌, ◌<◌, Bool, true, false, cond, ◌&&◌, ◌||◌, get_or, ltb, eqb, Some, None}
 use Rattle.std.proofs.Common.{sym, lit<, arith, eqb-true, eq-eqb, ne_eqb}
 use Rattle.decode.specs.Values.{cond_elim, and_left, and_right, true_not_false}
-use Rattle.decode.specs.declared.Maybe.TheVariants.{Just, Nothing}
 use Rattle.phd.specs.Phd.{bit, slot, moved_bit, hashed_bit}
 use Rattle.phd.specs.declared.cache.Cache.{Cache}
 use Rattle.phd_plan.specs.FormChoice.{slot_holds, find_slot, hash_flags, class_flags}
@@ -123,7 +122,7 @@ long_primitive_flags y w b p q u = omega arith
 
 -- i is at most 4, and if it is a slot, below 4, that slot holds the class word w.
 abbrev SlotFound : Cache → ℕ → ℕ → Type 0
-SlotFound c w i = (i ≤ 4) × (i < 4 → slot c i ≡ Just w)
+SlotFound c w i = (i ≤ 4) × (i < 4 → slot c i ≡ Some w)
 
 -- A step of the search keeps `SlotFound`.
 slot_found_step : (c : Cache) (w i n : ℕ) → i ≤ 4 → SlotFound c w n → SlotFound c w (cond (slot_holds c w i) i n)
@@ -149,20 +148,20 @@ pub find_slot_le : (c : Cache) (w : ℕ) → find_slot c w ≤ 4
 find_slot_le c w = (slot_found_any c w).0
 
 -- A slot that `find_slot` gives holds the class word.
-pub find_slot_holds : (c : Cache) (w : ℕ) → find_slot c w < 4 → slot c (find_slot c w) ≡ Just w
+pub find_slot_holds : (c : Cache) (w : ℕ) → find_slot c w < 4 → slot c (find_slot c w) ≡ Some w
 find_slot_holds c w = (slot_found_any c w).1
 
 -- A filled slot that holds the class word passes the test `slot_holds`.
-slot_holds_of : (c : Cache) (w i : ℕ) → slot c i ≡ Just w → slot_holds c w i ≡ true
+slot_holds_of : (c : Cache) (w i : ℕ) → slot c i ≡ Some w → slot_holds c w i ≡ true
 unfolding slot slot_holds
 slot_holds_of c w i h = by (ltb i c.pushes) h
   where
-    by : (b : Bool) → cond b (Just (get_or c.classes i 0)) Nothing ≡ Just w → b && eqb (get_or c.classes i 0) w ≡ true
+    by : (b : Bool) → cond b (Some (get_or c.classes i 0)) None ≡ Some w → b && eqb (get_or c.classes i 0) w ≡ true
     by true g = let z : get_or c.classes i 0 ≡ w = cc in eq-eqb _ _ z
     by false g = let z : ◌≡◌ {A = ℕ} 0 1 = cc in absurd (omega arith)
 
 -- If any slot holds the class word, `find_slot` gives a slot.
-pub find_slot_complete : (c : Cache) (w i : ℕ) → i < 4 → slot c i ≡ Just w → find_slot c w < 4
+pub find_slot_complete : (c : Cache) (w i : ℕ) → i < 4 → slot c i ≡ Some w → find_slot c w < 4
 unfolding find_slot
 find_slot_complete c w i l h = by i l (slot_holds_of c w i h)
   where

@@ -2,11 +2,11 @@
 // the reader. The bytes that each function writes are a definition of specs/EncodeRecord.antt.
 #![tactic(auto)]
 
-ghost use Rattle.std.specs.Prelude.{◌≡◌, true, ◌+◌, ◌≤◌, length};
-ghost use Rattle.encode.specs.Writes.{Writes, HasCapacity};
-ghost use Rattle.table.specs.Rows.{refs_of, name_of};
+ghost use Rattle.std.specs.Prelude.{◌≡◌, true, length};
+ghost use Rattle.encode.specs.Wrote.{Wrote, HasRoom};
 ghost use Rattle.phd_encode.specs.EncodeRecord.{encode_planned, Compact};
 
+use encode::encoder::Encoder;
 use phd_plan::Plan;
 use table::Row;
 
@@ -15,7 +15,8 @@ pub mod sizes;
 
 // Checks whether the plan has no flag byte and no fields but the gap, the class word, the hash and the references. The result
 // false guarantees nothing; the general path can encode any record.
-fn is_compact(p: Plan, namelen: u64) -> bool
+#[tactic(auto, using(crate::proofs::CompactRecord::compact_of_tests))]
+fn is_compact(p: Plan, namelen: usize) -> bool
     ensures { result ≡ true → Compact p namelen }
 {
     let sh = p.shape;
@@ -30,53 +31,36 @@ fn is_compact(p: Plan, namelen: u64) -> bool
         & (sh.truelen == 0)
 }
 
-// Encodes a compact record at offset `at`, after a record at the address `before`, and returns the offset after it.
-fn encode_compact(
-    out: &mut [u8],
-    at: usize,
-    before: u64,
-    p: Plan,
-    row: Row,
-    refs: &[u64],
-    names: &[u8],
-) -> usize
-    requires count_in_bounds { (row.first + row.count ≤ length refs.now) × (row.place + row.namelen ≤ length names.now) × Compact p row.namelen }
-    requires has_capacity { HasCapacity out.old at (encode_planned before p row (refs_of refs.now row) (name_of names.now row)) }
-    ensures { Writes out.old at (encode_planned before p row (refs_of refs.now row) (name_of names.now row)) out.new result }
+// Encodes a compact record, after a record at the address `before`.
+#[tactic(auto, using(crate::proofs::CompactRecord::compact_fields))]
+fn encode_compact(e: &mut Encoder, before: u64, p: Plan, row: Row, refs: &[u64], name: &[u8])
+    requires compact { Compact p (length name.now) }
+    requires has_room { HasRoom e.old (encode_planned before p row refs.now name.now) }
+    ensures { Wrote e.old e.new (encode_planned before p row refs.now name.now) }
 {
     let sh = p.shape;
-    let bytes = phd::forms::hash_bytes_of(row.hashkind);
-    let gap = encode::encode_be(out, at, 1, p.tag);
-    let class = encode::encode_be(out, gap, sh.gap, encode::raw_gap(before, row.address));
-    let hash = encode::encode_be(out, class, sh.class, row.class);
-    let list = encode::encode_be(out, hash, bytes, row.hash);
-    let first = row.first as usize;
-    let n = row.count as usize;
-    encode::encode_ref_list(out, list, sh.refwidth, row.address, refs, first, n)
+    e.be(1, p.tag);
+    e.be(sh.gap, encode::raw_gap(before, row.address));
+    e.be(sh.class, row.class);
+    e.be(phd::forms::hash_bytes_of(row.hashkind), row.hash);
+    e.ref_list(sh.refwidth, row.address, refs);
 }
 
-// Encodes a record at offset `at`, after a record at the address `before`, and returns the offset after it.
-pub fn encode_record(
-    out: &mut [u8],
-    at: usize,
-    before: u64,
-    p: Plan,
-    row: Row,
-    refs: &[u64],
-    names: &[u8],
-) -> usize
-    requires count_in_bounds { (row.first + row.count ≤ length refs.now) × (row.place + row.namelen ≤ length names.now) }
-    requires has_capacity { HasCapacity out.old at (encode_planned before p row (refs_of refs.now row) (name_of names.now row)) }
-    ensures { Writes out.old at (encode_planned before p row (refs_of refs.now row) (name_of names.now row)) out.new result }
+// Encodes the record of a row with its references and its name, after a record at the address `before`.
+#[tactic(auto, using(encode::specs::Wrote::consecutive), unfolding(crate::specs::EncodeRecord::encode_planned, crate::specs::EncodeRecord::encode_fields))]
+pub fn encode_record(e: &mut Encoder, before: u64, p: Plan, row: Row, refs: &[u64], name: &[u8])
+    requires { HasRoom e.old (encode_planned before p row refs.now name.now) }
+    ensures { Wrote e.old e.new (encode_planned before p row refs.now name.now) }
 {
-    if is_compact(p, row.namelen) {
-        return encode_compact(out, at, before, p, row, refs, names);
+    if is_compact(p, name.len()) {
+        encode_compact(e, before, p, row, refs, name);
+    } else {
+        let sh = p.shape;
+        parts::encode_tag(e, p);
+        parts::encode_front(e, before, sh, row);
+        parts::encode_middle(e, sh, row);
+        parts::encode_name(e, sh, row, name);
+        parts::encode_refs(e, sh, row, refs);
+        parts::encode_tail(e, sh, row);
     }
-    let sh = p.shape;
-    let a = parts::encode_tag(out, at, p);
-    let b = parts::encode_front(out, a, before, sh, row);
-    let c = parts::encode_middle(out, b, sh, row);
-    let d = parts::encode_name(out, c, sh, row, names);
-    let e = parts::encode_refs(out, d, sh, row, refs);
-    parts::encode_tail(out, e, sh, row)
 }

@@ -1,7 +1,6 @@
 // The encoded size of a record, computed from its row without making its plan, tag or flag byte.
-ghost use Rattle.std.specs.Prelude.{◌≡◌, ◌+◌, ◌^◌, ◌≤◌, ◌<◌, length, pos};
+ghost use Rattle.std.specs.Prelude.{◌≡◌, ◌^◌, ◌≤◌, ◌<◌, pos};
 ghost use Rattle.encode.specs.Encode.{width_code, max};
-ghost use Rattle.table.specs.Rows.{refs_of};
 ghost use Rattle.phd_plan.specs.FormChoice.{find_slot, plan_input, make_plan, Bounded};
 ghost use Rattle.phd_encode.specs.EncodeRecord.{record_size};
 ghost use Rattle.phd_encode.specs.SizeFromRow.{object_size, primitive_size};
@@ -16,70 +15,78 @@ pub struct EncodedSize {
     pub cached: bool,
 }
 
-// Returns an `EncodedSize` with these fields.
-fn make_size(size: usize, cached: bool) -> EncodedSize
-    ensures { (result.size ≡ size) × (result.cached ≡ cached) }
-{
-    EncodedSize {
-        size: size,
-        cached: cached,
-    }
-}
-
 // Returns the size of an object: `w` is W / 8, `gap` the width code of its gap, and `payload` the bytes of its gap, hash, name
 // and references.
+#[tactic(auto, unfolding(crate::specs::SizeFromRow::object_size))]
 fn object_size(w: usize, cache: Cache, row: Row, gap: u64, payload: usize) -> EncodedSize
     requires { (w ≤ 8) × (payload < 2 ^ 40) }
     ensures { result ≡ object_size w row.hashkind (find_slot cache row.class) row.count gap payload }
 {
     if phd_plan::needs_flag_byte(row.hashkind) | (2 <= gap) | (7 < row.count) {
-        return make_size(6 + w + payload, true);
+        EncodedSize {
+            size: 6 + w + payload,
+            cached: true,
+        }
+    } else if (row.count <= 3) & (phd_plan::find_slot(cache, row.class) < 4) {
+        EncodedSize {
+            size: 1 + payload,
+            cached: false,
+        }
+    } else {
+        EncodedSize {
+            size: 1 + w + payload,
+            cached: true,
+        }
     }
-    if (row.count <= 3) & (phd_plan::find_slot(cache, row.class) < 4) {
-        return make_size(1 + payload, false);
-    }
-    make_size(1 + w + payload, true)
 }
 
 // Returns the size of a primitive array: `w` is W / 8, `gap` the width code of its gap, and `payload` the bytes of its hash and
 // name.
+#[tactic(auto, using(crate::proofs::SizeBounds::size_bounds), unfolding(crate::specs::SizeFromRow::primitive_size))]
 fn primitive_size(w: usize, row: Row, gap: u64, payload: usize) -> EncodedSize
     requires { (w ≤ 8) × (gap < 4) × (payload < 2 ^ 40) }
     ensures { result ≡ primitive_size w row.hashkind (max gap (width_code (pos row.len))) payload }
 {
-    let paircode = encode::max(gap, encode::number_code(row.len));
-    if phd_plan::needs_flag_byte(row.hashkind) {
-        if paircode == 0 {
-            return make_size(8 + payload, false);
-        }
-        return make_size(6 + 2 * w + payload, false);
+    let paircode = encode::number_code(row.len).max(gap);
+    let fixed = if !phd_plan::needs_flag_byte(row.hashkind) {
+        5 + 2 * phd::forms::width_of(paircode)
+    } else if paircode == 0 {
+        8
+    } else {
+        6 + 2 * w
+    };
+    EncodedSize {
+        size: fixed + payload,
+        cached: false,
     }
-    make_size(5 + 2 * phd::forms::width_of(paircode) + payload, false)
 }
 
-// Returns the size of a record after one at the address `before`, with the cache; `w` is W / 8.
+// Returns the size of the record of a row with its references, after one at the address `before`, with the cache; `w` is W / 8.
+#[tactic(auto, using(crate::proofs::SizeBounds::plan_sizes), unfolding(phd_plan::specs::FormChoice::plan_input))]
 pub fn record_size(w: usize, cache: Cache, before: u64, row: Row, refs: &[u64]) -> EncodedSize
-    requires count_in_bounds { (row.first + row.count ≤ length refs.now) × Bounded (plan_input cache before row (refs_of refs.now row)) }
+    requires bounded { Bounded (plan_input cache before row refs.now) }
     requires w_bound { (w ≤ 8) × (row.namelen < 2 ^ 16) }
-    ensures { result ≡ record_size (make_plan w (plan_input cache before row (refs_of refs.now row))) row }
+    ensures { result ≡ record_size (make_plan w (plan_input cache before row refs.now)) row }
 {
     let gap = encode::gap_code(before, row.address);
     let fixed = phd::forms::hash_bytes_of(row.hashkind) + row.namelen as usize;
-    if 3 < row.kind {
+    // Kind 0, which is no valid kind, has the form of a primitive array, as in `form_of`.
+    if row.kind == 0 || 3 < row.kind {
         return primitive_size(w, row, gap, fixed);
     }
-    let n = row.count as usize;
-    let refcode = encode::refs_code(refs, row.first as usize, n, row.address);
-    let payload = phd::forms::width_of(gap) + fixed + n * phd::forms::width_of(refcode);
-    if row.kind == 2 {
-        return object_size(w, cache, row, gap, payload);
+    let refcode = encode::refs_code(refs, row.address);
+    let payload = phd::forms::width_of(gap)
+        + fixed
+        + row.count as usize * phd::forms::width_of(refcode);
+    match row.kind {
+        1 => EncodedSize {
+            size: 12 + w + payload,
+            cached: false,
+        },
+        2 => object_size(w, cache, row, gap, payload),
+        _ => EncodedSize {
+            size: 14 + w + payload,
+            cached: false,
+        },
     }
-    if row.kind == 1 {
-        return make_size(12 + w + payload, false);
-    }
-    if row.kind == 3 {
-        return make_size(14 + w + payload, false);
-    }
-    // Kind 0, which is no valid kind, has the form of a primitive array, as in `form_of`.
-    primitive_size(w, row, gap, fixed)
 }

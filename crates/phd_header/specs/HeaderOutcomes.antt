@@ -1,28 +1,11 @@
--- The answers of this crate's functions as outcomes of layouts, and a law: a header that is read whole has W 32 or 64.
--- A reader must believe `header_outcome`, which the contract of `read_header` cites. Assumes nothing.
+-- A header that is read whole has W 32 or 64. Assumes nothing.
 use Rattle.std.specs.Prelude.{◌≡◌, refl, Bool, true, false, cond, List, ℕ}
 use Rattle.std.proofs.Common.{subst, inl, inr}
-use Rattle.decode.specs.Layout.{Outcome, whole, stops, run, then_inv, run_yield}
+use Rattle.decode.specs.Layout.{whole, run, then_inv, run_yield}
 use Rattle.decode.specs.declared.StringSpan.{StringSpan}
 use Rattle.phd.specs.Phd.{bit, header, make_header}
 use Rattle.phd.specs.Shapes.{ValidBits}
 use Rattle.phd.specs.declared.Header.{Header}
-use Rattle.phd_header.specs.declared.HeaderRead.{HeaderRead}
-use Rattle.phd_header.specs.declared.HeaderRead.TheVariants.{Is, Stops}
-use Rattle.phd_header.specs.declared.UnitRead.{UnitRead}
-use Rattle.phd_header.specs.declared.UnitRead.TheVariants.{Is as IsUnit, Stops as StopsUnit}
-
--- The outcome of an answer of `read_header`: the header and the offset after it, or why reading stops.
-abbrev pub header_outcome : HeaderRead → Outcome Header
-header_outcome (Is h next) = whole h next
-header_outcome (Stops w) = stops w
-
--- The outcome of an answer without a value.
-abbrev pub unit_outcome : UnitRead → Outcome (Unit {0})
-unit_outcome (IsUnit next) = whole tt next
-unit_outcome (StopsUnit w) = stops w
-
--- ---- values of W
 
 bits_32_or_64 : (b : Bool) → ValidBits (cond b 64 32)
 bits_32_or_64 true = inr refl

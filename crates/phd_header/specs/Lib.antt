@@ -1,2 +1,2 @@
--- The functions' answers as outcomes of layouts, and a law of every header that is read whole (HeaderOutcomes).
+-- A law of every header that is read whole.
 pub mod HeaderOutcomes

@@ -2,11 +2,9 @@
 // Each function's contract is an equation with a definition of specs/FormChoice.antt.
 #![tactic(auto)]
 
-ghost use Rattle.std.specs.Prelude.{◌≡◌, ◌+◌, ◌≤◌, ◌<◌, length};
-ghost use Rattle.table.specs.Rows.{refs_of};
+ghost use Rattle.std.specs.Prelude.{◌≡◌, ◌<◌};
 ghost use Rattle.phd_plan.specs.FormChoice.{slot_holds, find_slot, plan_input, needs_flag_byte, object_form, form_of, tag_of, hash_flags, class_flags, flags_of, make_plan, Bounded};
 
-use decode::choice;
 use phd::{Cache, Form, Shape};
 use table::Row;
 
@@ -35,28 +33,33 @@ pub struct Plan {
 }
 
 // Checks whether slot i of the cache is filled and holds the class word.
+#[tactic(auto, unfolding(crate::specs::FormChoice::slot_holds))]
 fn slot_holds(cache: Cache, class: u64, i: usize) -> bool
     requires { i < 4 }
     ensures { result ≡ slot_holds cache class i }
 {
-    let classes = cache.classes;
-    (i < cache.pushes) & (classes[i] == class)
+    (i < cache.pushes) & (cache.classes[i] == class)
 }
 
-// Returns the lowest filled slot that holds the class word, 4 if none does.
+// Returns the lowest filled slot that holds the class word, 4 if none does. All slots are tested, so that no branch is compiled.
+#[tactic(auto, unfolding(crate::specs::FormChoice::find_slot))]
 pub fn find_slot(cache: Cache, class: u64) -> u64
     ensures { result ≡ find_slot cache class }
 {
-    let three = choice(slot_holds(cache, class, 3), 3, 4);
-    let two = choice(slot_holds(cache, class, 2), 2, three);
-    let one = choice(slot_holds(cache, class, 1), 1, two);
-    choice(slot_holds(cache, class, 0), 0, one)
+    let three = if slot_holds(cache, class, 3) { 3 } else { 4 };
+    let two = if slot_holds(cache, class, 2) {
+        2
+    } else {
+        three
+    };
+    let one = if slot_holds(cache, class, 1) { 1 } else { two };
+    if slot_holds(cache, class, 0) { 0 } else { one }
 }
 
-// Returns the plan input of a row that follows a record at the address `before`, with the cache before it.
+// Returns the plan input of a row with its references, after a record at the address `before`, with the cache before it.
+#[tactic(auto, unfolding(crate::specs::FormChoice::plan_input))]
 pub fn plan_input_of(cache: Cache, before: u64, row: Row, refs: &[u64]) -> PlanInput
-    requires { row.first + row.count ≤ length refs.now }
-    ensures { result ≡ plan_input cache before row (refs_of refs.now row) }
+    ensures { result ≡ plan_input cache before row refs.now }
 {
     let gap = encode::gap_code(before, row.address);
     PlanInput {
@@ -65,55 +68,57 @@ pub fn plan_input_of(cache: Cache, before: u64, row: Row, refs: &[u64]) -> PlanI
         prim: row.prim,
         slot: find_slot(cache, row.class),
         count: row.count,
-        gap: gap,
-        refcode: encode::refs_code(refs, row.first as usize, row.count as usize, row.address),
-        paircode: encode::max(gap, encode::number_code(row.len)),
+        gap,
+        refcode: encode::refs_code(refs, row.address),
+        paircode: encode::number_code(row.len).max(gap),
     }
 }
 
 // Checks whether the hash kind needs a flag byte.
+#[tactic(auto, unfolding(crate::specs::FormChoice::needs_flag_byte))]
 pub fn needs_flag_byte(kind: u64) -> bool
     ensures { result ≡ needs_flag_byte kind }
 {
-    (kind == 1) | (kind == 2)
+    matches!(kind, 1 | 2)
 }
 
 // Returns the form of an object.
+#[tactic(auto, unfolding(crate::specs::FormChoice::object_form))]
 fn object_form(m: PlanInput) -> Form
     ensures { result ≡ object_form m }
 {
     if needs_flag_byte(m.hashkind) {
-        return Form::Long;
+        Form::Long
+    } else if m.count <= 3 && m.slot < 4 && m.gap < 2 {
+        Form::Short
+    } else if m.count <= 7 && m.gap < 2 {
+        Form::Medium
+    } else {
+        Form::Long
     }
-    if m.count <= 3 && m.slot < 4 && m.gap < 2 {
-        return Form::Short;
-    }
-    if m.count <= 7 && m.gap < 2 {
-        return Form::Medium;
-    }
-    Form::Long
 }
 
 // Returns the form of a record.
+#[tactic(auto, unfolding(crate::specs::FormChoice::form_of))]
 fn form_of(m: PlanInput) -> Form
     ensures { result ≡ form_of m }
 {
-    if m.kind == 1 {
-        return Form::Class;
+    match m.kind {
+        1 => Form::Class,
+        2 => object_form(m),
+        3 => Form::ObjectArray,
+        _ => {
+            if needs_flag_byte(m.hashkind) {
+                Form::LongPrimitive
+            } else {
+                Form::Primitive
+            }
+        }
     }
-    if m.kind == 2 {
-        return object_form(m);
-    }
-    if m.kind == 3 {
-        return Form::ObjectArray;
-    }
-    if needs_flag_byte(m.hashkind) {
-        return Form::LongPrimitive;
-    }
-    Form::Primitive
 }
 
 // Returns the tag of a record.
+#[tactic(auto, unfolding(crate::specs::FormChoice::tag_of))]
 fn tag_of(form: Form, m: PlanInput) -> u64
     requires { Bounded m }
     ensures { result ≡ tag_of form m }
@@ -130,29 +135,27 @@ fn tag_of(form: Form, m: PlanInput) -> u64
 }
 
 // Returns the flag bits for the hash kind, of every record but a class.
+#[tactic(auto, unfolding(crate::specs::FormChoice::hash_flags))]
 fn hash_flags(kind: u64) -> u64
     ensures { result ≡ hash_flags kind }
 {
-    if kind == 2 {
-        return 0x03;
+    match kind {
+        2 => 0x03,
+        1 => 0x01,
+        _ => 0,
     }
-    if kind == 1 {
-        return 0x01;
-    }
-    0
 }
 
 // Returns the flag bits for the hash kind, of a class.
+#[tactic(auto, unfolding(crate::specs::FormChoice::class_flags))]
 fn class_flags(kind: u64) -> u64
     ensures { result ≡ class_flags kind }
 {
-    if kind == 2 {
-        return 0x08;
-    }
-    0
+    if kind == 2 { 0x08 } else { 0 }
 }
 
 // Returns the flag byte of a record, 0 if its form has none.
+#[tactic(auto, unfolding(crate::specs::FormChoice::flags_of, crate::specs::FormChoice::hash_flags, crate::specs::FormChoice::class_flags))]
 fn flags_of(form: Form, m: PlanInput) -> u64
     requires { Bounded m }
     ensures { result ≡ flags_of form m }
@@ -160,22 +163,15 @@ fn flags_of(form: Form, m: PlanInput) -> u64
     let hash = hash_flags(m.hashkind);
     let widths = 0x40 * m.gap + 0x10 * m.refcode;
     match form {
-        Form::Long => widths + hash,
-        Form::ObjectArray => widths + hash,
+        Form::Long | Form::ObjectArray => widths + hash,
         Form::Class => widths + class_flags(m.hashkind),
-        Form::LongPrimitive => {
-            if m.paircode == 0 {
-                return 0x20 * m.prim + hash;
-            }
-            0x20 * m.prim + 0x10 + hash
-        }
-        Form::Short => 0,
-        Form::Medium => 0,
-        Form::Primitive => 0,
+        Form::LongPrimitive => 0x20 * m.prim + 0x10 * u64::from(m.paircode != 0) + hash,
+        Form::Short | Form::Medium | Form::Primitive => 0,
     }
 }
 
 // Returns the tag, the flag byte and the shape of a record; w is W / 8.
+#[tactic(auto, unfolding(crate::specs::FormChoice::make_plan))]
 pub fn make_plan(w: usize, m: PlanInput) -> Plan
     requires { Bounded m }
     ensures { result ≡ make_plan w m }
@@ -184,8 +180,8 @@ pub fn make_plan(w: usize, m: PlanInput) -> Plan
     let tag = tag_of(form, m);
     let flags = flags_of(form, m);
     Plan {
-        tag: tag,
-        flags: flags,
+        tag,
+        flags,
         shape: phd::forms::shape_of(w, form, tag, flags),
     }
 }

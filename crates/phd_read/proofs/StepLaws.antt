@@ -9,23 +9,22 @@ use lib.Seq.{sets}
 use Rattle.decode.specs.Layout.{Outcome, whole, stops, run, reply_of, missing_of}
 use Rattle.decode.specs.declared.Stop.{Stop}
 use Rattle.table.specs.Table.{row_width}
-use Rattle.phd.specs.Phd.{max_address, ref_list, make_context, Item, end_item, item, entry, phd}
+use Rattle.phd.specs.Phd.{max_address, ref_list, Item, end_item, item, entry, phd}
 use Rattle.phd.specs.EntryLaws.{origin_at}
 use Rattle.phd.specs.declared.Header.{Header}
-use Rattle.phd_record.specs.RecordOutcomes.{record_read_of, record_read_item}
-use Rattle.phd_record.specs.declared.RecordRead.{RecordRead}
-use Rattle.phd_record.specs.declared.Next.TheVariants.{Record}
+use Rattle.phd_record.specs.RecordReads.{read_item}
+use Rattle.phd_record.specs.declared.Record.{Record}
 use Rattle.reader.proofs.TableSteps as AnyFormat
 use Rattle.phd_read.specs.PhdLaws.{phd_lawful}
 use Rattle.phd_read.specs.RecordProperties.{ReadFrom, entry_read_from}
 use Rattle.phd_read.specs.StoredRefs.{RefsAllRead, values_of}
-use Rattle.phd_read.specs.PhdSteps.{advanced, CursorInBounds, StepContinues, StepEnds}
+use Rattle.phd_read.specs.PhdSteps.{advanced, FoundAt, CursorInBounds, StepContinues, StepEnds}
 use Rattle.phd_read.specs.declared.records.Cursor.{Cursor}
 
 module _ (h : Header) {s rows refs : List ℕ} {k : Cursor} (fits : CursorInBounds s rows refs k) where
   -- The outcome of reading at the cursor.
   abbrev at_cursor : Outcome Item
-  at_cursor = run (entry h k.address k.cache k.refs) s k.at
+  at_cursor = run (entry h k.context.address k.context.cache k.refs) s k.at
 
   -- The end tag ends the reading with reply 0.
   pub ends_at_end_tag : (n : ℕ) → at_cursor ≡ whole end_item n → StepEnds h s k rows refs rows refs k 0 n 0
@@ -36,13 +35,13 @@ module _ (h : Header) {s rows refs : List ℕ} {k : Cursor} (fits : CursorInBoun
   ends_at_stop = AnyFormat.step_ends_stop phd phd_lawful h fits
 
   -- A record was read; the next tag is at offset n.
-  module _ {f : RecordRead} {n : ℕ} (is : f ≡ record_read_of k.cache at_cursor) (what : f.next ≡ Record n) where
-    abbrev item_read : (rs : List ℕ) × (at_cursor ≡ whole (item f.row rs f.span (make_context f.address f.cache)) n)
-    item_read = record_read_item k.cache at_cursor f is n what
+  module _ {f : Record} {n : ℕ} (is : FoundAt h s k f n) where
+    abbrev item_read : (rs : List ℕ) × (at_cursor ≡ whole (item f.row rs f.span f.context) n)
+    item_read = read_item is
 
     -- The record satisfies `ReadFrom`.
-    pub read_from : ReadFrom h s (origin_at k.at k.refs) f.row (record { span = f.span; list = item_read.0 }) f.address
-    read_from = entry_read_from h s k.address k.cache k.refs k.at f.row item_read.0 f.span (make_context f.address f.cache) n item_read.1
+    pub read_from : ReadFrom h s (origin_at k.at k.refs) f.row (record { span = f.span; list = item_read.0 }) f.context.address
+    read_from = entry_read_from h s k.context.address k.context.cache k.refs k.at f.row item_read.0 f.span f.context n item_read.1
 
     -- The references begin within the dump, and each has at most 8 bytes.
     pub span_in_dump : f.span.place ≤ length s
@@ -53,7 +52,7 @@ module _ (h : Header) {s rows refs : List ℕ} {k : Cursor} (fits : CursorInBoun
 
     -- The outcome of reading the references from their span.
     abbrev refs_outcome : Outcome (List ℕ)
-    refs_outcome = run (ref_list f.span.width f.address (max_address h.bits) f.span.count) s f.span.place
+    refs_outcome = run (ref_list f.span.width f.context.address (max_address h.bits) f.span.count) s f.span.place
 
     refs_outcome_whole : refs_outcome ≡ whole item_read.0 read_from.refs.end
     refs_outcome_whole = read_from.refs.read
@@ -67,6 +66,10 @@ module _ (h : Header) {s rows refs : List ℕ} {k : Cursor} (fits : CursorInBoun
 
     refs_length : length item_read.0 ≡ f.span.count
     refs_length = read_from.refs.in_bounds.many
+
+    -- There are as many values as the record has references.
+    pub values_length : length (values_of refs_outcome) ≡ f.span.count
+    values_length = rw values_are refs_length
 
     -- Without capacity for a row, the reading ends with reply 13.
     pub ends_rows_full : length rows < k.rows * row_width + row_width → StepEnds h s k rows refs rows refs k 13 k.at 0

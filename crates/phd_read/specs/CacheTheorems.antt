@@ -1,7 +1,7 @@
 -- The class cache in a reading (docs/FORMAT.md 3.5): after any records its slots hold the class words of the medium and long
 -- objects among them, push number k in slot k modulo 4, and a short object has the class word of the slot that its tag names.
 -- A reader must believe `tag_at`, `pushes_class`, `classes_pushed`, `CacheAtRow` and `EmptySlot`.
-use Rattle.std.specs.Prelude.{◌≡◌, Bool, true, false, leb, eqb, get_or, take, drop}
+use Rattle.std.specs.Prelude.{◌≡◌, Bool, true, false, leb, eqb, get_or, take, drop, Option, Some, None}
 use Rattle.std.proofs.Math.Path.{refl, sym, ap, subst}
 use Rattle.std.proofs.Common.{◌∙◌, arith, get_or-take, length-take-le}
 use Prim.Native.Nat.{ℕ, zero, suc, ◌+◌, ◌-◌, ◌*◌, ◌/◌, ◌%◌, ◌<◌}
@@ -14,7 +14,6 @@ use Rattle.decode.specs.Layout.{yield, whole, stops, run, run_then, run_field, r
 use Rattle.decode.specs.Values.{Gives, gives_yield, gives_refuse, gives_then, gives_then_any, gives_weaken, gives_cond, gives_need, refuses_yield, refuses_cond, true_not_false}
 use Rattle.decode.specs.declared.Stop.{Stop}
 use Rattle.decode.specs.declared.Stop.TheVariants.{Cut, Refused}
-use Rattle.decode.specs.declared.Maybe.TheVariants.{Just, Nothing}
 use Rattle.table.specs.Table.{row_width, offset_number, row_count, row_slice, number, number_row_slice, whole_append, row_count_snoc, number_append, number_last}
 use Rattle.reader.specs.Reader.{next_item, append_item, initial_state, ended, no_records}
 use Rattle.reader.specs.Steps.{OnTransition, read_induction}
@@ -32,8 +31,6 @@ use Rattle.phd.specs.declared.Form.TheVariants.{Short, Medium, Long, Class, Obje
 use Rattle.phd.specs.declared.Origin.{Origin}
 use Rattle.phd.specs.declared.Shape.{Shape}
 use Rattle.phd.specs.declared.Span.{Span}
-use Rattle.phd.specs.declared.TagForm.{TagForm}
-use Rattle.phd.specs.declared.TagForm.TheVariants.{Begins, Other}
 use Rattle.phd_read.specs.RecordProperties.{entry_advances, entry_read_from}
 use Rattle.phd_read.specs.PhdLaws.{phd_always}
 use Rattle.phd_read.specs.RowTags.{phd_row_origins}
@@ -45,15 +42,15 @@ abbrev pub tag_at : List ℕ → ℕ → ℕ
 tag_at s place = value (take 1 (drop place s))
 
 -- Whether a record with such a tag pushes its class word: medium and long objects do, no other record does.
-unfoldable pub pushes_class : TagForm → Bool
-pushes_class (Begins Medium) = true
-pushes_class (Begins Long) = true
-pushes_class (Begins Short) = false
-pushes_class (Begins Class) = false
-pushes_class (Begins ObjectArray) = false
-pushes_class (Begins Primitive) = false
-pushes_class (Begins LongPrimitive) = false
-pushes_class Other = false
+unfoldable pub pushes_class : Option Form → Bool
+pushes_class (Some Medium) = true
+pushes_class (Some Long) = true
+pushes_class (Some Short) = false
+pushes_class (Some Class) = false
+pushes_class (Some ObjectArray) = false
+pushes_class (Some Primitive) = false
+pushes_class (Some LongPrimitive) = false
+pushes_class None = false
 
 -- The class words that the records of the first n rows pushed, the last one first. (Number 2 of a row is its class word.)
 unfoldable pub classes_pushed : List ℕ → List ℕ → ℕ → List ℕ
@@ -68,11 +65,11 @@ classes_pushed s rows (suc i) =
 abbrev CacheStep : Cache → ℕ → Item → Type 0
 CacheStep c t end_item = Unit {0}
 CacheStep c t (item r rs sp k) =
-    (k.cache ≡ cond (pushes_class (tag_form t)) (push c (get_or r 2 0)) c) × (tag_form t ≡ Begins Short → slot c (t / 0x20 % 4) ≡ Just (get_or r 2 0))
+    (k.cache ≡ cond (pushes_class (tag_form t)) (push c (get_or r 2 0)) c) × (tag_form t ≡ Some Short → slot c (t / 0x20 % 4) ≡ Some (get_or r 2 0))
 
 -- The shape of a form pushes a class word exactly if `pushes_class` holds, and then it has a field for one.
 record ShapeCaches (fm : Form) (sh : Shape) : Type 0 where
-  pub cached : sh.cached ≡ pushes_class (Begins fm)
+  pub cached : sh.cached ≡ pushes_class (Some fm)
   pub has_class : sh.cached ≡ true → eqb sh.class 0 ≡ false
 
 -- Every shape satisfies `ShapeCaches`, if a class word has at least one byte.
@@ -87,7 +84,7 @@ shape_caches w n Primitive t f = record { cached = refl; has_class = λ e. absur
 shape_caches w n LongPrimitive t f = record { cached = refl; has_class = λ e. absurd (true_not_false (sym e)) }
 
 -- A short object has no field for a class word.
-short_no_class : (w : ℕ) (fm : Form) (t f : ℕ) → Begins fm ≡ Begins Short → ((shape w fm t f).class ≡ 0) × ((shape w fm t f).superclass ≡ 0)
+short_no_class : (w : ℕ) (fm : Form) (t f : ℕ) → Some fm ≡ Some Short → ((shape w fm t f).class ≡ 0) × ((shape w fm t f).superclass ≡ 0)
 unfolding shape
 short_no_class w fm t f e =
     let z : Short ≡ fm = cc in
@@ -111,10 +108,10 @@ gives_fields top before c origin known hk sh has_class =
     gives_yield _ (push_if_same_class c sh.cached (eqb sh.class 0) v.class _ has_class, λ z y. rw (z, y))))))))
 
 -- The form that `need_form` gives is that of the tag.
-pub gives_need_form : {s : List ℕ} (g : TagForm) → Gives s (λ fm. g ≡ Begins fm) (need_form g)
+pub gives_need_form : {s : List ℕ} (g : Option Form) → Gives s (λ fm. g ≡ Some fm) (need_form g)
 unfolding need_form
-gives_need_form (Begins fm) = gives_yield fm refl
-gives_need_form Other = gives_refuse 6
+gives_need_form (Some fm) = gives_yield fm refl
+gives_need_form None = gives_refuse 6
 
 module _ (h : Header) (before : ℕ) (c : Cache) (w : eqb (h.bits / 8) 0 ≡ false) where
   gives_record_body : {s : List ℕ} (origin : Origin) (t : ℕ) → Gives s (CacheStep c t) (record_body h before c origin t)
@@ -123,7 +120,7 @@ module _ (h : Header) (before : ℕ) (c : Cache) (w : eqb (h.bits / 8) 0 ≡ fal
       gives_then _ _ _ (gives_need_form (tag_form t)) (λ fm e. gives_then _ _ _ (gives_need 10 _) (λ known d. gives_then_any _ _ (λ f.
       gives_weaken (gives_fields _ before c origin known _ _ (shape_caches _ w fm t f).has_class) (by fm known f e d))))
     where
-      by : (fm : Form) (known f : ℕ) → tag_form t ≡ Begins fm → slot_class c t ≡ Just known
+      by : (fm : Form) (known f : ℕ) → tag_form t ≡ Some fm → slot_class c t ≡ Some known
           → (i : Item) → CacheStepByShape c known (shape (h.bits / 8) fm t f) i → CacheStep c t i
       by fm known f e d end_item x = tt
       by fm known f e d (item r rs sp k) x =
@@ -194,7 +191,7 @@ pub record CacheAtRow (s rows : List ℕ) (i : ℕ) (c : Cache) : Type 0 where
   -- Each slot holds the last class word pushed into it by the records before, push number k going into slot k modulo 4.
   pub slots : (j : ℕ) → j < 4 → slot c j ≡ slot_after (classes_pushed s rows i) j
   -- A short object has the class word of the slot that its tag names.
-  pub short : tag_form (tag_at s (offset_of rows i)) ≡ Begins Short → slot_after (classes_pushed s rows i) (tag_at s (offset_of rows i) / 0x20 % 4) ≡ Just (number rows i 2)
+  pub short : tag_form (tag_at s (offset_of rows i)) ≡ Some Short → slot_after (classes_pushed s rows i) (tag_at s (offset_of rows i) / 0x20 % 4) ≡ Some (number rows i 2)
 
 -- Every stored row satisfies `CacheAtRow`.
 pub read_cache_at_row : (s : List ℕ) (R F i : ℕ) (l : i < row_count (read_result s R F).rows)
@@ -232,7 +229,7 @@ read_cache_at_row s R F i l = record {
         let c : st.context.cache ≡ push_all (classes_pushed s rows i) = rw (counted, alike) at (cache_filled_after h s R F w x.start x.count st x.reached).cache in
         rw c (slot_push_all (classes_pushed s rows i) j b)
 
-    record_short : tag_form (tag_at s st.at) ≡ Begins Short → slot st.context.cache (tag_at s st.at / 0x20 % 4) ≡ Just (get_or (row_slice rows i) 2 0)
+    record_short : tag_form (tag_at s st.at) ≡ Some Short → slot st.context.cache (tag_at s st.at / 0x20 % 4) ≡ Some (get_or (row_slice rows i) 2 0)
     record_short = (entry_cache_step h s st.context.address st.context.cache (length st.refs) st.at (row_slice rows i) x.list x.note x.context x.end w x.item_is).1
 
 -- ---- an empty slot
@@ -240,8 +237,8 @@ read_cache_at_row s R F i l = record {
 -- The reason for reply 10 at a place of the dump s, after these rows: the tag there is a short object's, and no class word has
 -- been pushed into the slot that it names.
 pub record EmptySlot (s rows : List ℕ) (place : ℕ) : Type 0 where
-  pub short : tag_form (tag_at s place) ≡ Begins Short
-  pub never_filled : slot_after (classes_pushed s rows (row_count rows)) (tag_at s place / 0x20 % 4) ≡ Nothing
+  pub short : tag_form (tag_at s place) ≡ Some Short
+  pub never_filled : slot_after (classes_pushed s rows (row_count rows)) (tag_at s place / 0x20 % 4) ≡ None
 
 -- A reply that refuses a field is not 10.
 field_reply_not_10 : {Q : Type 0} (r : ℕ) → FieldReply r → r ≡ 10 → Q
@@ -249,7 +246,7 @@ field_reply_not_10 r k e = absurd (true_not_false (sym (rw e at k)))
 
 -- A record is refused with 10 only if it is a short object whose slot is empty.
 slot_empty : (h : Header) (s : List ℕ) (before : ℕ) (c : Cache) (index at : ℕ) → run (entry h before c index) s at ≡ stops (Refused 10)
-    → (tag_form (tag_at s at) ≡ Begins Short) × (slot c (tag_at s at / 0x20 % 4) ≡ Nothing)
+    → (tag_form (tag_at s at) ≡ Some Short) × (slot c (tag_at s at / 0x20 % 4) ≡ None)
 unfolding from_tag slot_class tag_form
 slot_empty h s before c index at e = elim (dec_le (at + 1) (length s)) [
   | yes l ↦ by (leb 0x80 t) refl (refused (rw (entry_from_tag, run_then, run_field 1 s at l) at e))
@@ -262,12 +259,12 @@ slot_empty h s before c index at e = elim (dec_le (at + 1) (length s)) [
     t : ℕ
     t = tag_at s at
 
-    refused : run (cond (eqb t 3) (yield end_item) (record_body h before c (origin_at at index) t)) s (at + 1) ≡ stops (Refused 10) → slot_class c t ≡ Nothing
+    refused : run (cond (eqb t 3) (yield end_item) (record_body h before c (origin_at at index) t)) s (at + 1) ≡ stops (Refused 10) → slot_class c t ≡ None
     refused x =
-        (refuses_cond {P = λ r. r ≡ 10 → slot_class c t ≡ Nothing} (eqb t 3) _ _ (refuses_yield end_item)
-        (record_body_refuses (λ r. r ≡ 10 → slot_class c t ≡ Nothing) field_reply_not_10 h before c (origin_at at index) t (λ k _. k))).each s (at + 1) 10 x refl
+        (refuses_cond {P = λ r. r ≡ 10 → slot_class c t ≡ None} (eqb t 3) _ _ (refuses_yield end_item)
+        (record_body_refuses (λ r. r ≡ 10 → slot_class c t ≡ None) field_reply_not_10 h before c (origin_at at index) t (λ k _. k))).each s (at + 1) 10 x refl
 
-    by : (b : Bool) → leb 0x80 t ≡ b → cond b (slot c (t / 0x20 % 4)) (Just 0) ≡ Nothing → (tag_form t ≡ Begins Short) × (slot c (t / 0x20 % 4) ≡ Nothing)
+    by : (b : Bool) → leb 0x80 t ≡ b → cond b (slot c (t / 0x20 % 4)) (Some 0) ≡ None → (tag_form t ≡ Some Short) × (slot c (t / 0x20 % 4) ≡ None)
     by true d k = (rw d, k)
     by false d k = let z : ◌≡◌ {A = ℕ} 0 1 = cc in absurd (omega arith)
 

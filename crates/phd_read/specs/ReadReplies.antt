@@ -1,13 +1,12 @@
 -- The header and the records are refused with the replies 3 to 12 only (docs/FORMAT.md 8), so a reading gives one of the replies
 -- 0 to 14, and reply 1 only for a cut.
 -- Assumes nothing.
-use Rattle.std.specs.Prelude.{◌≡◌, refl, true, not, ◌&&◌, leb, eqb}
+use Rattle.std.specs.Prelude.{◌≡◌, refl, true, not, ◌&&◌, leb, eqb, Option, Some, None}
 use Prim.Native.Nat.{ℕ, zero, suc, ◌≤◌}
 use mathlib.Core.List.{List, []}
 use Rattle.std.proofs.Common.{lit≤, arith, leb-true}
 use Rattle.decode.specs.Layout.{Layout}
 use Rattle.decode.specs.Fields.{no_string}
-use Rattle.decode.specs.declared.Maybe.TheVariants.{Nothing}
 use Rattle.decode.specs.Values.{and_left, and_right, Refuses, refuses_yield, refuses_refuse, refuses_then, refuses_cond, refuses_field, refuses_raw, refuses_position, refuses_check, refuses_need_nothing, refuses_exactly, refuses_below, refuses_address, refuses_ref, refuses_count, refuses_string}
 use Rattle.phd.specs.Phd.{magic_bytes, preamble, after_vm, header_records, header, need_form, slot_class, flag_byte, front, middle, class_name, ref_count, ref_list, spanned_refs, true_length, tail, end_item, from_ref_count, fields, record_body, from_tag, entry, phd, capacity, read_result}
 use Rattle.phd.specs.EntryLaws.{entry_refuses}
@@ -15,9 +14,8 @@ use Rattle.phd.specs.declared.cache.Cache.{Cache}
 use Rattle.phd.specs.declared.Header.{Header}
 use Rattle.phd.specs.declared.Origin.{Origin}
 use Rattle.phd.specs.declared.Shape.{Shape}
-use Rattle.phd.specs.declared.TagForm.{TagForm}
-use Rattle.phd.specs.declared.TagForm.TheVariants.{Begins, Other}
 use Rattle.reader.proofs.WithinCapacity.{read_replies}
+use Rattle.phd.specs.declared.Form.{Form}
 
 -- A reply that refuses bytes that are present: 3 to 12.
 abbrev PhdRefusal : ℕ → Type 0
@@ -62,10 +60,10 @@ module _ (P : ℕ → Type 0) (p : (r : ℕ) → FieldReply r → P r) where
 
   -- ---- a record
 
-  need_form_refuses : (t : TagForm) → Refuses P (need_form t)
+  need_form_refuses : (t : Option Form) → Refuses P (need_form t)
   unfolding need_form
-  need_form_refuses (Begins fm) = refuses_yield fm
-  need_form_refuses Other = refuses_refuse 6 (p 6 refl)
+  need_form_refuses (Some fm) = refuses_yield fm
+  need_form_refuses None = refuses_refuse 6 (p 6 refl)
 
   flag_byte_refuses : (h : Header) (t : ℕ) → Refuses P (flag_byte h t)
   unfolding flag_byte
@@ -119,7 +117,7 @@ module _ (P : ℕ → Type 0) (p : (r : ℕ) → FieldReply r → P r) where
       refuses_then _ _ (tail_refuses sh.size sh.truelen n) (λ t. refuses_yield _))))))
 
   -- Every reply that refuses a record satisfies P, if 10 does when the slot is empty.
-  pub record_body_refuses : (h : Header) (before : ℕ) (c : Cache) (origin : Origin) (t : ℕ) → (slot_class c t ≡ Nothing → P 10) → Refuses P (record_body h before c origin t)
+  pub record_body_refuses : (h : Header) (before : ℕ) (c : Cache) (origin : Origin) (t : ℕ) → (slot_class c t ≡ None → P 10) → Refuses P (record_body h before c origin t)
   unfolding record_body
   record_body_refuses h before c origin t ten =
       refuses_then _ _ (need_form_refuses _) (λ fm. refuses_then _ _ (refuses_need_nothing 10 _ ten) (λ known.

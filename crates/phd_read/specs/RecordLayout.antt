@@ -1,6 +1,6 @@
 -- A record that was read takes exactly the bytes of its shape, and its row agrees with its tag, its flag byte and its shape.
 -- A reader must believe `FitsShape` and `HasLayout`.
-use Rattle.std.specs.Prelude.{◌≡◌, ℕ, zero, suc, ◌+◌, ◌*◌, ◌/◌, ◌≤◌, List, [], ◌∷◌, length, ltb, eqb}
+use Rattle.std.specs.Prelude.{◌≡◌, ℕ, zero, suc, ◌+◌, ◌*◌, ◌/◌, ◌≤◌, List, [], ◌∷◌, length, ltb, eqb, Option, Some, None}
 use Rattle.std.proofs.Math.Path.{refl}
 use Rattle.std.proofs.Common.{ap, suc-mul, le-ltb, eqb-true}
 use native.Mathlib.Omega.{arith}
@@ -10,7 +10,6 @@ use Rattle.decode.specs.Layout.{whole, run}
 use Rattle.decode.specs.Fields.{no_string}
 use Rattle.decode.specs.Takes.{Takes, AddressIn, CountIn, takes_yield, takes_refuse, takes_then, takes_weaken, takes_cases, takes_field, takes_position, takes_check, takes_need, takes_address, takes_ref, takes_count, takes_string}
 use Rattle.decode.specs.declared.StringSpan.{StringSpan}
-use Rattle.decode.specs.declared.Maybe.TheVariants.{Just}
 use Rattle.table.specs.Rows.{row_at, without_place}
 use Rattle.table.specs.declared.Row.{Row}
 use Rattle.phd.specs.Phd.{max_address, tag_form, need_form, slot_class, flag_byte, hash_kind, hash_bytes, shape, front, middle, class_name, ref_count, ref_list, SpannedRefs, spanned_refs, true_length, tail, field_or, row, RecordContext, Item, end_item, item, from_ref_count, fields, record_body, from_tag, entry}
@@ -25,8 +24,6 @@ use Rattle.phd.specs.declared.Middle.{Middle}
 use Rattle.phd.specs.declared.Origin.{Origin}
 use Rattle.phd.specs.declared.Shape.{Shape}
 use Rattle.phd.specs.declared.Span.{Span}
-use Rattle.phd.specs.declared.TagForm.{TagForm}
-use Rattle.phd.specs.declared.TagForm.TheVariants.{Begins, Other}
 use Rattle.phd.specs.declared.Tail.{Tail}
 
 -- Every reference is the address a plus 4 times a signed number of w bytes, and at most top.
@@ -53,8 +50,8 @@ pub record HasLayout (h : Header) (before : ℕ) (c : Cache) (r : Row) (rs : Lis
   pub tag : ℕ
   pub flags : ℕ
   pub known : ℕ
-  pub form_is : tag_form tag ≡ Begins form
-  pub known_is : slot_class c tag ≡ Just known
+  pub form_is : tag_form tag ≡ Some form
+  pub known_is : slot_class c tag ≡ Some known
   pub no_flags : 0x20 ≤ tag → flags ≡ 0
   pub hash : r.hashkind ≡ hash_kind h tag flags
   pub fits : FitsShape (max_address h.bits) before known (shape (h.bits / 8) form tag flags) r rs
@@ -181,10 +178,10 @@ shape_name_width w ObjectArray t f z = absurd (z refl)
 shape_name_width w Primitive t f z = absurd (z refl)
 shape_name_width w LongPrimitive t f z = absurd (z refl)
 
-takes_need_form : (g : TagForm) → Takes (λ fm n. (n ≡ 0) × (g ≡ Begins fm)) (need_form g)
+takes_need_form : (g : Option Form) → Takes (λ fm n. (n ≡ 0) × (g ≡ Some fm)) (need_form g)
 unfolding need_form
-takes_need_form (Begins fm) = takes_yield fm (refl, refl)
-takes_need_form Other = takes_refuse 6
+takes_need_form (Some fm) = takes_yield fm (refl, refl)
+takes_need_form None = takes_refuse 6
 
 takes_flag_byte : (h : Header) (t : ℕ) → Takes (λ f n. (n ≡ cond (ltb t 0x20) 1 0) × (0x20 ≤ t → f ≡ 0)) (flag_byte h t)
 unfolding flag_byte
@@ -206,7 +203,7 @@ module _ (h : Header) (before : ℕ) (c : Cache) where
       takes_weaken (takes_fields (max_address h.bits) before c origin known (hash_kind h t f) (shape (h.bits / 8) fm t f) (shape_name_width (h.bits / 8) fm t f))
       (laid fm known f n n₁ n₂ e e₁ e₂))))
     where
-      laid : (fm : Form) (known f n n₁ n₂ : ℕ) → (n ≡ 0) × (tag_form t ≡ Begins fm) → (n₁ ≡ 0) × (slot_class c t ≡ Just known)
+      laid : (fm : Form) (known f n n₁ n₂ : ℕ) → (n ≡ 0) × (tag_form t ≡ Some fm) → (n₁ ≡ 0) × (slot_class c t ≡ Some known)
           → (n₂ ≡ cond (ltb t 0x20) 1 0) × (0x20 ≤ t → f ≡ 0)
           → (i : Item) (k : ℕ) → FieldsFit (max_address h.bits) before known (hash_kind h t f) (shape (h.bits / 8) fm t f) i k → ItemHasLayout i (1 + (n + (n₁ + (n₂ + k))))
       laid fm known f n n₁ n₂ e e₁ e₂ end_item k x = tt

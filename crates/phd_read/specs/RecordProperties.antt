@@ -1,6 +1,6 @@
 -- Properties of a record that was read from a dump: the numbers of its row, its address, its tag, and where its references are.
 -- Assumes nothing.
-use Rattle.std.specs.Prelude.{◌≡◌, refl, ℕ, zero, suc, ◌+◌, ◌≤◌, ◌<◌, Bool, true, false, cond, List, [], ◌∷◌, length, get_or, take, drop, eqb}
+use Rattle.std.specs.Prelude.{◌≡◌, refl, ℕ, zero, suc, ◌+◌, ◌≤◌, ◌<◌, Bool, true, false, cond, List, [], ◌∷◌, length, get_or, take, drop, eqb, Option, Some, None}
 use Rattle.std.proofs.Common.{subst, arith, le-leb}
 use Rattle.decode.specs.Numbers.{value, all_within}
 use Rattle.decode.specs.Layout.{yield, whole, stops, run, run_then, run_position, run_yield, run_refuse, run_field, then_inv, ◌>>=◌, field}
@@ -16,8 +16,6 @@ use Rattle.phd.specs.declared.Form.{Form}
 use Rattle.phd.specs.declared.Front.{Front}
 use Rattle.phd.specs.declared.Origin.{Origin}
 use Rattle.phd.specs.declared.Shape.{Shape}
-use Rattle.phd.specs.declared.TagForm.{TagForm}
-use Rattle.phd.specs.declared.TagForm.TheVariants.{Begins, Other}
 use Rattle.phd.specs.declared.Span.{Span}
 use Rattle.reader.specs.Steps.{byte_advances}
 
@@ -106,24 +104,24 @@ gives_from_tag h s before c origin =
 
 -- If a record was read after the byte t, then t is a record's tag.
 tag_has_form : (h : Header) (s : List ℕ) (before : ℕ) (c : Cache) (origin : Origin) (t m : ℕ) (r rs : List ℕ) (sp : Span) (k : RecordContext) (n : ℕ)
-    → run (cond (eqb t 3) (yield end_item) (record_body h before c origin t)) s m ≡ whole (item r rs sp k) n → (fm : Form) × (tag_form t ≡ Begins fm)
+    → run (cond (eqb t 3) (yield end_item) (record_body h before c origin t)) s m ≡ whole (item r rs sp k) n → (fm : Form) × (tag_form t ≡ Some fm)
 unfolding record_body need_form
 tag_has_form h s before c origin t m r rs sp k n e = by (eqb t 3) (tag_form t) refl refl
   where
-    by : (b : Bool) (g : TagForm) → eqb t 3 ≡ b → tag_form t ≡ g → (fm : Form) × (tag_form t ≡ Begins fm)
-    by b (Begins fm) p q = (fm, q)
-    by true Other p q =
+    by : (b : Bool) (g : Option Form) → eqb t 3 ≡ b → tag_form t ≡ g → (fm : Form) × (tag_form t ≡ Some fm)
+    by b (Some fm) p q = (fm, q)
+    by true None p q =
         let y : whole end_item m ≡ whole (item r rs sp k) n = rw (p, run_yield) at e in
         let z : ◌≡◌ {A = ℕ} 0 1 = cc in
         absurd (omega arith)
-    by false Other p q =
+    by false None p q =
         let y : stops (Refused 6) ≡ whole (item r rs sp k) n = rw (p, run_then, q, run_refuse) at e in
         let z : ◌≡◌ {A = ℕ} 0 1 = cc in
         absurd (omega arith)
 
 -- The byte at which a record was read is a record's tag.
 pub entry_tag_form : (h : Header) (s : List ℕ) (before : ℕ) (c : Cache) (index at : ℕ) (r rs : List ℕ) (sp : Span) (k : RecordContext) (n : ℕ)
-    → run (entry h before c index) s at ≡ whole (item r rs sp k) n → (fm : Form) × (tag_form (value (take 1 (drop at s))) ≡ Begins fm)
+    → run (entry h before c index) s at ≡ whole (item r rs sp k) n → (fm : Form) × (tag_form (value (take 1 (drop at s))) ≡ Some fm)
 unfolding from_tag
 entry_tag_form h s before c index at r rs sp k n e =
     let f = entry_advances h before c index s at (item r rs sp k) n e in

@@ -1,12 +1,11 @@
 -- The origin of each stored row: the theorem of `reader` (RowOrigins) for PHD, and that the byte at a row's offset is a record's
 -- tag.
 -- A reader must believe `TagAt`.
-use Rattle.std.specs.Prelude.{◌≡◌, ℕ, ◌<◌, List, length, take, drop}
+use Rattle.std.specs.Prelude.{◌≡◌, ℕ, ◌<◌, List, length, take, drop, Some}
 use Rattle.decode.specs.Numbers.{value}
 use Rattle.phd.specs.Phd.{tag_form, State, phd, capacity, read_result}
 use Rattle.table.specs.Table.{row_count}
 use Rattle.phd.specs.declared.Form.{Form}
-use Rattle.phd.specs.declared.TagForm.TheVariants.{Begins}
 use Rattle.reader.proofs.RowOrigins as AnyFormat
 use Rattle.reader.specs.RowOrigins.{offset_of, AllRowOrigins}
 use Rattle.phd_read.specs.PhdLaws.{phd_lawful}
@@ -15,7 +14,7 @@ use Rattle.phd_read.specs.RecordProperties.{entry_tag_form}
 -- The byte at a place is the tag of a record of some form.
 pub record TagAt (s : List ℕ) (place : ℕ) : Type 0 where
   pub form : Form
-  pub tag : tag_form (value (take 1 (drop place s))) ≡ Begins form
+  pub tag : tag_form (value (take 1 (drop place s))) ≡ Some form
 
 -- Every stored row came from a record at its offset, and the offsets increase strictly.
 pub phd_row_origins : (s : List ℕ) (R F : ℕ) → AllRowOrigins phd s (capacity R F) (read_result s R F)

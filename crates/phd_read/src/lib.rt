@@ -9,8 +9,8 @@ ghost use Rattle.table.specs.Buffer.{overwrite};
 ghost use Rattle.phd_read.specs.ReadContract.{read_answer};
 
 use decode::StringSpan;
+use decode::decoder::Decoder;
 use phd::Header;
-use phd_header::HeaderRead;
 
 pub mod records;
 mod tables;
@@ -32,9 +32,9 @@ fn no_records(reply: u64, missing: usize) -> ReadAnswer
     ensures { result ≡ read_answer (no_records reply missing) }
 {
     ReadAnswer {
-        reply: reply,
+        reply,
         place: 0,
-        missing: missing,
+        missing,
         rows: 0,
         refs: 0,
         header: Header {
@@ -60,8 +60,9 @@ pub fn read_tables(dump: &[u8], rows: &mut [u64], refs: &mut [u64]) -> ReadAnswe
     if reader::LIMIT < dump.len() {
         return no_records(2, 0);
     }
-    match phd_header::read_header(dump) {
-        HeaderRead::Is(header, at) => records::read_records(dump, header, at, rows, refs),
-        HeaderRead::Stops(w) => no_records(decode::reply_of(w), decode::missing_of(w)),
+    let mut d = Decoder { bytes: dump, at: 0 };
+    match phd_header::read_header(&mut d) {
+        Ok(header) => records::read_records(dump, header, d.at, rows, refs),
+        Err(w) => no_records(decode::reply_of(w), decode::missing_of(w)),
     }
 }

@@ -1,84 +1,85 @@
 // Reads the records of a dump: one step, and the loop over steps.
 ghost use Rattle.std.specs.Prelude.{◌≡◌, suc, ◌+◌, ◌*◌, ◌^◌, ◌<◌, ◌≤◌, length};
-ghost use Rattle.decode.specs.Layout.{run};
 ghost use Rattle.table.specs.Table.{row_width};
-ghost use Rattle.phd.specs.Phd.{limit, entry, records, initial_state};
+ghost use Rattle.phd.specs.Phd.{limit, records, initial_state};
 ghost use Rattle.phd.specs.Shapes.{ValidBits};
-ghost use Rattle.phd_record.specs.RecordOutcomes.{record_read_of};
-ghost use Rattle.phd_record.specs.declared.Next.TheVariants.{Record};
 ghost use Rattle.table.specs.Buffer.{overwrite};
 ghost use Rattle.phd_read.specs.ReadContract.{read_answer};
-ghost use Rattle.phd_read.specs.PhdSteps.{CursorInBounds, StepContinues, StepContract, UpToContract, advanced, initial_cursor};
+ghost use Rattle.phd_read.specs.PhdSteps.{CursorInBounds, FoundAt, StepContinues, StepContract, UpToContract, advanced, initial_cursor};
 
 use super::{ReadAnswer, tables};
-use phd::{Cache, Header};
-use phd_record::{Next, RecordRead};
-use reader::StepResult;
+use decode::decoder::Decoder;
+use phd::{Cache, Header, RecordContext};
+use phd_record::Record;
+use reader::End;
 
-// The state of a reading between two records: the offset of the next tag, the address of the record before, the cache, and how
-// many rows and references are stored.
+// The state of a reading between two records: the offset of the next tag, the context of the record there, and how many rows and
+// references are stored.
 #[derive(Clone, Copy)]
 pub struct Cursor {
     pub at: usize,
-    pub address: u64,
-    pub cache: Cache,
+    pub context: RecordContext,
     pub rows: usize,
     pub refs: usize,
 }
 
-// The answer of a step: its result, and the cursor after it.
-#[derive(Clone, Copy)]
-pub struct Stepped {
-    pub result: StepResult,
-    pub cursor: Cursor,
-}
+impl Cursor {
+    // Returns the cursor before the first record, whose tag is at `at`.
+    pub fn first(at: usize) -> Cursor
+        ensures { result ≡ initial_cursor at }
+    {
+        Cursor {
+            at,
+            context: RecordContext {
+                address: 0,
+                cache: Cache::new(),
+            },
+            rows: 0,
+            refs: 0,
+        }
+    }
 
-// Returns the cursor after the record `found`; the next tag is at `next`.
-fn advance(k: Cursor, next: usize, found: RecordRead) -> Cursor
-    requires { (k.rows + 1 < 2 ^ 64) × (k.refs + found.span.count < 2 ^ 64) }
-    ensures { result ≡ advanced k next found }
-{
-    let cache = found.cache;
-    let span = found.span;
-    Cursor {
-        at: next,
-        address: found.address,
-        cache: cache,
-        rows: k.rows + 1,
-        refs: k.refs + span.count as usize,
+    // Moves the cursor after the record `found`; the next tag is at `next`.
+    fn advance(&mut self, next: usize, found: Record)
+        requires { (self.old.rows + 1 < 2 ^ 64) × (self.old.refs + found.span.count < 2 ^ 64) }
+        ensures { self.new ≡ advanced self.old next found }
+    {
+        self.at = next;
+        self.context = found.context;
+        self.rows += 1;
+        self.refs += found.span.count as usize;
     }
 }
 
-// Stores the row and the references of a record, within the tables' capacity, and returns the cursor after it.
+// Stores the row and the references of a record, within the tables' capacity, and moves the cursor after it.
 fn store(
     s: &[u8],
     header: Header,
     rows: &mut [u64],
     refs: &mut [u64],
-    k: Cursor,
+    k: &mut Cursor,
     next: usize,
-    found: RecordRead,
-) -> Cursor
-    requires cursor_in_bounds { CursorInBounds s.now rows.old refs.old k × ValidBits header.bits }
-    requires found_value { (found ≡ record_read_of k.cache (run (entry header k.address k.cache k.refs) s.now k.at)) × (found.next ≡ Record next) }
-    requires row_width_in_bounds { (k.rows * row_width + row_width ≤ length rows.old) × (k.refs + found.span.count ≤ length refs.old) }
-    ensures { StepContinues header s.now k rows.old refs.old rows.new refs.new result }
+    found: Record,
+)
+    requires cursor_in_bounds { CursorInBounds s.now rows.old refs.old k.old × ValidBits header.bits }
+    requires found_at { FoundAt header s.now k.old found next }
+    requires row_width_in_bounds { (k.old.rows * row_width + row_width ≤ length rows.old) × (k.old.refs + found.span.count ≤ length refs.old) }
+    ensures { StepContinues header s.now k.old rows.old refs.old rows.new refs.new k.new }
 {
-    let row = found.row;
-    table::store_row(rows, k.rows * table::ROW_WIDTH, row);
+    table::store_row(rows, k.rows * table::ROW_WIDTH, found.row);
     let span = found.span;
     let top = phd::forms::max_address_of(header.bits);
+    let to = k.refs;
+    let count = span.count as usize;
     tables::store_refs(
         s,
         span.place,
         span.width,
-        found.address,
+        found.context.address,
         top,
-        span.count,
-        refs,
-        k.refs,
+        &mut refs[to..to + count],
     );
-    advance(k, next, found)
+    k.advance(next, found);
 }
 
 // Checks capacity, for the row (13) and then for the references (14), and stores the record.
@@ -87,52 +88,45 @@ fn store_checked(
     header: Header,
     rows: &mut [u64],
     refs: &mut [u64],
-    k: Cursor,
+    k: &mut Cursor,
     next: usize,
-    found: RecordRead,
-) -> Stepped
-    requires cursor_in_bounds { CursorInBounds s.now rows.old refs.old k × ValidBits header.bits }
-    requires found_value { (found ≡ record_read_of k.cache (run (entry header k.address k.cache k.refs) s.now k.at)) × (found.next ≡ Record next) }
-    ensures { StepContract header s.now k rows.old refs.old rows.new refs.new result.cursor result.result }
+    found: Record,
+) -> Result<(), End>
+    requires cursor_in_bounds { CursorInBounds s.now rows.old refs.old k.old × ValidBits header.bits }
+    requires found_at { FoundAt header s.now k.old found next }
+    ensures { StepContract header s.now k.old rows.old refs.old rows.new refs.new k.new result }
 {
     if rows.len() - k.rows * table::ROW_WIDTH < table::ROW_WIDTH {
-        return Stepped {
-            result: StepResult::End(13, k.at, 0),
-            cursor: k,
-        };
+        return Err(End::at(k.at, 13));
     }
-    let span = found.span;
     let left = (refs.len() - k.refs) as u64;
-    if left < span.count {
-        return Stepped {
-            result: StepResult::End(14, k.at, 0),
-            cursor: k,
-        };
+    if left < found.span.count {
+        return Err(End::at(k.at, 14));
     }
-    Stepped {
-        result: StepResult::Continue,
-        cursor: store(s, header, rows, refs, k, next, found),
-    }
+    store(s, header, rows, refs, k, next, found);
+    Ok(())
 }
 
-// Reads one record and stores it, or ends the reading and leaves the tables unchanged.
-pub fn step(s: &[u8], header: Header, rows: &mut [u64], refs: &mut [u64], k: Cursor) -> Stepped
-    requires { CursorInBounds s.now rows.old refs.old k × ValidBits header.bits }
-    ensures { StepContract header s.now k rows.old refs.old rows.new refs.new result.cursor result.result }
+// Reads one record and stores it, or ends the reading and leaves the cursor and the tables unchanged.
+pub fn step(
+    s: &[u8],
+    header: Header,
+    rows: &mut [u64],
+    refs: &mut [u64],
+    k: &mut Cursor,
+) -> Result<(), End>
+    requires { CursorInBounds s.now rows.old refs.old k.old × ValidBits header.bits }
+    ensures { StepContract header s.now k.old rows.old refs.old rows.new refs.new k.new result }
 {
-    let cache = k.cache;
-    let found = phd_record::read_record(s, k.at, header, k.address, cache, k.refs as u64);
-    let item = found.next;
-    match item {
-        Next::Over(n) => Stepped {
-            result: StepResult::End(0, n, 0),
-            cursor: k,
-        },
-        Next::Record(next) => store_checked(s, header, rows, refs, k, next, found),
-        Next::Stops(w) => Stepped {
-            result: StepResult::End(decode::reply_of(w), k.at, decode::missing_of(w)),
-            cursor: k,
-        },
+    let mut d = Decoder { bytes: s, at: k.at };
+    match phd_record::read_record(&mut d, header, k.context, k.refs as u64) {
+        Ok(Some(found)) => store_checked(s, header, rows, refs, k, d.at, found),
+        Ok(None) => Err(End::at(d.at, 0)),
+        Err(w) => Err(End {
+            reply: decode::reply_of(w),
+            place: k.at,
+            missing: decode::missing_of(w),
+        }),
     }
 }
 
@@ -142,46 +136,16 @@ pub fn read_up_to(
     header: Header,
     rows: &mut [u64],
     refs: &mut [u64],
-    k: Cursor,
+    k: &mut Cursor,
     upto: usize,
-) -> Stepped
-    requires { CursorInBounds s.now rows.old refs.old k × ValidBits header.bits × (length s.now ≤ limit) }
-    ensures { UpToContract header s.now k rows.old refs.old upto rows.new refs.new result.cursor result.result }
+) -> Result<(), End>
+    requires { CursorInBounds s.now rows.old refs.old k.old × ValidBits header.bits × (length s.now ≤ limit) }
+    ensures { UpToContract header s.now k.old rows.old refs.old upto rows.new refs.new k.new result }
 {
-    let mut cursor = k;
-    while cursor.rows < upto {
-        let stepped = step(s, header, rows, refs, cursor);
-        let result = stepped.result;
-        let next = stepped.cursor;
-        match result {
-            StepResult::Continue => {
-                cursor = next;
-            }
-            StepResult::End(reply, place, missing) => {
-                return Stepped {
-                    result: StepResult::End(reply, place, missing),
-                    cursor: next,
-                };
-            }
-        }
+    while k.rows < upto {
+        step(s, header, rows, refs, k)?;
     }
-    Stepped {
-        result: StepResult::Continue,
-        cursor: cursor,
-    }
-}
-
-// Returns the cursor before the first record, whose tag is at `at`.
-pub fn first_cursor(at: usize) -> Cursor
-    ensures { result ≡ initial_cursor at }
-{
-    Cursor {
-        at: at,
-        address: 0,
-        cache: Cache::new(),
-        rows: 0,
-        refs: 0,
-    }
+    Ok(())
 }
 
 // Reads the records of a dump; the first tag is at `at`.
@@ -197,27 +161,18 @@ pub fn read_records(
     ensures rows { rows.new ≡ overwrite rows.old (records (suc limit) header s.now (length rows.old) (length refs.old) (initial_state at)).rows }
     ensures refs { refs.new ≡ overwrite refs.old (records (suc limit) header s.now (length rows.old) (length refs.old) (initial_state at)).refs }
 {
-    // No table has more rows than numbers, so that the reading ends before.
+    let mut k = Cursor::first(at);
+    // No table has this many rows, so that the reading ends before.
     let upto = rows.len() / table::ROW_WIDTH + 1;
-    let stepped = read_up_to(s, header, rows, refs, first_cursor(at), upto);
-    let result = stepped.result;
-    let last = stepped.cursor;
-    let StepResult::End(reply, place, missing) = result else {
-        return ReadAnswer {
-            reply: 0,
-            place: 0,
-            missing: 0,
-            rows: 0,
-            refs: 0,
-            header: header,
-        };
+    let Err(end) = read_up_to(s, header, rows, refs, &mut k, upto) else {
+        unreachable!()
     };
     ReadAnswer {
-        reply: reply,
-        place: place,
-        missing: missing,
-        rows: last.rows,
-        refs: last.refs,
-        header: header,
+        reply: end.reply,
+        place: end.place,
+        missing: end.missing,
+        rows: k.rows,
+        refs: k.refs,
+        header,
     }
 }

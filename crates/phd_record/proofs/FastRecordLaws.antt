@@ -8,31 +8,34 @@ use Prim.Native.Nat.{ℕ, zero, suc, ◌+◌, ◌-◌, ◌*◌, ◌/◌, ◌%◌
 use native.Mathlib.Nat.{suc-mul, mul-le-mul}
 use native.Mathlib.Omega.{arith}
 use borrow.Author.Tests.{le-leb, lt-leb, ne_eqb}
+use Rattle.std.proofs.lemmas.Bool.{leb-true, leb-false, eqb-true}
 use lib.Dec.{leb}
 use lib.ListN.{length, take, drop}
 use Rattle.decode.specs.Numbers.{value, value_after, signed, add_gap, to_count}
-use Rattle.decode.specs.Layout.{Outcome, whole, and_then, run, field, run_then, run_yield, run_position, run_field, run_field_empty, run_need}
+use Rattle.decode.specs.Layout.{Outcome, whole, stops, and_then, run, field, end_in_bounds, run_then, run_refuse, run_yield, run_position, run_field, run_field_empty, run_need}
 use Rattle.decode.specs.Fields.{address, count, no_string}
-use Rattle.decode.specs.declared.Maybe.TheVariants.{Just}
+use Rattle.decode.specs.ReadsAs.{map_outcome, mapped_whole}
+use Rattle.std.specs.Prelude.{Some}
+use Rattle.decode.specs.declared.Stop.TheVariants.{Refused}
 use Rattle.decode.specs.declared.StringSpan.{StringSpan}
+use Rattle.phd_record.specs.declared.Record.{Record}
 use Rattle.decode_fast.specs.RefsInRange.{refs_in_range, target, run_ref_in_range}
 use Rattle.phd.specs.Phd.{Item, max_address, width, tag_form, need_form, slot_class, hash_kind, hash_bytes, shape, front, middle, class_name, ref_count, ref_list, spanned_refs, true_length, tail, from_ref_count, fields, record_body, from_tag, entry}
 use Rattle.phd.specs.EntryLaws.{origin_at, no_flag_byte, entry_from_tag}
 use Rattle.phd.specs.RefList.{prepend, ref_list_none, ref_list_next}
-use Rattle.phd.specs.Shapes.{ValidBits, width_mono}
+use Rattle.phd.specs.Shapes.{ValidBits, width_mono, tag_matches}
 use Rattle.phd.specs.declared.cache.Cache.{Cache}
 use Rattle.phd.specs.declared.Header.{Header}
 use Rattle.phd.specs.declared.Form.{Form}
-use Rattle.phd.specs.declared.Form.TheVariants.{Short, Medium}
+use Rattle.phd.specs.declared.Form.TheVariants.{Short, Medium, Primitive, ObjectArray}
 use Rattle.phd.specs.declared.Front.{Front}
 use Rattle.phd.specs.declared.Middle.{Middle}
 use Rattle.phd.specs.declared.Origin.{Origin}
 use Rattle.phd.specs.declared.Shape.{Shape}
-use Rattle.phd.specs.declared.TagForm.TheVariants.{Begins}
 use Rattle.phd.specs.declared.Tail.{Tail}
-use Rattle.phd_record.specs.RecordOutcomes.{record_read_of, make_record}
-use Rattle.phd_record.specs.FastPath.{HitAgrees, ClassWidth}
-use Rattle.phd_record.specs.declared.RecordRead.{RecordRead}
+use Rattle.phd_record.specs.RecordReads.{record_of, make_record, IsHead}
+use Rattle.phd_record.specs.declared.head.Head.{Head}
+use Rattle.phd_record.specs.FastPath.{ClassWidth, ObjectForm}
 
 -- ---- fields
 
@@ -41,19 +44,14 @@ module _ (s : List ℕ) (at n : ℕ) where
   pub run_field_value : (v e : ℕ) → e ≤ length s → e ≡ at + n → v ≡ value (take n (drop at s)) → run (field n) s at ≡ whole v e
   run_field_value v e h p q = rw (p, q, run_field n s at (omega arith))
 
-  pub run_address : (base top a : ℕ) → at + n ≤ length s → add_gap top base (signed n (value (take n (drop at s)))) ≡ Just a
+  pub run_address : (base top a : ℕ) → at + n ≤ length s → add_gap top base (signed n (value (take n (drop at s)))) ≡ Some a
       → run (address n base top) s at ≡ whole a (at + n)
   unfolding address
   run_address base top a h e = rw (run_then, run_field n s at h, run_need, e)
 
-  pub run_count : (k : ℕ) → at + n ≤ length s → to_count (signed n (value (take n (drop at s)))) ≡ Just k → run (count n) s at ≡ whole k (at + n)
+  pub run_count : (k : ℕ) → at + n ≤ length s → to_count (signed n (value (take n (drop at s)))) ≡ Some k → run (count n) s at ≡ whole k (at + n)
   unfolding count
   run_count k h e = rw (run_then, run_field n s at h, run_need, e)
-
--- The value of no bytes is 0.
-pub value_no_bytes : (s : List ℕ) (n : ℕ) → n ≡ 0 → 0 ≡ value (take n s)
-unfolding value_after
-value_no_bytes s n e = sym (ap (λ (k : ℕ). value (take k s)) e)
 
 -- A field that a form lacks (n is 0) takes no bytes.
 module _ (s : List ℕ) (at n : ℕ) (no : n ≡ 0) where
@@ -136,8 +134,8 @@ module _ (top before : ℕ) (c : Cache) (origin : Origin) (known hk : ℕ) (sh :
       → run (ref_count sh.countwidth sh.count) s p3 ≡ whole n p4
       → run (ref_list sh.refwidth v.address top n) s p4 ≡ whole rs p5
       → run (tail sh.size sh.truelen n) s p5 ≡ whole t p6
-      → record_read_of c (run (fields top before c origin known hk sh) s at) ≡ make_record p6 p4 n t c origin known hk sh v m name
-  unfolding fields from_ref_count spanned_refs record_read_of make_record
+      → map_outcome record_of (run (fields top before c origin known hk sh) s at) ≡ whole (Some (make_record p4 n t c origin known hk sh v m name)) p6
+  unfolding fields from_ref_count spanned_refs make_record
   fields_whole v m name n rs t p1 p2 p3 p4 p5 p6 f g h i j k =
       rw (run_then, f, run_then, g, run_then, h, run_then, i, run_then, run_then, run_position, run_then, j, run_yield, run_then, k, run_yield)
 
@@ -145,7 +143,7 @@ module _ (top before : ℕ) (c : Cache) (origin : Origin) (known hk : ℕ) (sh :
 
 module _ (h : Header) (before : ℕ) (c : Cache) (origin : Origin) (t : ℕ) (s : List ℕ) (at : ℕ) where
   -- After a tag from 0x20 on, the fields follow directly.
-  pub record_body_no_flags : (fm : Form) (known : ℕ) → 0x20 ≤ t → at ≤ length s → tag_form t ≡ Begins fm → slot_class c t ≡ Just known
+  pub record_body_no_flags : (fm : Form) (known : ℕ) → 0x20 ≤ t → at ≤ length s → tag_form t ≡ Some fm → slot_class c t ≡ Some known
       → run (record_body h before c origin t) s at
       ≡ run (fields (max_address h.bits) before c origin known (hash_kind h t 0) (shape (h.bits / 8) fm t 0)) s at
   unfolding record_body need_form
@@ -157,9 +155,30 @@ pub entry_body : (h : Header) (before : ℕ) (c : Cache) (index t : ℕ) (s : Li
 unfolding from_tag
 entry_body h before c index t s at l e n = rw (entry_from_tag, run_then, run_field 1 s at l, ← e, ne_eqb t 3 n)
 
--- A miss satisfies the contract of the fast path.
-pub miss_agrees : (c : Cache) (o : Outcome Item) (hit : Bool) (f : RecordRead) → hit ≡ false → HitAgrees c o hit f
-miss_agrees c o hit f e x = let z : ◌≡◌ {A = ℕ} 0 1 = cc in absurd (omega arith)
+-- The end tag begins no record.
+end_tag_refused : (h : Header) (before : ℕ) (c : Cache) (o : Origin) (s : List ℕ) (at : ℕ) → run (record_body h before c o 3) s at ≡ stops (Refused 6)
+unfolding record_body need_form tag_form
+end_tag_refused h before c o s at = rw (run_then, run_refuse)
+
+tag_not_end : (h : Header) (before : ℕ) (c : Cache) (o : Origin) (t : ℕ) (s : List ℕ) (at : ℕ) (i : Item) (n : ℕ)
+    → run (record_body h before c o t) s at ≡ whole i n → t ≡ 3 → ⊥
+tag_not_end h before c o t s at i n r e =
+    let p : run (record_body h before c o 3) s at ≡ whole i n = rw e at r in
+    let q : run (record_body h before c o 3) s at ≡ stops (Refused 6) = end_tag_refused h before c o s at in
+    let z : ◌≡◌ {A = ℕ} 0 1 = cc in
+    omega arith
+
+-- A hit after the tag t at offset `at` is what the entry there says, and ends within the dump.
+pub hit_reads : (h : Header) (before : ℕ) (c : Cache) (index t : ℕ) (s : List ℕ) (at : ℕ) (r : Record) (n : ℕ)
+    → at + 1 ≤ length s → t ≡ value (take 1 (drop at s))
+    → map_outcome record_of (run (record_body h before c (origin_at at index) t) s (at + 1)) ≡ whole (Some r) n
+    → (map_outcome record_of (run (entry h before c index) s at) ≡ whole (Some r) n) × (n ≤ length s)
+hit_reads h before c index t s at r n l e k =
+    let v = mapped_whole record_of k in
+    let o : Origin = origin_at at index in (
+      rw (entry_body h before c index t s at l e (tag_not_end h before c o t s (at + 1) v.0 n v.1)) k,
+      end_in_bounds (record_body h before c o t) s (at + 1) v.0 n l v.1,
+    )
 
 -- ---- short and medium objects
 
@@ -207,32 +226,47 @@ bits_class_width w h = inr (⊎_elim (λ e. inl (omega arith)) (λ e. inr (omega
 pub class_width_le_8 : (w : ℕ) → ClassWidth w → w ≤ 8
 class_width_le_8 w h = ⊎_elim (λ e. omega arith) (λ r. ⊎_elim (λ e. omega arith) (λ e. omega arith) r) h
 
-tag_short_or_medium : (b : Bool) (fm : Form) → cond b (Begins Short) (Begins Medium) ≡ Begins fm → (fm ≡ Short) ⊎ (fm ≡ Medium)
-tag_short_or_medium true fm e = inl cc
-tag_short_or_medium false fm e = inr cc
-
--- A tag from 0x40 on begins a short or a medium object.
-module _ (w t : ℕ) (fm : Form) (l : 0x40 ≤ t) (g : tag_form t ≡ Begins fm) (h : ClassWidth w) where
-  object_forms : (fm ≡ Short) ⊎ (fm ≡ Medium)
-  unfolding tag_form
-  object_forms = tag_short_or_medium (leb 0x80 t) fm (rw (le-leb 0x40 t l) at g)
-
+-- The shape of a short or a medium object.
+module _ (w t : ℕ) (fm : Form) (o : ObjectForm fm) (h : ClassWidth w) where
   pub object_shape : ObjectShape (shape w fm t 0)
-  object_shape = ⊎_elim (λ e. rw e (short_object_shape w t)) (λ e. rw e (medium_object_shape w t (class_width_le_8 w h))) object_forms
+  object_shape = ⊎_elim (λ e. rw e (short_object_shape w t)) (λ e. rw e (medium_object_shape w t (class_width_le_8 w h))) o
 
   pub object_class_width : ClassWidth (shape w fm t 0).class
   unfolding shape
-  object_class_width = ⊎_elim (λ e. rw e (inl refl)) (λ e. rw e h) object_forms
+  object_class_width = ⊎_elim (λ e. rw e (inl refl)) (λ e. rw e h) o
+
+-- The same of what is known of an object before its fields are read.
+module _ {h : Header} {c : Cache} {o : Origin} {k t : ℕ} {fm : Form} {hd : Head} (i : IsHead h c o k fm t 0 hd) (v : ValidBits h.bits) (f : ObjectForm fm) where
+  pub head_object_shape : ObjectShape hd.shape
+  head_object_shape = rw i.shape (object_shape _ _ _ f (bits_class_width _ v))
+
+  pub head_class_width : ClassWidth hd.shape.class
+  head_class_width = rw (ap (λ (q : Shape). q.class) i.shape) (object_class_width _ _ _ f (bits_class_width _ v))
+
+-- The tag of an object is 0x40 or more, that of a primitive array 0x20 to 0x3F, that of an object array 8.
+module _ (t : ℕ) where
+  pub object_tag : (fm : Form) → tag_form t ≡ Some fm → ObjectForm fm → 0x40 ≤ t
+  object_tag fm e o =
+      ⊎_elim
+      (λ (p : fm ≡ Short). let m = tag_matches t Short (e ∙ ap Some p) in omega (arith, leb-true 0x80 t m))
+      (λ (p : fm ≡ Medium). let m = tag_matches t Medium (e ∙ ap Some p) in omega (arith, leb-true 0x40 t m.1))
+      o
+
+  pub primitive_tag : tag_form t ≡ Some Primitive → (0x20 ≤ t) × (t < 0x80)
+  primitive_tag e = let m = tag_matches t Primitive e in (leb-true 0x20 t m.1, leb-false 0x80 t m.0)
+
+  pub array_tag : tag_form t ≡ Some ObjectArray → t ≡ 8
+  array_tag e = let m = tag_matches t ObjectArray e in eqb-true t 8 m.1
 
 -- A tag below 0x80 names no slot.
-pub slot_class_none : (c : Cache) (t : ℕ) → t < 0x80 → slot_class c t ≡ Just 0
+pub slot_class_none : (c : Cache) (t : ℕ) → t < 0x80 → slot_class c t ≡ Some 0
 unfolding slot_class
 slot_class_none c t l = rw (lt-leb 0x80 t l)
 
 -- If the numbers in the code are those of the layout, the layout gives the object that the code makes.
 module _ (top before : ℕ) (c : Cache) (origin : Origin) (known hk hb : ℕ) (sh : Shape) (s : List ℕ) (at a class from hash place end : ℕ) (ob : ObjectShape sh)
     (hbs : hb ≡ hash_bytes hk)
-    (gap : add_gap top before (signed sh.gap (value (take sh.gap (drop at s)))) ≡ Just a)
+    (gap : add_gap top before (signed sh.gap (value (take sh.gap (drop at s)))) ≡ Some a)
     (wd : class ≡ value (take sh.class (drop (at + sh.gap) s)))
     (f : from ≡ at + sh.gap + sh.class)
     (hs : hash ≡ value (take hb (drop from s)))
@@ -264,9 +298,9 @@ module _ (top before : ℕ) (c : Cache) (origin : Origin) (known hk hb : ℕ) (s
       (absent_field s end sh.size ob.size i)
       (absent_true_length s end sh.truelen ob.truelen sh.count)
 
-  object_fields : record_read_of c (run (fields top before c origin known hk sh) s at)
-      ≡ make_record end place sh.count (record { size = 0; truelen = 0 }) c origin known hk sh (record { address = a; class = class; len = 0 })
-      (record { inst = 0; hash = hash; superclass = 0 }) no_string
+  object_fields : map_outcome record_of (run (fields top before c origin known hk sh) s at)
+      ≡ whole (Some (make_record place sh.count (record { size = 0; truelen = 0 }) c origin known hk sh (record { address = a; class = class; len = 0 })
+      (record { inst = 0; hash = hash; superclass = 0 }) no_string)) end
   object_fields =
       fields_whole top before c origin known hk sh s at _ _ _ _ object_refs.0 _ from place place place end end
       object_front
@@ -276,11 +310,12 @@ module _ (top before : ℕ) (c : Cache) (origin : Origin) (known hk hb : ℕ) (s
       (object_refs.1 ∙ ap (whole object_refs.0) (sym e))
       object_tail
 
-  pub object_record_read : (h : Header) (t : ℕ) (fm : Form) (name : StringSpan)
-      → top ≡ max_address h.bits → hk ≡ hash_kind h t 0 → sh ≡ shape (h.bits / 8) fm t 0 → name ≡ no_string
-      → 0x20 ≤ t → tag_form t ≡ Begins fm → slot_class c t ≡ Just known
-      → make_record end place sh.count (record { size = 0; truelen = 0 }) c origin known hk sh (record { address = a; class = class; len = 0 })
-      (record { inst = 0; hash = hash; superclass = 0 }) name
-      ≡ record_read_of c (run (record_body h before c origin t) s at)
-  object_record_read h t fm name tt hh ss nn l g k =
-      rw (nn, record_body_no_flags h before c origin t s at fm known l (omega arith) g k, ← tt, ← hh, ← ss) (sym object_fields)
+  -- The record after the tag, if the numbers in the code are those of its tag.
+  pub object_record : (h : Header) (t : ℕ) (fm : Form)
+      → top ≡ max_address h.bits → hk ≡ hash_kind h t 0 → sh ≡ shape (h.bits / 8) fm t 0
+      → 0x20 ≤ t → tag_form t ≡ Some fm → slot_class c t ≡ Some known
+      → map_outcome record_of (run (record_body h before c origin t) s at)
+      ≡ whole (Some (make_record place sh.count (record { size = 0; truelen = 0 }) c origin known hk sh (record { address = a; class = class; len = 0 })
+      (record { inst = 0; hash = hash; superclass = 0 }) no_string)) end
+  object_record h t fm tt hh ss l g k =
+      rw (record_body_no_flags h before c origin t s at fm known l (omega arith) g k, ← tt, ← hh, ← ss) object_fields

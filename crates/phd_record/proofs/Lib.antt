@@ -1,4 +1,4 @@
 -- Laws that the proofs of this crate's functions cite.
-pub mod RefsLaws
+pub mod RecordLaws
 pub mod FastRecordLaws
 pub mod ArrayLaws

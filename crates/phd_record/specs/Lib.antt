@@ -1,5 +1,5 @@
--- The functions' answers and the outcomes of layouts (RecordOutcomes), the contract of the fast path (FastPath), and object
--- arrays after their front part (Arrays).
-pub mod RecordOutcomes
+-- Records and the layouts that they are of (RecordReads), the contract of the fast path (FastPath), and object arrays after their
+-- front part (Arrays).
+pub mod RecordReads
 pub mod FastPath
 pub mod Arrays

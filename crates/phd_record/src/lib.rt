@@ -3,142 +3,100 @@
 // path the equation holds if there is a hit.
 #![tactic(auto)]
 
-ghost use Rattle.std.specs.Prelude.{◌≡◌, ◌≤◌, length};
-ghost use Rattle.decode.specs.Layout.{run};
+ghost use Rattle.std.specs.Prelude.{◌≡◌};
+ghost use Rattle.decode.specs.ReadsAs.{ReadsAs};
 ghost use Rattle.phd.specs.Phd.{entry, record_body};
 ghost use Rattle.phd.specs.Shapes.{ValidBits};
-ghost use Rattle.phd_record.specs.RecordOutcomes.{record_read_of, no_record};
+ghost use Rattle.phd_record.specs.RecordReads.{record_of, some_record};
 
-use decode::{Maybe, NumberRead, Stop};
-use phd::{Cache, Header, Origin, Span, TagForm};
+use decode::Stop;
+use decode::decoder::Decoder;
+use head::Head;
+use phd::{Header, Origin, RecordContext, Span};
 
 mod fast;
 mod fields;
+mod head;
 mod parts;
 mod refs;
 
-// What is at a tag: the end or a record, each with the offset after it, or why reading stops there.
+// A record: its row, the span of its references, and the context of the next record.
 #[derive(Clone, Copy)]
-pub enum Next {
-    Over(usize),
-    Record(usize),
-    Stops(Stop),
-}
-
-// The answer of `read_record`: what is at the tag and, for a record, its row, the span of its references, its address and the
-// cache after it.
-#[derive(Clone, Copy)]
-pub struct RecordRead {
-    pub next: Next,
+pub struct Record {
     pub row: [u64; table::ROW_WIDTH],
     pub span: Span,
-    pub address: u64,
-    pub cache: Cache,
-}
-
-// Returns the answer without a record: its numbers are 0, the cache is unchanged.
-pub fn no_record(next: Next, cache: Cache) -> RecordRead
-    ensures { result ≡ no_record next cache }
-{
-    RecordRead {
-        next: next,
-        row: [0; table::ROW_WIDTH],
-        span: Span {
-            place: 0,
-            width: 0,
-            count: 0,
-        },
-        address: 0,
-        cache: cache,
-    }
+    pub context: RecordContext,
 }
 
 // Decodes a record after its tag, on the general path.
 fn read_body(
-    s: &[u8],
-    at: usize,
+    d: &mut Decoder,
     header: Header,
-    before: u64,
-    cache: Cache,
+    before: RecordContext,
     origin: Origin,
     tag: u64,
-) -> RecordRead
-    requires { (at ≤ length s.now) × ValidBits header.bits }
-    ensures { result ≡ record_read_of cache (run (record_body header before cache origin tag) s.now at) }
+) -> Result<Record, Stop>
+    requires { ValidBits header.bits }
+    ensures { ReadsAs record_of (record_body header before.address before.cache origin tag) d.old (some_record result) d.new }
 {
-    let TagForm::Begins(form) = phd::forms::tag_form(tag) else {
-        return no_record(Next::Stops(Stop::Refused(6)), cache);
-    };
-    let Maybe::Just(class) = phd::forms::slot_class_of(cache, tag) else {
-        return no_record(Next::Stops(Stop::Refused(10)), cache);
-    };
-    match phd::forms::read_flag_byte(s, at, header, tag) {
-        NumberRead::Is(f, next) => {
-            let hk = phd::forms::hash_kind_of(header, tag, f);
-            let top = phd::forms::max_address_of(header.bits);
-            let bytes = (header.bits / 8) as usize;
-            let sh = phd::forms::shape_of(bytes, form, tag, f);
-            fields::read_fields(s, next, top, before, cache, origin, class, hk, sh)
-        }
-        NumberRead::Stops(w) => no_record(Next::Stops(w), cache),
-    }
+    let form = phd::forms::tag_form(tag).ok_or(Stop::Refused(6))?;
+    let known = phd::forms::slot_class_of(before.cache, tag).ok_or(Stop::Refused(10))?;
+    let flags = phd::forms::read_flag_byte(d, header, tag)?;
+    let head = Head::new(header, before.cache, origin, known, form, tag, flags);
+    head.read_fields(d, before.address)
 }
 
-// Decodes the end tag or a whole record, on the general path. `before` is the address of the record before, `index` the number of
-// references so far.
+// Decodes the end tag or a whole record, on the general path. `before` is the context of the records before it, `index` the number
+// of their references.
 pub fn read_general(
-    s: &[u8],
-    at: usize,
+    d: &mut Decoder,
     header: Header,
-    before: u64,
-    cache: Cache,
+    before: RecordContext,
     index: u64,
-) -> RecordRead
-    requires { (at ≤ length s.now) × ValidBits header.bits }
-    ensures { result ≡ record_read_of cache (run (entry header before cache index) s.now at) }
+) -> Result<Option<Record>, Stop>
+    requires { ValidBits header.bits }
+    ensures { ReadsAs record_of (entry header before.address before.cache index) d.old result d.new }
 {
-    match decode::field(s, at, 1) {
-        NumberRead::Is(tag, next) => {
-            if tag == 3 {
-                return no_record(Next::Over(next), cache);
-            }
-            let origin = Origin { offset: at, index };
-            read_body(s, next, header, before, cache, origin, tag)
-        }
-        NumberRead::Stops(w) => no_record(Next::Stops(w), cache),
+    let origin = Origin {
+        offset: d.at,
+        index,
+    };
+    let tag = d.field(1)?;
+    if tag == 3 {
+        return Ok(None);
     }
+    let record = read_body(d, header, before, origin, tag)?;
+    Ok(Some(record))
 }
 
 // Decodes the end tag or a whole record: on the fast path, or, if that declines, on the general path.
 pub fn read_record(
-    s: &[u8],
-    at: usize,
+    d: &mut Decoder,
     header: Header,
-    before: u64,
-    cache: Cache,
+    before: RecordContext,
     index: u64,
-) -> RecordRead
-    requires { (at ≤ length s.now) × ValidBits header.bits }
-    ensures { result ≡ record_read_of cache (run (entry header before cache index) s.now at) }
+) -> Result<Option<Record>, Stop>
+    requires { ValidBits header.bits }
+    ensures { ReadsAs record_of (entry header before.address before.cache index) d.old result d.new }
 {
-    if 100 <= s.len() - at {
-        let fast = fast::read_fast(s, at, header, before, cache, index);
-        if fast.hit {
-            return fast.found;
-        }
+    if let Some(record) = fast::read_fast(d, header, before, index) {
+        return Ok(Some(record));
     }
-    // Field by field: returned as it is, the answer would be written through a pointer to that of the fast path, which then could not be
-    // kept in registers.
-    let general = read_general(s, at, header, before, cache, index);
-    let next = general.next;
-    let row = general.row;
-    let span = general.span;
-    let after = general.cache;
-    RecordRead {
-        next: next,
-        row: row,
-        span: span,
-        address: general.address,
-        cache: after,
-    }
+    // With a decoder of its own and field by field: passed on as they are, the decoder and the record of the fast path could not be kept
+    // in registers.
+    let mut general = Decoder {
+        bytes: d.bytes,
+        at: d.at,
+    };
+    let found = read_general(&mut general, header, before, index)?;
+    d.at = general.at;
+    let Some(record) = found else {
+        return Ok(None);
+    };
+    let row = record.row;
+    Ok(Some(Record {
+        row,
+        span: record.span,
+        context: record.context,
+    }))
 }

@@ -2,16 +2,14 @@
 -- that such a record is read back, whatever the form; ChosenForm proves, form by form, that a good record satisfies the
 -- conditions in the form chosen for it.
 -- Assumes nothing.
-use Rattle.std.specs.Prelude.{◌≡◌, ℕ, zero, suc, ◌+◌, ◌/◌, ◌%◌, ◌^◌, ◌≤◌, ◌<◌, true, false, cond, ◌&&◌, ◌||◌, List, [], ◌∷◌, length, ltb, eqb}
+use Rattle.std.specs.Prelude.{◌≡◌, ℕ, zero, suc, ◌+◌, ◌/◌, ◌%◌, ◌^◌, ◌≤◌, ◌<◌, true, false, cond, ◌&&◌, ◌||◌, List, [], ◌∷◌, length, ltb, eqb, Some}
 use Rattle.decode.specs.Numbers.{all_within}
-use Rattle.decode.specs.declared.Maybe.TheVariants.{Just}
 use Rattle.encode.specs.Encode.{gap, fits}
 use Rattle.phd.specs.Phd.{max_address, tag_form, slot_class, moved_bit, hashed_bit, hash_kind, hash_bytes, shape, field_or}
 use Rattle.phd.specs.declared.cache.Cache.{Cache}
 use Rattle.phd.specs.declared.Header.{Header}
 use Rattle.phd.specs.declared.Form.{Form}
 use Rattle.phd.specs.declared.Shape.{Shape}
-use Rattle.phd.specs.declared.TagForm.TheVariants.{Begins}
 use Rattle.table.specs.Rows.{Rec}
 
 -- The value read from a field of w bytes into which v was written; 0 if there is no such field.
@@ -83,8 +81,8 @@ pub record ShapeMatches (known : ℕ) (sh : Shape) (r : Rec) : Type 0 where
 pub record Decodable (h : Header) (c : Cache) (before : ℕ) (r : Rec) (fm : Form) (t f known : ℕ) : Type 0 where
   pub tag_byte : t < 256
   pub not_end_tag : eqb t 3 ≡ false
-  pub form_is : tag_form t ≡ Begins fm
-  pub known_is : slot_class c t ≡ Just known
+  pub form_is : tag_form t ≡ Some fm
+  pub known_is : slot_class c t ≡ Some known
   pub flag_byte : f < 256 ^ cond (ltb t 0x20) 1 0
   pub bits_clear : h.hashed && (moved_bit t f || hashed_bit t f) ≡ false
   pub hash : hash_kind h t f ≡ r.row.hashkind

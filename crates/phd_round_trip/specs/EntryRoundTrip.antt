@@ -1,7 +1,7 @@
 -- A whole record, with its tag, flag byte and fields, is read back (`reads_planned`), and its name lies at the place in its row
 -- (`name_at_place`), if the record is `Decodable` by that tag and flag byte.
 -- Assumes nothing.
-use Rattle.std.specs.Prelude.{◌≡◌, Bool, false, ◌&&◌, ◌||◌, length, take, drop, ltb, eqb}
+use Rattle.std.specs.Prelude.{◌≡◌, Bool, false, ◌&&◌, ◌||◌, length, take, drop, ltb, eqb, Some}
 use Rattle.std.proofs.Math.Path.{refl}
 use Rattle.std.proofs.Common.{sym, ap, ◌∙◌, arith, length-append, take_at, drop_at, eqb-true}
 use Prim.Native.Nat.{ℕ, ◌+◌, ◌/◌}
@@ -22,7 +22,6 @@ use Rattle.phd.specs.declared.Middle.{Middle}
 use Rattle.phd.specs.declared.Origin.{Origin}
 use Rattle.phd.specs.declared.Shape.{Shape}
 use Rattle.phd.specs.declared.Span.{Span}
-use Rattle.phd.specs.declared.TagForm.TheVariants.{Begins}
 use Rattle.phd.specs.declared.Tail.{Tail}
 use Rattle.table.specs.Rows.{Rec, numbers}
 use Rattle.table.specs.declared.Row.{Row}
@@ -164,7 +163,7 @@ pub reads_entry : (h : Header) (before : ℕ) (c : Cache) (index p : ℕ) {bs : 
 unfolding entry
 reads_entry h before c index p r = reads_skip p position _ _ p _ (reads_position p) r
 
-reads_form : (p t : ℕ) (fm : Form) → tag_form t ≡ Begins fm → Reads p (need_form (tag_form t)) [] fm
+reads_form : (p t : ℕ) (fm : Form) → tag_form t ≡ Some fm → Reads p (need_form (tag_form t)) [] fm
 unfolding need_form
 reads_form p t fm e = rw e (reads_yield p fm)
 

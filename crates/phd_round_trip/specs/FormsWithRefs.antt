@@ -1,6 +1,6 @@
 -- The five forms with references: the tag and the flag byte of each form decode to that form, and a good record fits the shape
 -- that they determine. Assumes nothing.
-use Rattle.std.specs.Prelude.{◌≡◌, Bool, cond, ltb}
+use Rattle.std.specs.Prelude.{◌≡◌, Bool, cond, ltb, Some}
 use Rattle.std.proofs.Math.Path.{refl, sym}
 use Prim.Native.Nat.{ℕ, ◌+◌, ◌*◌, ◌/◌, ◌%◌, ◌^◌, ◌≤◌, ◌<◌}
 use Rattle.std.proofs.Math.Bool.{true, false}
@@ -8,7 +8,6 @@ use Rattle.std.proofs.Math.Dec.{lit<}
 use Rattle.std.proofs.Common.{pow_pos, arith}
 use borrow.Author.Tests.{le-leb, lt-leb, le-ltb, ne_eqb}
 use Rattle.decode.specs.Values.{true_not_false}
-use Rattle.decode.specs.declared.Maybe.TheVariants.{Just}
 use Rattle.encode.specs.Encode.{gap, fits, width_code, refs_code}
 use Rattle.encode.specs.Widths.{gap_fits}
 use Rattle.encode.proofs.Widths.{code_lt, code_fits, refs_code_lt, refs_code_fits}
@@ -19,7 +18,6 @@ use Rattle.phd.specs.declared.Header.{Header}
 use Rattle.phd.specs.declared.Form.{Form}
 use Rattle.phd.specs.declared.Form.TheVariants.{Short, Medium, Long, Class, ObjectArray}
 use Rattle.phd.specs.declared.Shape.{Shape}
-use Rattle.phd.specs.declared.TagForm.TheVariants.{Begins}
 use Rattle.table.specs.Rows.{Rec}
 use Rattle.phd_check.specs.WellFormed.{GoodRec}
 use Rattle.phd_plan.specs.FormChoice.{plan_input, needs_flag_byte, tag_of, hash_flags, class_flags, flags_of, find_slot}
@@ -34,7 +32,7 @@ module _ (h : Header) (c : Cache) (before index : ℕ) (r : Rec)
   -- A record is `Decodable` by a tag and a flag byte that decode to the form fm and the shape sh, if it fits that shape and its
   -- row is the one that the shape gives.
   pub decodable_of : (fm : Form) (t f known : ℕ) (sh : Shape)
-      → t < 256 → (t ≡ 3 → ⊥) → tag_form t ≡ Begins fm → slot_class c t ≡ Just known → f < 256 ^ cond (ltb t 0x20) 1 0
+      → t < 256 → (t ≡ 3 → ⊥) → tag_form t ≡ Some fm → slot_class c t ≡ Some known → f < 256 ^ cond (ltb t 0x20) 1 0
       → HashBits h.hashed r.row.hashkind (moved_bit t f) (hashed_bit t f)
       → shape (h.bits / 8) fm t f ≡ sh → FormFits h before sh r → ShapeMatches known sh r
       → Decodable h c before r fm t f known

@@ -1,6 +1,6 @@
 -- A dump written with reply 0 is good, and its references lie within those passed in.
 -- Assumes nothing.
-use Rattle.std.specs.Prelude.{◌≡◌, ℕ, suc, ◌+◌, ◌*◌, ◌≤◌}
+use Rattle.std.specs.Prelude.{◌≡◌, ℕ, suc, ◌+◌, ◌*◌, ◌≤◌, None}
 use Rattle.std.proofs.Math.Path.{refl}
 use Rattle.std.proofs.Common.{ap}
 use mathlib.Core.List.{List, [], ◌∷◌}
@@ -9,7 +9,6 @@ use native.Mathlib.Omega.{arith}
 use Rattle.table.specs.Table.{row_width}
 use Rattle.table.specs.Rows.{without_place, refs_of, rec_of, recs}
 use Rattle.table.specs.declared.Row.{Row}
-use Rattle.table.specs.declared.Search.TheVariants.{NotFound}
 use Rattle.phd.specs.declared.Header.{Header}
 use Rattle.phd_check.specs.GoodRows.{first_bad_from}
 use Rattle.phd_check.specs.WellFormed.{good_rec, spans_in_bounds, none_bad, header_bits_good, header_vm_good}
@@ -21,7 +20,7 @@ use Rattle.phd_round_trip.specs.DumpRoundTrip.{GoodDump}
 
 module _ (h : Header) (names refs : List ℕ) where
   -- Rows of which none is bad give good records.
-  recs_good : (rows : List Row) (i index : ℕ) → first_bad_from h names refs i index rows ≡ NotFound → AllGood h index (recs names refs rows)
+  recs_good : (rows : List Row) (i index : ℕ) → first_bad_from h names refs i index rows ≡ None → AllGood h index (recs names refs rows)
   unfolding recs rec_of without_place
   recs_good [] i index e = tt
   recs_good (r ∷ rows) i index e =
@@ -29,7 +28,7 @@ module _ (h : Header) (names refs : List ℕ) where
       (record { good = good_rec h names refs index r b.0; place_zero = refl }, recs_good rows (suc i) (index + r.count) b.1)
 
   -- The references of rows of which none is bad lie within those passed in.
-  pub refs_in_bounds : (rows : List Row) (i index : ℕ) → first_bad_from h names refs i index rows ≡ NotFound → index ≤ length refs
+  pub refs_in_bounds : (rows : List Row) (i index : ℕ) → first_bad_from h names refs i index rows ≡ None → index ≤ length refs
       → index + length (all_refs (recs names refs rows)) ≤ length refs
   unfolding recs all_refs rec_of without_place
   refs_in_bounds [] i index e l = omega arith

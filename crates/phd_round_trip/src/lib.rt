@@ -6,22 +6,17 @@
 
 ghost use Rattle.phd_read.specs.ReadContract.{AfterRead};
 ghost use Rattle.phd_write.specs.WriteTerms.{AfterWrite};
+ghost use Rattle.table.specs.Refusals.{answer_of};
 
-use phd::Header;
+use phd_check::Tables;
 use phd_read::ReadAnswer;
-use table::Answer;
+use table::Refusal;
 
 // Calls `phd_write::write`.
-pub fn call_write(
-    header: Header,
-    rows: &[u64],
-    refs: &[u64],
-    names: &[u8],
-    out: &mut [u8],
-) -> Answer
-    ensures { AfterWrite header names.now refs.now rows.now out.old result out.new }
+pub fn call_write(tables: Tables, out: &mut [u8]) -> Result<usize, Refusal>
+    ensures { AfterWrite tables.entry.header tables.entry.names.now tables.entry.refs.now tables.entry.rows.now out.old (answer_of result) out.new }
 {
-    phd_write::write(header, rows, refs, names, out)
+    phd_write::write(tables, out)
 }
 
 // Calls `phd_read::read_tables`.

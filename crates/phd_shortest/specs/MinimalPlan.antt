@@ -1,14 +1,13 @@
 -- The writer's plan for a good record has the fewest bytes: any tag and flag byte by which the same record is read determine a
 -- shape with at least as many. Each width is the least, and the form is the shortest in which the record can be read.
 -- Assumes nothing.
-use Rattle.std.specs.Prelude.{◌≡◌, ℕ, ◌+◌, ◌*◌, ◌/◌, ◌%◌, ◌≤◌, ◌<◌, Bool, cond, List, [], ◌∷◌, leb, eqb}
+use Rattle.std.specs.Prelude.{◌≡◌, ℕ, ◌+◌, ◌*◌, ◌/◌, ◌%◌, ◌≤◌, ◌<◌, Bool, cond, List, [], ◌∷◌, leb, eqb, Some, None}
 use Rattle.std.proofs.Math.Path.{refl, ap}
 use Rattle.std.proofs.Common.{subst, inl, inr, le-leb, le-ltb, lt-ltb, leb-true, leb-false}
 use Rattle.std.proofs.Math.Nat.{mul-le-mul_left}
 use native.Mathlib.Omega.{arith}
 use Rattle.std.proofs.Math.Bool.{true, false}
 use Rattle.decode.specs.Takes.{AddressIn, CountIn}
-use Rattle.decode.specs.declared.Maybe.TheVariants.{Just}
 use Rattle.encode.specs.Widths.{AllFit}
 use Rattle.encode.specs.ReadFits.{address_gap_fits, count_fits}
 use Rattle.table.specs.Rows.{Rec}
@@ -18,7 +17,6 @@ use Rattle.phd.specs.declared.cache.Cache.{Cache}
 use Rattle.phd.specs.declared.Header.{Header}
 use Rattle.phd.specs.declared.Form.{Form}
 use Rattle.phd.specs.declared.Form.TheVariants.{Short, Medium, Long, Class, ObjectArray, Primitive, LongPrimitive}
-use Rattle.phd.specs.declared.TagForm.TheVariants.{Begins, Other}
 use Rattle.phd_check.specs.WellFormed.{GoodRec}
 use Rattle.phd_plan.specs.FormChoice.{find_slot, plan_input, Bounded, needs_flag_byte, make_plan}
 use Rattle.phd_plan.specs.MinimalForm.{gap_least, ref_least, pair_least, CanHold, overhead, object_form_shortest}
@@ -42,16 +40,16 @@ TagInForm Class t = t < 0x20
 TagInForm LongPrimitive t = t < 0x20
 TagInForm ObjectArray t = t < 0x20
 
-tag_in_form : (fm : Form) (t : ℕ) → tag_form t ≡ Begins fm → TagInForm fm t
+tag_in_form : (fm : Form) (t : ℕ) → tag_form t ≡ Some fm → TagInForm fm t
 unfolding tag_form
 tag_in_form fm t = by (leb 0x80 t) (leb 0x40 t) (leb 0x20 t) (eqb t 4) (eqb t 6) (eqb t 7) (eqb t 8) refl refl refl
   where
-    that : (f : Form) → TagInForm f t → Begins f ≡ Begins fm → TagInForm fm t
+    that : (f : Form) → TagInForm f t → Some f ≡ Some fm → TagInForm fm t
     that f x e = let z : f ≡ fm = cc in subst (λ f. TagInForm f t) z x
 
     by : (a b d l c p o : Bool) → leb 0x80 t ≡ a → leb 0x40 t ≡ b → leb 0x20 t ≡ d
-        → cond a (Begins Short) (cond b (Begins Medium) (cond d (Begins Primitive) (cond l (Begins Long) (cond c (Begins Class)
-        (cond p (Begins LongPrimitive) (cond o (Begins ObjectArray) Other)))))) ≡ Begins fm → TagInForm fm t
+        → cond a (Some Short) (cond b (Some Medium) (cond d (Some Primitive) (cond l (Some Long) (cond c (Some Class)
+        (cond p (Some LongPrimitive) (cond o (Some ObjectArray) None)))))) ≡ Some fm → TagInForm fm t
     by true b d l c p o ea eb ed e = that Short (leb-true 0x80 t ea) e
     by false true d l c p o ea eb ed e = that Medium (omega (arith, leb-true 0x40 t eb)) e
     by false false true l c p o ea eb ed e = that Primitive (leb-true 0x20 t ed) e
@@ -168,7 +166,7 @@ module _ (h : Header) (c : Cache) (before index : ℕ) (r : Rec)
   no_flag_byte_needed t f l z e = rw (e, z l) (no_flag_byte_hash h t)
 
   -- The class word of a record that was read as a short object is in a slot.
-  short_class_in_slot : (t known : ℕ) → 0x80 ≤ t → slot_class c t ≡ Just known → r.row.class ≡ known → find_slot c r.row.class < 4
+  short_class_in_slot : (t known : ℕ) → 0x80 ≤ t → slot_class c t ≡ Some known → r.row.class ≡ known → find_slot c r.row.class < 4
   unfolding slot_class
   short_class_in_slot t known l e z = find_slot_complete c r.row.class (t / 0x20 % 4) (omega arith) (rw z (rw (le-leb 0x80 t l) at e))
 
@@ -193,7 +191,7 @@ module _ (h : Header) (c : Cache) (before index : ℕ) (r : Rec)
   long_primitive_le false p q = let l : m.paircode ≤ 0 = pair_code_least 0 p q in primitive_bytes_size address_size _ m.paircode (hash_name_size r.row) (omega arith)
 
   -- Any tag and flag byte by which the record is read determine a shape with at least as many bytes as the plan.
-  least_for_form : (fm : Form) (t f known : ℕ) → TagInForm fm t → slot_class c t ≡ Just known → (0x20 ≤ t → f ≡ 0) → r.row.hashkind ≡ hash_kind h t f
+  least_for_form : (fm : Form) (t f known : ℕ) → TagInForm fm t → slot_class c t ≡ Some known → (0x20 ≤ t → f ≡ 0) → r.row.hashkind ≡ hash_kind h t f
       → FitsShape top before known (shape address_size fm t f) r.row r.refs
       → plan_bytes ≤ record_bytes t (shape address_size fm t f) r.row
   unfolding shape record_bytes plan_input

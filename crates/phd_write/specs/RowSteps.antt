@@ -1,6 +1,6 @@
 -- One step of the loops that size and encode the rows: the bytes from a row of a table on, and what holds of that row.
 -- Assumes nothing.
-use Rattle.std.specs.Prelude.{◌≡◌, refl, List, ◌++◌, cond, length}
+use Rattle.std.specs.Prelude.{◌≡◌, refl, List, ◌++◌, cond, length, None}
 use Prim.Native.Nat.{ℕ, suc, ◌+◌, ◌*◌, ◌/◌, ◌%◌, ◌≤◌, ◌<◌}
 use native.Mathlib.Omega.{arith}
 use Rattle.encode.specs.Encode.{be}
@@ -13,7 +13,6 @@ use Rattle.table.specs.Table.{row_count}
 use Rattle.phd_check.specs.GoodRows.{first_bad_from}
 use Rattle.phd_check.specs.WellFormed.{GoodRec, SpansInBounds, spans_in_bounds, good_rec, none_bad, length_refs_of, length_name_of}
 use Rattle.table.specs.declared.Row.{Row}
-use Rattle.table.specs.declared.Search.TheVariants.{NotFound}
 use Rattle.phd_plan.specs.FormChoice.{Bounded, plan_input, make_plan}
 use Rattle.phd_plan.specs.declared.Plan.{Plan}
 use Rattle.phd_encode.specs.EncodeRecord.{encode_front, encode_middle, encode_name, encode_refs, encode_tail, encode_fields, encode_planned, plan_record, encode_record, cache_after, plan_size}
@@ -55,7 +54,7 @@ module _ (h : Header) (names refs table : List ℕ) where
   -- address `before`.
   pub record BetweenRows (i index before : ℕ) : Type 0 where
     pub at_most : i ≤ row_count table
-    pub none : first_bad_from h names refs i index (rows_left table i) ≡ NotFound
+    pub none : first_bad_from h names refs i index (rows_left table i) ≡ None
     pub aligned : before % 4 ≡ 0
     pub most : before ≤ max_address h.bits
 

@@ -1,7 +1,7 @@
 -- Writing tables as a dump (docs/FORMAT.md 6): the bytes of the whole dump, the result of a write, refusals included, and the
 -- answer of a size query.
 -- A reader must believe these definitions.
-use Rattle.std.specs.Prelude.{ℕ, ◌+◌, Bool, cond, ◌&&◌, List, [], ◌∷◌, ◌++◌, length, leb, eqb}
+use Rattle.std.specs.Prelude.{ℕ, ◌+◌, Bool, cond, ◌&&◌, List, [], ◌∷◌, ◌++◌, length, leb, eqb, None}
 use Rattle.decode.specs.declared.StringSpan.{StringSpan}
 use Rattle.encode.specs.Encode.{join, be}
 use Rattle.phd.specs.Phd.{limit, magic, empty_cache}
@@ -10,9 +10,9 @@ use Rattle.phd.specs.declared.Header.{Header}
 use Rattle.table.specs.Rows.{Rec, recs, rows_of}
 use Rattle.table.specs.declared.Row.{Row}
 use Rattle.phd_check.specs.GoodRows.{good_header, first_bad, vm_text}
+use Rattle.phd_check.specs.declared.Tables.{Tables}
 use Rattle.table.specs.CheckOrder.{WriteResult, checked_write}
 use Rattle.table.specs.declared.Answer.{Answer}
-use Rattle.table.specs.declared.Search.TheVariants.{NotFound}
 use Rattle.phd_encode.specs.EncodeRecord.{encode_record, cache_after}
 
 -- ---- bytes of a dump
@@ -57,14 +57,14 @@ fits_capacity out_capacity dump = leb (length dump) out_capacity && leb (length 
 unfoldable pub write_rows : Header → (names refs : List ℕ) → List Row → ℕ → WriteResult
 write_rows h names refs rows out_capacity =
     let dump : List ℕ = encode_dump names h (recs names refs rows) in
-    checked_write (good_header h names rows refs) (first_bad h names refs rows) NotFound (fits_capacity out_capacity dump) dump
+    checked_write (good_header h names rows refs) (first_bad h names refs rows) None (fits_capacity out_capacity dump) dump
 
 -- The answer of a size query for that dump: the same checks in the same order, except that of the output; the size limit remains.
 -- With reply 0 the place is the size of the dump in bytes.
 unfoldable pub write_rows_size : Header → (names refs : List ℕ) → List Row → Answer
 write_rows_size h names refs rows =
     let dump : List ℕ = encode_dump names h (recs names refs rows) in
-    (checked_write (good_header h names rows refs) (first_bad h names refs rows) NotFound (leb (length dump) limit) dump).answer
+    (checked_write (good_header h names rows refs) (first_bad h names refs rows) None (leb (length dump) limit) dump).answer
 
 -- The result of writing the whole rows of a table.
 abbrev pub write_result : Header → (names refs table : List ℕ) → ℕ → WriteResult
@@ -73,3 +73,10 @@ write_result h names refs table out_capacity = write_rows h names refs (rows_of 
 -- The answer of a size query for the whole rows of a table.
 abbrev pub write_size_result : Header → (names refs table : List ℕ) → Answer
 write_size_result h names refs table = write_rows_size h names refs (rows_of table)
+
+-- The same two, for the tables that are passed.
+abbrev pub write_of : Tables → ℕ → WriteResult
+write_of t out_capacity = write_result t.header t.names.now t.refs.now t.rows.now out_capacity
+
+abbrev pub write_size_of : Tables → Answer
+write_size_of t = write_size_result t.header t.names.now t.refs.now t.rows.now

@@ -1,17 +1,17 @@
 -- Invariants of the loops that size and encode the rows: each holds at the start, a row preserves it, and at the end it gives the
 -- contract.
 -- Assumes nothing.
-use Rattle.std.specs.Prelude.{◌≡◌, refl, ℕ, ◌+◌, ◌*◌, ◌^◌, ◌≤◌, ◌<◌, List, [], ◌++◌, cond, length}
+use Rattle.std.specs.Prelude.{◌≡◌, refl, ℕ, ◌+◌, ◌*◌, ◌^◌, ◌≤◌, ◌<◌, List, [], ◌++◌, cond, length, None}
 use Rattle.std.proofs.Math.Path.{ap}
 use Rattle.std.proofs.Common.{◌∙◌, append-nil, length-append}
 use native.Mathlib.Omega.{arith}
 use Rattle.encode.specs.Encode.{be}
 use Rattle.encode.specs.NumberRoundTrip.{length_be}
-use Rattle.encode.specs.Writes.{Writes, HasCapacity, Remaining, capacity_first, remaining_start, remaining_next, remaining_capacity, remaining_done}
+use Rattle.encode.specs.Wrote.{Wrote, HasRoom, room_first, Remains, remains_start, remains_next, remains_room, remains_done}
+use Rattle.encode.specs.declared.encoder.Encoder.{Encoder}
 use Rattle.table.specs.Table.{row_count}
 use Rattle.table.specs.Rows.{row_at, refs_of, name_of, recs, rows_of}
 use Rattle.table.specs.declared.Row.{Row}
-use Rattle.table.specs.declared.Search.TheVariants.{NotFound}
 use Rattle.phd.specs.Phd.{max_address, empty_cache, push}
 use Rattle.phd.specs.Shapes.{ValidBits}
 use Rattle.phd.specs.declared.cache.Cache.{Cache}
@@ -30,7 +30,7 @@ module _ (h : Header) (names refs table : List ℕ) where
   all_bytes = encode_records h 0 empty_cache (recs names refs (rows_of table))
 
   -- `BetweenRows` holds before the first row.
-  between_start : first_bad h names refs (rows_of table) ≡ NotFound → BetweenRows h names refs table 0 0 0
+  between_start : first_bad h names refs (rows_of table) ≡ None → BetweenRows h names refs table 0 0 0
   unfolding max_address
   between_start e = record { at_most = omega arith; none = e; aligned = refl; most = omega arith }
 
@@ -45,7 +45,7 @@ module _ (h : Header) (names refs table : List ℕ) where
     pub sum : total + length (bytes_left h names refs table i before c) ≡ header + length all_bytes
 
   -- The invariant holds at the start.
-  pub size_loop_start : (header : ℕ) → header < 65570 → first_bad h names refs (rows_of table) ≡ NotFound → SizeLoop header 0 0 header empty_cache
+  pub size_loop_start : (header : ℕ) → header < 65570 → first_bad h names refs (rows_of table) ≡ None → SizeLoop header 0 0 header empty_cache
   size_loop_start header l e = record { index = 0; between = between_start e; few = omega arith; small = omega arith; sum = refl }
 
   -- Adding the size of row i preserves the invariant.
@@ -71,52 +71,56 @@ module _ (h : Header) (names refs table : List ℕ) where
   pub size_loop_end : (header i before total : ℕ) (c : Cache) → SizeLoop header i before total c → row_count table ≤ i → total + 1 ≡ header + length all_bytes
   size_loop_end header i before total c z l = rw (bytes_left_end h names refs table i before c l, length_be) at z.sum
 
-  -- ---- encoding the rows, into an output that was out₀, from offset at₀ on
+  -- ---- encoding the rows with an encoder that was `first` before them
 
-  -- Before row i, the bytes left remain to be written at offset `to`, and the output can hold all of them.
-  pub record EncodeLoop (at₀ : ℕ) (out₀ : List ℕ) (i before to : ℕ) (c : Cache) (out : List ℕ) : Type 0 where
+  -- Before row i, the bytes left remain to be written by the encoder as it is now, and its output can hold all of them.
+  pub record EncodeLoop (first : Encoder) (i before : ℕ) (c : Cache) (now : Encoder) : Type 0 where
     pub index : ℕ
     pub between : BetweenRows h names refs table i index before
-    pub rest : Remaining out₀ at₀ all_bytes out to (bytes_left h names refs table i before c)
-    pub capacity : HasCapacity out₀ at₀ all_bytes
+    pub rest : Remains first now all_bytes (bytes_left h names refs table i before c)
+    pub room : HasRoom first all_bytes
 
   -- The invariant holds at the start.
-  pub encode_loop_start : (at : ℕ) (out : List ℕ) → HasCapacity out at all_bytes → first_bad h names refs (rows_of table) ≡ NotFound → EncodeLoop at out 0 0 at empty_cache out
-  encode_loop_start at out l e = record { index = 0; between = between_start e; rest = remaining_start out at all_bytes; capacity = l }
+  pub encode_loop_start : (e : Encoder) → HasRoom e all_bytes → first_bad h names refs (rows_of table) ≡ None → EncodeLoop e 0 0 empty_cache e
+  encode_loop_start e l g = record { index = 0; between = between_start g; rest = remains_start e all_bytes; room = l }
 
-  module _ (at₀ : ℕ) (out₀ : List ℕ) (i before to : ℕ) (c : Cache) (out : List ℕ) (z : EncodeLoop at₀ out₀ i before to c out) where
+  module _ (first : Encoder) (i before : ℕ) (c : Cache) (now : Encoder) (z : EncodeLoop first i before c now) where
     -- Row i exists.
     module _ (w : ValidBits h.bits) (l : i < row_count table) where
       -- What holds of row i.
       this_step : RowStep h names refs table i z.index before c
       this_step = row_step h names refs table i z.index before c w z.between l
 
+      -- The bytes that remain after row i.
+      abbrev after_row : List ℕ
+      after_row = bytes_left h names refs table (i + 1) (row_at table i).address (cache_after_nth h names refs table i before c)
+
       -- The bytes that remain are those of row i and those after it.
-      progress_split : Remaining out₀ at₀ all_bytes out to (nth_bytes h names refs table i before c ++ bytes_left h names refs table (i + 1) (row_at table i).address (cache_after_nth h names refs table i before c))
+      progress_split : Remains first now all_bytes (nth_bytes h names refs table i before c ++ after_row)
       progress_split = rw this_step.more at z.rest
 
       -- The output can hold row i.
-      pub encode_loop_capacity : HasCapacity out to (nth_bytes h names refs table i before c)
-      encode_loop_capacity = capacity_first out to (nth_bytes h names refs table i before c) (bytes_left h names refs table (i + 1) (row_at table i).address (cache_after_nth h names refs table i before c)) (remaining_capacity progress_split z.capacity)
+      pub encode_loop_room : HasRoom now (nth_bytes h names refs table i before c)
+      encode_loop_room = room_first now (nth_bytes h names refs table i before c) after_row (remains_room progress_split z.room)
 
       -- Writing row i preserves the invariant.
-      pub encode_loop_step : (to' : ℕ) (out' : List ℕ) → Writes out to (nth_bytes h names refs table i before c) out' to'
-          → EncodeLoop at₀ out₀ (i + 1) (row_at table i).address to' (cache_after_nth h names refs table i before c) out'
-      encode_loop_step to' out' p = record { index = z.index + (row_at table i).count; between = this_step.between; rest = remaining_next progress_split p; capacity = z.capacity }
+      pub encode_loop_step : (next : Encoder) → Wrote now next (nth_bytes h names refs table i before c)
+          → EncodeLoop first (i + 1) (row_at table i).address (cache_after_nth h names refs table i before c) next
+      encode_loop_step next p = record { index = z.index + (row_at table i).count; between = this_step.between; rest = remains_next after_row progress_split p; room = z.room }
 
     -- No row is left.
     module _ (l : row_count table ≤ i) where
       -- The end tag is all that remains.
-      last : Remaining out₀ at₀ all_bytes out to (be 1 3 ++ [])
+      last : Remains first now all_bytes (be 1 3 ++ [])
       last = rw (append-nil (be 1 3)) (rw (bytes_left_end h names refs table i before c l) at z.rest)
 
       -- The output can hold the end tag.
-      pub end_tag_capacity : HasCapacity out to (be 1 3)
-      end_tag_capacity = capacity_first out to (be 1 3) [] (remaining_capacity last z.capacity)
+      pub end_tag_room : HasRoom now (be 1 3)
+      end_tag_room = room_first now (be 1 3) [] (remains_room last z.room)
 
       -- Writing the end tag completes the rows.
-      pub encode_loop_end : (to' : ℕ) (out' : List ℕ) → Writes out to (be 1 3) out' to' → Writes out₀ at₀ all_bytes out' to'
-      encode_loop_end to' out' p = remaining_done (remaining_next last p)
+      pub encode_loop_end : (next : Encoder) → Wrote now next (be 1 3) → Wrote first next all_bytes
+      encode_loop_end next p = remains_done (remains_next [] last p)
 
   -- ---- the next row in the functions' variables: r is the row, p its plan
 
@@ -180,13 +184,12 @@ module _ (h : Header) (names refs table : List ℕ) where
       cache_is k g = rw (plan_is, e) at g
 
       -- One iteration of `encode_rows` preserves the invariant.
-      pub encode_loop_row : (at₀ : ℕ) (out₀ : List ℕ) (to : ℕ) (out : List ℕ) → EncodeLoop at₀ out₀ i before to c out → ValidBits h.bits → i < row_count table
-          → (to' : ℕ) (out' : List ℕ) (k : Cache) → Writes out to (encode_planned before p r (refs_of refs r) (name_of names r)) out' to'
-          → k ≡ cond p.shape.cached (push c r.class) c → EncodeLoop at₀ out₀ (i + 1) r.address to' k out'
-      encode_loop_row at₀ out₀ to out z w l to' out' k a j =
-          rw (cache_is k j, e) (encode_loop_step at₀ out₀ i before to c out z w l to' out' (rw bytes_is at a))
+      pub encode_loop_row : (first now : Encoder) → EncodeLoop first i before c now → ValidBits h.bits → i < row_count table
+          → (next : Encoder) (k : Cache) → Wrote now next (encode_planned before p r (refs_of refs r) (name_of names r))
+          → k ≡ cond p.shape.cached (push c r.class) c → EncodeLoop first (i + 1) r.address k next
+      encode_loop_row first now z w l next k a j = rw (cache_is k j, e) (encode_loop_step first i before c now z w l next (rw bytes_is at a))
 
       -- The output can hold the record that the iteration writes.
-      pub encode_loop_row_capacity : (at₀ : ℕ) (out₀ : List ℕ) (to : ℕ) (out : List ℕ) → EncodeLoop at₀ out₀ i before to c out → ValidBits h.bits → i < row_count table
-          → HasCapacity out to (encode_planned before p r (refs_of refs r) (name_of names r))
-      encode_loop_row_capacity at₀ out₀ to out z w l = rw bytes_is (encode_loop_capacity at₀ out₀ i before to c out z w l)
+      pub encode_loop_row_room : (first now : Encoder) → EncodeLoop first i before c now → ValidBits h.bits → i < row_count table
+          → HasRoom now (encode_planned before p r (refs_of refs r) (name_of names r))
+      encode_loop_row_room first now z w l = rw bytes_is (encode_loop_room first i before c now z w l)

@@ -1,6 +1,6 @@
 -- The outcomes of a write: which check decides, and how a size query agrees with it.
 -- Assumes nothing.
-use Rattle.std.specs.Prelude.{◌≡◌, ◌⊎◌, ℕ, ◌≤◌, ◌<◌, Bool, true, false, ◌&&◌, List, [], ◌∷◌, ◌++◌, length, leb}
+use Rattle.std.specs.Prelude.{◌≡◌, ◌⊎◌, ℕ, ◌≤◌, ◌<◌, Bool, true, false, ◌&&◌, List, [], ◌∷◌, ◌++◌, length, leb, None}
 use Rattle.std.proofs.Math.Path.{refl, ap}
 use Rattle.std.proofs.Common.{sym, ◌∙◌, inl, inr, append_assoc, le-leb, leb-true, leb-false}
 use Rattle.std.proofs.Math.Bool.{and_self}
@@ -12,7 +12,6 @@ use Rattle.table.specs.CheckOrder.{WriteResult, done, checked_write, checked_inp
 use Rattle.table.specs.SizeQuery.{QueryAgrees, query_refused, query_size, query_too_large, query_agrees_by as by_query}
 use Rattle.table.specs.declared.Answer.{Answer}
 use Rattle.table.specs.declared.Row.{Row}
-use Rattle.table.specs.declared.Search.TheVariants.{NotFound}
 use Rattle.phd.specs.Phd.{limit}
 use Rattle.phd.specs.declared.cache.Cache.{Cache}
 use Rattle.phd.specs.declared.Header.{Header}
@@ -82,7 +81,7 @@ module _ (h : Header) (names refs : List ℕ) (rows : List Row) (out_capacity : 
   outcome = write_rows h names refs rows out_capacity
 
   -- By the checks, each reply comes exactly in its case.
-  pub write_by_checks : CheckReplies (good_header h names rows refs) (first_bad h names refs rows) NotFound (fits_capacity out_capacity dump) dump outcome
+  pub write_by_checks : CheckReplies (good_header h names rows refs) (first_bad h names refs rows) None (fits_capacity out_capacity dump) dump outcome
   unfolding write_rows
   write_by_checks = check_replies _ _ _ _ _
 
@@ -116,7 +115,7 @@ module _ (h : Header) (names refs : List ℕ) (rows : List Row) where
   pub size_query_as_write : write_rows_size h names refs rows ≡ (write_rows h names refs rows limit).answer
   unfolding write_rows write_rows_size fits_capacity
   size_query_as_write =
-      ap (λ b. (checked_write (good_header h names rows refs) (first_bad h names refs rows) NotFound b (dump_of h names refs rows)).answer)
+      ap (λ b. (checked_write (good_header h names rows refs) (first_bad h names refs rows) None b (dump_of h names refs rows)).answer)
       (sym (and_self (leb (length (dump_of h names refs rows)) limit)))
 
   -- A size query agrees with a write of the same rows into an output of any capacity.

@@ -2,18 +2,27 @@
 -- A reader must believe these definitions.
 use Rattle.std.specs.Prelude.{◌≡◌, ◌⊎◌, ℕ, ◌<◌, List, [], ◌∷◌, ◌++◌, length}
 use Rattle.table.specs.Buffer.{overwrite}
-use Rattle.table.specs.Rows.{recs}
+use Rattle.table.specs.Rows.{recs, rows_of}
 use Rattle.table.specs.declared.Answer.{Answer}
 use Rattle.table.specs.declared.Row.{Row}
-use Rattle.phd.specs.Phd.{limit}
+use Rattle.phd.specs.Phd.{limit, empty_cache}
 use Rattle.phd.specs.declared.Header.{Header}
-use Rattle.phd_write.specs.Write.{encode_dump, write_result}
+use Rattle.phd_check.specs.declared.Tables.{Tables}
+use Rattle.phd_write.specs.Write.{encode_records, encode_dump, write_result}
 
 -- ---- rows
 
 -- The dump of rows, in order, under the header h.
 abbrev pub dump_of : Header → (names refs : List ℕ) → List Row → List ℕ
 dump_of h names refs rows = encode_dump names h (recs names refs rows)
+
+-- The dump of the tables that are passed.
+abbrev pub tables_dump : Tables → List ℕ
+tables_dump t = dump_of t.header t.names.now t.refs.now (rows_of t.rows.now)
+
+-- The rows of that dump and its end tag.
+abbrev pub tables_rows : Tables → List ℕ
+tables_rows t = encode_records t.header 0 empty_cache (recs t.names.now t.refs.now (rows_of t.rows.now))
 
 -- ---- calls
 

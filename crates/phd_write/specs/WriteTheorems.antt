@@ -1,7 +1,7 @@
 -- Theorems about writing and its size query, in reading order, for any rows; `write_result` and `write_size_result` are these for
 -- the whole rows of a table. What holds of reading a written dump is in phd_round_trip.
 -- A reader must believe the statements and their records. Assumes nothing.
-use Rattle.std.specs.Prelude.{◌≡◌, refl, ◌↔◌, ◌⊎◌, ℕ, ◌≤◌, ◌<◌, true, false, List, [], ◌++◌, length}
+use Rattle.std.specs.Prelude.{◌≡◌, refl, ◌↔◌, ◌⊎◌, ℕ, ◌≤◌, ◌<◌, true, false, List, [], ◌++◌, length, Some, None}
 use Rattle.std.proofs.Common.{ap, ◌∙◌, inl, inr, arith}
 use Rattle.table.specs.Rows.{recs}
 use Rattle.table.specs.Buffer.{overwrite, overwrite_all}
@@ -10,7 +10,6 @@ use Rattle.table.specs.SizeQuery.{QueryAgrees}
 use Rattle.table.specs.OffsetsIgnored.{EqualExceptOffsets, rows_of_equal}
 use Rattle.table.specs.declared.Answer.{Answer}
 use Rattle.table.specs.declared.Row.{Row}
-use Rattle.table.specs.declared.Search.TheVariants.{At, NotFound}
 use Rattle.phd.specs.Phd.{limit, empty_cache}
 use Rattle.phd.specs.declared.Header.{Header}
 use Rattle.phd_check.specs.GoodRows.{good_header, first_bad, TablesGood}
@@ -26,7 +25,7 @@ pub record WriteReplies (h : Header) (names refs : List ℕ) (rows : List Row) (
   pub header : (w.answer.reply ≡ 15) ↔ (good_header h names rows refs ≡ false)
   -- 16 with place i exactly if the header is good and the first bad row is row i.
   pub row : (i : ℕ) → ((w.answer.reply ≡ 16) × (w.answer.place ≡ i))
-      ↔ ((good_header h names rows refs ≡ true) × (first_bad h names refs rows ≡ At i))
+      ↔ ((good_header h names rows refs ≡ true) × (first_bad h names refs rows ≡ Some i))
   -- 17 exactly if the header is good, no row is bad, and the dump exceeds the capacity or the size limit.
   pub too_small : (w.answer.reply ≡ 17) ↔ ((TablesGood h names refs rows) × (TooLong out_capacity (dump_of h names refs rows)))
   -- 0 exactly if the header is good, no row is bad, and the dump is within the capacity and the size limit.
@@ -56,7 +55,7 @@ write_replies h names refs rows out_capacity = record {
     dump : List ℕ
     dump = dump_of h names refs rows
 
-    t : CheckReplies (good_header h names rows refs) (first_bad h names refs rows) NotFound (fits_capacity out_capacity (dump_of h names refs rows)) (dump_of h names refs rows) (write_rows h names refs rows out_capacity)
+    t : CheckReplies (good_header h names rows refs) (first_bad h names refs rows) None (fits_capacity out_capacity (dump_of h names refs rows)) (dump_of h names refs rows) (write_rows h names refs rows out_capacity)
     t = write_by_checks h names refs rows out_capacity
 
     -- Reply 18 is impossible, since writing does not look for classes.

@@ -1,78 +1,66 @@
 // The header of a dump (docs/FORMAT.md 2): its size, and encoding it.
-ghost use Rattle.std.specs.Prelude.{◌≡◌, ◌≤◌, length};
-ghost use Rattle.encode.specs.Writes.{Writes, HasCapacity};
-ghost use Rattle.phd_write.specs.Write.{flag_value, header_flags, encode_preamble, encode_vm, encode_header};
+ghost use Rattle.std.specs.Prelude.{◌≡◌, length};
+ghost use Rattle.encode.specs.Wrote.{Wrote, HasRoom};
+ghost use Rattle.phd_write.specs.Write.{header_flags, encode_preamble, encode_vm, encode_header};
 ghost use Rattle.phd_check.specs.WellFormed.{VmInBounds};
 
 use decode::StringSpan;
+use encode::encoder::Encoder;
 use phd::Header;
 
 // Returns the size of the header in bytes.
+#[tactic(auto, using(crate::specs::HeaderBytes::length_header), unfolding(crate::specs::HeaderBytes::header_size, crate::specs::HeaderBytes::vm_size))]
 pub fn header_size(h: Header, names: &[u8]) -> usize
     requires { VmInBounds names.now h.vm }
     ensures { result ≡ length (encode_header names.now h) }
 {
-    let vm = h.vm;
-    if vm.present {
-        return 34 + vm.len;
-    }
-    31
-}
-
-// Returns what a flag adds to the header flags: `n` if it is set, else 0.
-fn flag_value(set: bool, n: u64) -> u64
-    ensures is { result ≡ flag_value set n }
-    ensures most { result ≤ n }
-{
-    if set {
-        return n;
-    }
-    0
+    if h.vm.present { 34 + h.vm.len } else { 31 }
 }
 
 // Returns the header flags: 1 if W is 64, plus 2 if all-hashed, plus 4 if from OpenJ9.
+#[tactic(auto, unfolding(crate::specs::Write::header_flags))]
 fn header_flags(h: Header) -> u64
     ensures { result ≡ header_flags h }
 {
-    flag_value(h.bits == 64, 1) + flag_value(h.hashed, 2) + flag_value(h.openj9, 4)
+    u64::from(h.bits == 64) + 2 * u64::from(h.hashed) + 4 * u64::from(h.openj9)
 }
 
-// Encodes the opening string, the version, the flags and the byte 1 at the start of the output; returns the offset after them.
-fn encode_preamble(out: &mut [u8], flags: u64) -> usize
-    requires { HasCapacity out.old 0 (encode_preamble flags) }
-    ensures { Writes out.old 0 (encode_preamble flags) out.new result }
+// Encodes the opening string, the version, the flags and the byte 1.
+#[tactic(auto, using(encode::specs::Wrote::consecutive), unfolding(crate::specs::Write::encode_preamble, phd::specs::Phd::magic))]
+fn encode_preamble(e: &mut Encoder, flags: u64)
+    requires { HasRoom e.old (encode_preamble flags) }
+    ensures { Wrote e.old e.new (encode_preamble flags) }
 {
-    let opening = encode::encode_be(out, 0, 2, 18);
-    let version = encode::encode_bytes(out, opening, &phd::magic::MAGIC);
-    let bits = encode::encode_be(out, version, 4, 6);
-    let one = encode::encode_be(out, bits, 4, flags);
-    encode::encode_be(out, one, 1, 1)
+    e.be(2, 18);
+    e.bytes(&phd::magic::MAGIC);
+    e.be(4, 6);
+    e.be(4, flags);
+    e.be(1, 1);
 }
 
-// Encodes the header record of the VM string, if there is one, at offset `at`, and returns the offset after it.
-fn encode_vm(out: &mut [u8], at: usize, vm: StringSpan, names: &[u8]) -> usize
+// Encodes the header record of the VM string, if there is one.
+#[tactic(auto, using(encode::specs::Wrote::consecutive), unfolding(crate::specs::Write::encode_vm, phd_check::specs::GoodRows::vm_text))]
+fn encode_vm(e: &mut Encoder, vm: StringSpan, names: &[u8])
     requires vm_in_bounds { VmInBounds names.now vm }
-    requires has_capacity { HasCapacity out.old at (encode_vm names.now vm) }
-    ensures { Writes out.old at (encode_vm names.now vm) out.new result }
+    requires has_room { HasRoom e.old (encode_vm names.now vm) }
+    ensures { Wrote e.old e.new (encode_vm names.now vm) }
 {
     if vm.present {
-        let place = vm.place;
-        let n = vm.len;
-        let len = encode::encode_be(out, at, 1, 4);
-        let text = encode::encode_be(out, len, 2, n as u64);
-        return encode::encode_slice(out, text, names, place, n);
+        e.be(1, 4);
+        e.be(2, vm.len as u64);
+        e.bytes(&names[vm.place..vm.place + vm.len]);
     }
-    at
 }
 
-// Encodes the header at the start of the output, and returns the offset after it.
-pub fn encode_header(out: &mut [u8], h: Header, names: &[u8]) -> usize
+// Encodes the header.
+#[tactic(auto, using(encode::specs::Wrote::consecutive), unfolding(crate::specs::Write::encode_header))]
+pub fn encode_header(e: &mut Encoder, h: Header, names: &[u8])
     requires vm_in_bounds { VmInBounds names.now h.vm }
-    requires has_capacity { HasCapacity out.old 0 (encode_header names.now h) }
-    ensures { Writes out.old 0 (encode_header names.now h) out.new result }
+    requires has_room { HasRoom e.old (encode_header names.now h) }
+    ensures { Wrote e.old e.new (encode_header names.now h) }
 {
-    let vm = encode_preamble(out, header_flags(h));
-    let end = encode_vm(out, vm, h.vm, names);
-    let body = encode::encode_be(out, end, 1, 2);
-    encode::encode_be(out, body, 1, 2)
+    encode_preamble(e, header_flags(h));
+    encode_vm(e, h.vm, names);
+    e.be(1, 2);
+    e.be(1, 2);
 }

@@ -3,76 +3,63 @@
 #![tactic(auto)]
 
 ghost use Rattle.std.specs.Prelude.{◌≡◌, length};
-ghost use Rattle.phd_check.specs.GoodRows.{TablesGood};
 ghost use Rattle.encode.specs.Writes.{Writes, HasCapacity};
-ghost use Rattle.table.specs.Rows.{rows_of};
 ghost use Rattle.table.specs.Buffer.{overwrite};
-ghost use Rattle.phd_write.specs.Write.{write_result, write_size_result};
-ghost use Rattle.phd_write.specs.WriteTerms.{dump_of};
+ghost use Rattle.table.specs.Refusals.{answer_of};
+ghost use Rattle.phd_write.specs.Write.{write_of, write_size_of};
+ghost use Rattle.phd_write.specs.WriteTerms.{tables_dump};
 
-use phd::Header;
-use table::Answer;
+use encode::encoder::Encoder;
+use phd_check::{GoodTables, Tables};
+use table::Refusal;
 
 mod header;
 mod rows;
 
-// Returns the size of the dump of a good header and good rows, or 17 if it is over the size limit.
-fn dump_size(header: Header, rows: &[u64], refs: &[u64], names: &[u8]) -> Answer
-    requires { TablesGood header names.now refs.now (rows_of rows.now) }
-    ensures { result ≡ write_size_result header names.now refs.now rows.now }
+// Returns the size of the dump of good tables, and refuses one over the size limit.
+fn dump_size(good: GoodTables) -> Result<usize, Refusal>
+    ensures { answer_of result ≡ write_size_of good.entry.tables }
 {
-    let first = header::header_size(header, names);
-    let size = rows::rows_size(header, rows, refs, names, first);
+    let first = header::header_size(good.tables.header, good.tables.names);
+    let size = rows::rows_size(good, first);
     if reader::LIMIT < size {
-        return Answer {
-            reply: 17,
-            place: 0,
-        };
-    }
-    Answer {
-        reply: 0,
-        place: size,
+        Err(Refusal::TooSmall)
+    } else {
+        Ok(size)
     }
 }
 
 // Returns the size in bytes of the dump of the whole rows of a table and their references. Makes the checks of `write`, except
 // that of the output, and writes nothing.
-pub fn write_size(header: Header, rows: &[u64], refs: &[u64], names: &[u8]) -> Answer
-    ensures { result ≡ write_size_result header names.now refs.now rows.now }
+pub fn write_size(tables: Tables) -> Result<usize, Refusal>
+    ensures { answer_of result ≡ write_size_of tables.entry }
 {
-    let checked = phd_check::check(header, names, refs, rows);
-    if checked.reply != 0 {
-        return checked;
-    }
-    dump_size(header, rows, refs, names)
+    dump_size(tables.check()?)
 }
 
-// Encodes the dump of a good header and good rows at the start of an output that can hold it, and returns its length.
-fn encode_dump(header: Header, rows: &[u64], refs: &[u64], names: &[u8], out: &mut [u8]) -> usize
-    requires tables_good { TablesGood header names.now refs.now (rows_of rows.now) }
-    requires has_capacity { HasCapacity out.old 0 (dump_of header names.now refs.now (rows_of rows.now)) }
-    ensures { Writes out.old 0 (dump_of header names.now refs.now (rows_of rows.now)) out.new result }
+// Encodes the dump of good tables at the start of an output that can hold it, and returns its length.
+#[tactic(auto, using(encode::specs::Wrote::consecutive), unfolding(crate::specs::Write::encode_dump))]
+fn encode_dump(good: GoodTables, out: &mut [u8]) -> usize
+    requires { HasCapacity out.old 0 (tables_dump good.tables) }
+    ensures { Writes out.old 0 (tables_dump good.entry.tables) out.new result }
 {
-    let at = header::encode_header(out, header, names);
-    rows::encode_rows(out, at, header, rows, refs, names)
+    let mut e = Encoder { out, at: 0 };
+    header::encode_header(&mut e, good.tables.header, good.tables.names);
+    rows::encode_rows(&mut e, good);
+    e.at
 }
 
-// Writes the whole rows of a table and their references as a dump at the start of the output. Output bytes after the dump are
-// unchanged; a refusal changes no byte.
-pub fn write(header: Header, rows: &[u64], refs: &[u64], names: &[u8], out: &mut [u8]) -> Answer
-    ensures is { result ≡ (write_result header names.now refs.now rows.now (length out.old)).answer }
-    ensures out { out.new ≡ overwrite out.old (write_result header names.now refs.now rows.now (length out.old)).bytes }
+// Writes the whole rows of a table and their references as a dump at the start of the output, and returns its length. Output
+// bytes after the dump are unchanged; a refusal changes no byte.
+pub fn write(tables: Tables, out: &mut [u8]) -> Result<usize, Refusal>
+    ensures is { answer_of result ≡ (write_of tables.entry (length out.old)).answer }
+    ensures out { out.new ≡ overwrite out.old (write_of tables.entry (length out.old)).bytes }
 {
-    let query = write_size(header, rows, refs, names);
-    if query.reply != 0 {
-        return query;
+    let good = tables.check()?;
+    let size = dump_size(good)?;
+    if out.len() < size {
+        return Err(Refusal::TooSmall);
     }
-    if out.len() < query.place {
-        return Answer {
-            reply: 17,
-            place: 0,
-        };
-    }
-    encode_dump(header, rows, refs, names, out);
-    query
+    encode_dump(good, out);
+    Ok(size)
 }

@@ -1,76 +1,93 @@
 // The rows of a dump: their size, and encoding them in order.
-ghost use Rattle.std.specs.Prelude.{◌≡◌, true, ◌+◌, ◌≤◌, ◌<◌, length};
-ghost use Rattle.encode.specs.Writes.{Writes, HasCapacity};
-ghost use Rattle.phd.specs.Phd.{empty_cache};
-ghost use Rattle.table.specs.Rows.{refs_of, recs, rows_of};
-ghost use Rattle.phd_check.specs.GoodRows.{good_header, first_bad};
-ghost use Rattle.table.specs.declared.Search.TheVariants.{NotFound};
-ghost use Rattle.phd_plan.specs.FormChoice.{Bounded, plan_input};
-ghost use Rattle.phd_write.specs.Write.{encode_records};
-ghost use Rattle.phd_write.specs.RowSteps.{plan_row};
+ghost use Rattle.std.specs.Prelude.{◌≡◌, ◌+◌, ◌/◌, ◌≤◌, ◌<◌, length};
+ghost use Rattle.encode.specs.Wrote.{Wrote, HasRoom};
+ghost use Rattle.phd.specs.Shapes.{ValidBits};
+ghost use Rattle.table.specs.Rows.{refs_of, name_of};
+ghost use Rattle.phd_plan.specs.FormChoice.{Bounded, plan_input, make_plan};
+ghost use Rattle.phd_write.specs.WriteTerms.{tables_rows};
 
+use encode::encoder::Encoder;
 use phd::{Cache, Header};
+use phd_check::{GoodTables, Tables};
 use phd_plan::Plan;
 use table::Row;
 
-// Returns the plan of a row after a record at the address `before`, with the cache.
-fn plan_row(h: Header, cache: Cache, before: u64, row: Row, refs: &[u64]) -> Plan
-    requires { (row.first + row.count ≤ length refs.now) × Bounded (plan_input cache before row (refs_of refs.now row)) }
-    ensures { result ≡ plan_row h refs.now before cache row }
+// Returns the references of a row.
+#[tactic(auto, unfolding(table::specs::Rows::refs_of))]
+fn refs_of(refs: &[u64], row: Row) -> &[u64]
+    requires { row.first + row.count ≤ length refs.now }
+    ensures { result.now ≡ refs_of refs.now row }
 {
-    let m = phd_plan::plan_input_of(cache, before, row, refs);
-    phd_plan::make_plan((h.bits / 8) as usize, m)
+    &refs[row.first as usize..(row.first + row.count) as usize]
 }
 
-// Returns the size of a dump whose header has `header` bytes: the header, the rows and the end tag.
-pub fn rows_size(h: Header, rows: &[u64], refs: &[u64], names: &[u8], header: usize) -> usize
-    requires refs_value { good_header h names.now (rows_of rows.now) refs.now ≡ true }
-    requires rows_value { first_bad h names.now refs.now (rows_of rows.now) ≡ NotFound }
-    requires header_bound { header < 65570 }
-    ensures { result ≡ header + length (encode_records h 0 empty_cache (recs names.now refs.now (rows_of rows.now))) }
+// Returns the name of a row.
+#[tactic(auto, unfolding(table::specs::Rows::name_of))]
+fn name_of(names: &[u8], row: Row) -> &[u8]
+    requires { row.place + row.namelen ≤ length names.now }
+    ensures { result.now ≡ name_of names.now row }
 {
-    let n = rows.len() / table::ROW_WIDTH;
+    &names[row.place as usize..(row.place + row.namelen) as usize]
+}
+
+// Returns the plan of a row with its references, after a record at the address `before`, with the cache.
+fn plan_row(h: Header, cache: Cache, before: u64, row: Row, refs: &[u64]) -> Plan
+    requires { Bounded (plan_input cache before row refs.now) }
+    ensures { result ≡ make_plan (h.bits / 8) (plan_input cache before row refs.now) }
+{
+    phd_plan::make_plan(
+        (h.bits / 8) as usize,
+        phd_plan::plan_input_of(cache, before, row, refs),
+    )
+}
+
+// Returns the size of a dump whose header has `first` bytes: the header, the rows and the end tag.
+pub fn rows_size(good: GoodTables, first: usize) -> usize
+    requires { first < 65570 }
+    ensures { result ≡ first + length (tables_rows good.entry.tables) }
+{
+    let Tables {
+        header,
+        rows,
+        refs,
+        names: _,
+    } = good.tables;
+    let w = (header.bits / 8) as usize;
     let mut cache = Cache::new();
-    let mut before: u64 = 0;
-    let mut total = header;
-    let mut i: usize = 0;
-    while i < n {
+    let mut before = 0;
+    let mut total = first;
+    for i in 0..rows.len() / table::ROW_WIDTH {
         let row = table::row_at(rows, i);
-        let sized = phd_encode::sizes::record_size((h.bits / 8) as usize, cache, before, row, refs);
+        let list = refs_of(refs, row);
+        let sized = phd_encode::sizes::record_size(w, cache, before, row, list);
         total += sized.size;
         cache = cache.push_if(sized.cached, row.class);
         before = row.address;
-        i += 1;
     }
     total + 1
 }
 
-// Encodes the rows and the end tag at offset `at`, and returns the offset after them.
-pub fn encode_rows(
-    out: &mut [u8],
-    at: usize,
-    h: Header,
-    rows: &[u64],
-    refs: &[u64],
-    names: &[u8],
-) -> usize
-    requires refs_value { good_header h names.now (rows_of rows.now) refs.now ≡ true }
-    requires rows_value { first_bad h names.now refs.now (rows_of rows.now) ≡ NotFound }
-    requires has_capacity { HasCapacity out.old at (encode_records h 0 empty_cache (recs names.now refs.now (rows_of rows.now))) }
-    ensures { Writes out.old at (encode_records h 0 empty_cache (recs names.now refs.now (rows_of rows.now))) out.new result }
+// Encodes the rows and the end tag.
+pub fn encode_rows(e: &mut Encoder, good: GoodTables)
+    requires { HasRoom e.old (tables_rows good.tables) }
+    ensures { Wrote e.old e.new (tables_rows good.entry.tables) }
 {
-    let n = rows.len() / table::ROW_WIDTH;
+    let Tables {
+        header,
+        rows,
+        refs,
+        names,
+    } = good.tables;
     let mut cache = Cache::new();
-    let mut before: u64 = 0;
-    let mut to = at;
-    let mut i: usize = 0;
-    while i < n {
+    let mut before = 0;
+    for i in 0..rows.len() / table::ROW_WIDTH {
         let row = table::row_at(rows, i);
-        let p = plan_row(h, cache, before, row, refs);
-        to = phd_encode::encode_record(out, to, before, p, row, refs, names);
-        cache = cache.push_if(p.shape.cached, row.class);
+        let list = refs_of(refs, row);
+        let plan = plan_row(header, cache, before, row, list);
+        let name = name_of(names, row);
+        phd_encode::encode_record(e, before, plan, row, list, name);
+        cache = cache.push_if(plan.shape.cached, row.class);
         before = row.address;
-        i += 1;
     }
-    encode::encode_be(out, to, 1, 3)
+    e.be(1, 3);
 }

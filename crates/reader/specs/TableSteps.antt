@@ -2,7 +2,7 @@
 -- tables. For the proofs of the functions that read: `CursorInBounds`, `StepContinues`, `StepEnds` and `LoopInvariant` state what
 -- they do; the laws after them, and those in proofs/TableSteps.antt, prove that the loop over steps gives the result of the reading.
 -- Assumes nothing.
-use Rattle.std.specs.Prelude.{◌≡◌, refl, List, ◌++◌, ℕ, suc, ◌+◌, ◌-◌, ◌*◌, ◌/◌, ◌≤◌, take, drop}
+use Rattle.std.specs.Prelude.{◌≡◌, refl, List, ◌++◌, ℕ, suc, ◌+◌, ◌-◌, ◌*◌, ◌/◌, ◌≤◌, take, drop, Ok, Err, Result as StepResult}
 use Rattle.std.proofs.Common.{sym, ap, ◌∙◌, length-append, take-append-drop, take_at, drop_at, drop-drop}
 use native.Mathlib.Omega.{arith}
 use Rattle.std.proofs.Math.ListN.{length}
@@ -11,8 +11,7 @@ use Rattle.std.proofs.Math.Seq.{length-take-le}
 use Rattle.table.specs.Buffer.{overwrite}
 use Rattle.table.specs.Table.{row_width, row_count}
 use Rattle.reader.specs.Reader.{limit, capacity, Format, State, Result, go, halt, ended, step, records, initial_state}
-use Rattle.reader.specs.declared.StepResult.{StepResult}
-use Rattle.reader.specs.declared.StepResult.TheVariants.{Continue, End}
+use Rattle.reader.specs.declared.End.{End}
 use Rattle.reader.specs.Steps.{Lawful, records_halt}
 
 -- A cursor, between records: the offset of the next one, the context, and how many rows and references are stored.
@@ -52,9 +51,9 @@ pub record StepEnds (D : Format) (h : D.Header) (s : List ℕ) (k : CursorOf D) 
   pub refs_same : refs' ≡ refs
 
 -- The contract of a step, by its result.
-abbrev pub StepContract : (D : Format) → D.Header → List ℕ → CursorOf D → (rows refs rows' refs' : List ℕ) → CursorOf D → StepResult → Type 0
-StepContract D h s k rows refs rows' refs' k' Continue = StepContinues D h s k rows refs rows' refs' k'
-StepContract D h s k rows refs rows' refs' k' (End reply place missing) = StepEnds D h s k rows refs rows' refs' k' reply place missing
+abbrev pub StepContract : (D : Format) → D.Header → List ℕ → CursorOf D → (rows refs rows' refs' : List ℕ) → CursorOf D → StepResult (Unit {0}) End → Type 0
+StepContract D h s k rows refs rows' refs' k' (Ok _) = StepContinues D h s k rows refs rows' refs' k'
+StepContract D h s k rows refs rows' refs' k' (Err e) = StepEnds D h s k rows refs rows' refs' k' e.reply e.place e.missing
 
 -- The invariant between two steps of a reading that began at offset `at` with the tables rows₀ and refs₀: reading from the cursor
 -- on gives the result of the whole.

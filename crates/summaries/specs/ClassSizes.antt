@@ -4,7 +4,7 @@
 use Rattle.std.proofs.Math.Path.{◌≡◌, refl, ap}
 use Prim.Native.Nat.{ℕ, suc, ◌*◌}
 use Rattle.std.proofs.Common.{arith}
-use Rattle.std.specs.Prelude.{Bool, ◌&&◌, ◌||◌}
+use Rattle.std.specs.Prelude.{Bool, ◌&&◌, ◌||◌, Some}
 use Rattle.std.proofs.Math.Bool.{true, false, cond, not}
 use mathlib.Core.List.{List, [], ◌∷◌, ◌++◌, append_assoc}
 use Rattle.std.proofs.Math.ListN.{length, length-append}
@@ -13,7 +13,6 @@ use Rattle.table.specs.Rows.{is_kind, nth}
 use Rattle.table.specs.Search.{first_from, found_row}
 use Rattle.table.specs.RowBytes.{is_class_at, is_not_found, naming_class, bytes_of}
 use Rattle.table.specs.declared.Row.{Row}
-use Rattle.table.specs.declared.Search.TheVariants.{At}
 use Rattle.summaries.specs.Summaries.{waits}
 
 -- Whether a class row with the address a is among the rows.
@@ -40,7 +39,7 @@ module _ (a : ℕ) where
       go (is_class_at a r) (rw (append_assoc, l) at (size_from (before ++ (r ∷ [])) rows))
     where
       go : (b : Bool) → (found_row (before ++ (r ∷ rows)) (first_from (is_class_at a) (suc (length before)) rows)).size ≡ size_at rows a
-          → (found_row (before ++ (r ∷ rows)) (cond b (At (length before)) (first_from (is_class_at a) (suc (length before)) rows))).size ≡ cond b r.size (size_at rows a)
+          → (found_row (before ++ (r ∷ rows)) (cond b (Some (length before)) (first_from (is_class_at a) (suc (length before)) rows))).size ≡ cond b r.size (size_at rows a)
       go true h = ap (λ (x : Row). x.size) (nth_after before r rows)
       go false h = h
 
@@ -50,7 +49,7 @@ module _ (a : ℕ) where
   not_found_from i (r ∷ rows) = go (is_class_at a r) (not_found_from (suc i) rows)
     where
       go : (b : Bool) → is_not_found (first_from (is_class_at a) (suc i) rows) ≡ not (known rows a)
-          → is_not_found (cond b (At i) (first_from (is_class_at a) (suc i) rows)) ≡ not (b || known rows a)
+          → is_not_found (cond b (Some i) (first_from (is_class_at a) (suc i) rows)) ≡ not (b || known rows a)
       go true h = refl
       go false h = h
 

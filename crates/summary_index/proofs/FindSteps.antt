@@ -1,60 +1,44 @@
--- The search for a key, bucket by bucket, as the loop goes.
+-- The search for a key, bucket by bucket, as the loop of `find` goes.
 -- Assumes nothing.
-use mathlib.Core.Path.{◌≡◌, refl, sym, ◌∙◌}
-use mathlib.Core.Bool.{Bool, true, false, cond}
-use mathlib.Core.List.{List}
-use Prim.Native.Nat.{ℕ, suc, ◌+◌, ◌-◌, ◌/◌, ◌≤◌, ◌<◌}
-use native.Mathlib.Omega.{arith}
-use lib.Dec.{eqb}
-use borrow.Author.Tests.{eq-eqb, ne_eqb, eqb-true, eqb-false}
-use Rattle.table.specs.declared.Search.TheVariants.{At, NotFound}
-use Rattle.summaries.specs.Summaries.{Key}
-use Rattle.summary_index.specs.SummaryIndex.{first_bucket, word_at, slot_at, bucket_has, find_from, find}
+use Rattle.std.proofs.Common.{◌≡◌, ℕ, suc, ◌+◌, ◌-◌, ◌≤◌, ◌<◌, List, sym, ◌∙◌, arith}
+use Rattle.std.specs.Prelude.{Some, None}
+use Rattle.summaries.specs.declared.Key.{Key}
+use Rattle.summaries.specs.SummaryKeys.{same_self}
+use Rattle.summaries.specs.EntrySteps.{numbers, numbers_differ}
+use Rattle.summary_index.specs.declared.Bucket.{Bucket}
+use Rattle.summary_index.specs.SummaryIndex.{first_bucket, bucket_key, bucket_at, search_step, find_from, find}
 
-module _ (buckets : List ℕ) (k : Key) where
-  -- The invariant: the search in the buckets that are left gives the result.
+module _ (buckets : List Bucket) (k : Key) where
+  -- The search in the buckets that are left gives the result.
   pub record FindLeft (at : ℕ) : Type 0 where
-    pub same : find_from buckets k at (first_bucket k.class + 64 - at) ≡ find buckets k
+    pub same : find_from buckets (numbers k) at (first_bucket (numbers k) + 64 - at) ≡ find buckets (numbers k)
 
-  pub find_start : (at : ℕ) → at ≡ first_bucket k.class → FindLeft at
+  pub find_start : (at : ℕ) → at ≡ first_bucket (numbers k) → FindLeft at
   unfolding find
-  find_start at e = record { same = let n : first_bucket k.class + 64 - first_bucket k.class ≡ 64 = omega arith in rw (e, n) }
+  find_start at e = record { same = let n : first_bucket (numbers k) + 64 - first_bucket (numbers k) ≡ 64 = omega arith in rw (e, n) }
 
   module _ (at : ℕ) (s : FindLeft at) where
-    pub find_end : first_bucket k.class + 64 ≤ at → NotFound ≡ find buckets k
+    pub find_end : first_bucket (numbers k) + 64 ≤ at → None ≡ find buckets (numbers k)
     unfolding find_from
-    find_end l = let n : first_bucket k.class + 64 - at ≡ 0 = omega arith in rw n at s.same
+    find_end l = let n : first_bucket (numbers k) + 64 - at ≡ 0 = omega arith in rw n at s.same
 
-    module _ (l : at < first_bucket k.class + 64) (slot : ℕ) (is_slot : slot ≡ slot_at buckets at) where
-      find_step : find buckets k ≡ cond (eqb slot 0) NotFound (cond (bucket_has (word_at buckets at) slot k) (At ((slot - 1) / 2)) (find_from buckets k (at + 1) (first_bucket k.class + 64 - (at + 1))))
+    module _ (l : at < first_bucket (numbers k) + 64) where
+      step : find buckets (numbers k)
+          ≡ search_step (numbers k) (bucket_key (bucket_at buckets at)) (bucket_at buckets at).entry (find_from buckets (numbers k) (at + 1) (first_bucket (numbers k) + 64 - (at + 1)))
       unfolding find_from
-      find_step =
-          let e : first_bucket k.class + 64 - at ≡ suc (first_bucket k.class + 64 - (at + 1)) = omega arith in
-          rw is_slot (sym s.same ∙ rw e)
+      step =
+          let e : first_bucket (numbers k) + 64 - at ≡ suc (first_bucket (numbers k) + 64 - (at + 1)) = omega arith in
+          sym s.same ∙ rw e
 
       -- An empty bucket ends the search.
-      pub find_empty : slot ≡ 0 → NotFound ≡ find buckets k
-      find_empty e = rw (find_step, eq-eqb slot 0 e)
+      pub find_empty : bucket_key (bucket_at buckets at) ≡ None → None ≡ find buckets (numbers k)
+      find_empty e = rw (step, e)
 
-      module _ (full : slot ≡ 0 → ⊥) (word : ℕ) (is_word : word ≡ word_at buckets at) (test : Bool) (is : test ≡ bucket_has word slot k) where
+      module _ (j : Key) (is : bucket_key (bucket_at buckets at) ≡ Some j) where
         -- A bucket that has the key ends it too.
-        pub find_hit : test ≡ true → At ((slot - 1) / 2) ≡ find buckets k
-        find_hit t = rw (find_step, ne_eqb slot 0 full, ← is_word, ← is, t)
+        pub find_hit : j ≡ k → Some (bucket_at buckets at).entry ≡ find buckets (numbers k)
+        find_hit e = rw (step, is, e, same_self (numbers k))
 
         -- Any other bucket is passed over.
-        pub find_next : test ≡ false → FindLeft (at + 1)
-        find_next t = record { same = rw (find_step, ne_eqb slot 0 full, ← is_word, ← is, t) }
-
--- Until a key is entered: the buckets are as they were, and those before `at`, from the first one on, are not empty.
-pub record NotEntered (first : ℕ) (buckets₀ buckets : List ℕ) (at : ℕ) : Type 0 where
-  pub same : buckets ≡ buckets₀
-  pub from : first ≤ at
-  pub full : (d : ℕ) → first ≤ d → d < at → 0 < slot_at buckets₀ d
-
--- One more bucket that is not empty.
-pub next_full : {first : ℕ} {buckets₀ buckets : List ℕ} (at : ℕ) → NotEntered first buckets₀ buckets at → (slot_at buckets₀ at ≡ 0 → ⊥) → (d : ℕ) → first ≤ d → d < at + 1 → 0 < slot_at buckets₀ d
-next_full {buckets₀ = buckets₀} at w e d x y = go (eqb d at) refl
-  where
-    go : (b : Bool) → eqb d at ≡ b → 0 < slot_at buckets₀ d
-    go true q = let s : slot_at buckets₀ at ≡ 0 → ⊥ = e in rw (eqb-true d at q) (omega arith)
-    go false q = let n : d ≡ at → ⊥ = eqb-false d at q in w.full d x (omega arith)
+        pub find_next : (j ≡ k → ⊥) → FindLeft (at + 1)
+        find_next n = record { same = rw (step, is, numbers_differ j k n) }

@@ -1,101 +1,119 @@
-// The summary index: a hash table of the keys of class summaries, in memory that the caller passes, all zeros at the start. It leads from
-// a key to the index of its entry. A bucket is two numbers, a class word or primitive type, and a slot number: 0 if the bucket is
-// empty, else twice the index of the entry plus the key's mark plus one.
+// The summary index: a hash table of the keys of class summaries, in memory that the caller passes, all of it empty at the start. It leads
+// from a key to the index of its entry.
 // Nothing is believed of the hash. A key that finds no empty bucket is left out; then the index is not complete, which is reported.
 // Defined in specs/SummaryIndex.antt.
 #![tactic(auto)]
 
-ghost use Rattle.std.specs.Prelude.{◌≡◌, ◌+◌, ◌-◌, ◌*◌, ◌/◌, ◌^◌, ◌<◌, length, get_or};
-ghost use Rattle.summary_index.specs.SummaryIndex.{make_key, bucket_has, first_bucket, find};
+ghost use Rattle.std.specs.Prelude.{◌≡◌, ◌^◌, ◌<◌};
+ghost use Rattle.summaries.specs.EntrySteps.{numbers};
+ghost use Rattle.summary_index.specs.SummaryIndex.{first_bucket, bucket_key, bucket_of, bucket_at, find};
 ghost use Rattle.summary_index.specs.EnterKey.{EntersKey};
 
-use table::Search;
+use summaries::Key;
 
 // How many buckets a search looks at, at most.
 const PROBES: usize = 64;
 
-// How many numbers a summary index has: a search begins at one of 32,768 buckets, and after the last of them are those that a search
-// from it looks at.
-pub const LEN: usize = 0x1_0000 + 2 * PROBES;
+// How many buckets a summary index has: a search begins at one of 32,768, and after the last of them are those that a search from it
+// looks at.
+pub const LEN: usize = 0x8000 + PROBES;
 
-// Returns the bucket at which the search for a class word or primitive type begins.
-fn first_bucket(class: u64) -> usize
-    ensures { (result ≡ first_bucket class) × (result < 0x8000) }
-{
-    (address_hash::hash(class) / 0x2_0000) as usize
+// What a bucket is of: of nothing, it is empty; of a class word; of a primitive type.
+#[derive(Clone, Copy, Debug, PartialEq, Eq)]
+pub enum Of {
+    Nothing,
+    Class,
+    Primitive,
 }
 
-// Returns number i of the index; 0 after its end.
-fn number_at(buckets: &[u64], i: usize) -> u64
-    ensures { result ≡ get_or buckets.now i 0 }
-{
-    if i < buckets.len() {
-        return buckets[i];
+// A bucket: a key, and the index of its entry. The key lies in two fields, so that a bucket has 16 bytes: as an `Option<Key>` it would
+// take more stack than include/phd.h states for `phd_read`.
+#[derive(Clone, Copy, Debug)]
+pub struct Bucket {
+    pub class: u64,
+    pub entry: u32,
+    pub of: Of,
+}
+
+impl Bucket {
+    pub const EMPTY: Bucket = Bucket {
+        class: 0,
+        entry: 0,
+        of: Of::Nothing,
+    };
+
+    // Returns the bucket of a key with its entry.
+    fn new(key: Key, entry: u32) -> Bucket
+        ensures { result ≡ bucket_of key entry }
+    {
+        match key {
+            Key::Class(class) => Bucket {
+                class,
+                entry,
+                of: Of::Class,
+            },
+            Key::Primitive(prim) => Bucket {
+                class: prim,
+                entry,
+                of: Of::Primitive,
+            },
+        }
     }
-    0
+
+    // Returns the key of a bucket, if it is not empty.
+    fn key(self) -> Option<Key>
+        ensures { result ≡ bucket_key self }
+    {
+        match self.of {
+            Of::Nothing => None,
+            Of::Class => Some(Key::Class(self.class)),
+            Of::Primitive => Some(Key::Primitive(self.class)),
+        }
+    }
+
+    // Returns the index of the entry.
+    fn entry(self) -> usize
+        ensures { result ≡ self.entry }
+    {
+        self.entry as usize
+    }
 }
 
-// Returns the index of the entry that a slot leads to.
-fn entry_of(slot: u64) -> usize
-    requires { 0 < slot }
-    ensures { result ≡ (slot - 1) / 2 }
+// Returns the bucket at which the search for a key begins.
+#[tactic(auto, unfolding(crate::specs::SummaryIndex::first_bucket))]
+fn first_bucket(key: Key) -> usize
+    ensures { (result ≡ first_bucket (numbers key)) × (result < 0x8000) }
 {
-    ((slot - 1) / 2) as usize
-}
-
-// Checks whether a bucket that is not empty has this key.
-fn has_key(word: u64, slot: u64, class: u64, mark: u64) -> bool
-    requires { 0 < slot }
-    ensures { result ≡ bucket_has word slot (make_key class mark) }
-{
-    (word == class) & ((slot - 1) % 2 == mark)
+    (address_hash::hash(key.class()) / 0x2_0000) as usize
 }
 
 // Returns the index of the entry of a key, whatever the buckets hold.
-pub fn find(buckets: &[u64], class: u64, mark: u64) -> Search
-    ensures { result ≡ find buckets.now (make_key class mark) }
+pub fn find(buckets: &[Bucket], key: Key) -> Option<usize>
+    ensures { result ≡ find buckets.now (numbers key) }
 {
-    let mut at = first_bucket(class);
-    let end = at + PROBES;
-    while at < end {
-        let slot = number_at(buckets, 2 * at + 1);
-        if slot == 0 {
-            return Search::NotFound;
+    let first = first_bucket(key);
+    for at in first..first + PROBES {
+        let bucket = *buckets.get(at)?;
+        if bucket.key()? == key {
+            return Some(bucket.entry());
         }
-        let word = number_at(buckets, 2 * at);
-        if has_key(word, slot, class, mark) {
-            return Search::At(entry_of(slot));
-        }
-        at += 1;
     }
-    Search::NotFound
+    None
 }
 
-// Returns the slot of entry i with this mark.
-fn slot_of(i: usize, mark: u64) -> u64
-    requires { (i < 2 ^ 62) × (mark < 2) }
-    ensures { result ≡ 2 * i + mark + 1 }
+// Enters the key of an entry in the first empty bucket of those that its search looks at. Returns whether there was one.
+pub fn enter(buckets: &mut [Bucket], key: Key, entry: u32) -> bool
+    ensures { EntersKey (numbers key) entry buckets.old buckets.new result }
 {
-    2 * (i as u64) + mark + 1
-}
-
-// Enters the key of entry i in the first empty bucket of those that its search looks at. Returns whether there was one.
-pub fn enter(buckets: &mut [u64], class: u64, mark: u64, i: usize) -> bool
-    requires { (i < 2 ^ 62) × (mark < 2) }
-    ensures { EntersKey (make_key class mark) i buckets.old buckets.new result }
-{
-    let mut at = first_bucket(class);
-    let end = at + PROBES;
-    while at < end {
-        if buckets.len() <= 2 * at + 1 {
+    let first = first_bucket(key);
+    for at in first..first + PROBES {
+        if buckets.len() <= at {
             return false;
         }
-        if buckets[2 * at + 1] == 0 {
-            buckets[2 * at] = class;
-            buckets[2 * at + 1] = slot_of(i, mark);
+        if buckets[at].key().is_none() {
+            buckets[at] = Bucket::new(key, entry);
             return true;
         }
-        at += 1;
     }
     false
 }

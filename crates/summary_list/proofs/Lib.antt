@@ -1,2 +1,2 @@
--- EntrySearch is the search of `change_entry`.
+-- EntrySearch is the search of `find_entry`.
 pub mod EntrySearch

@@ -1,14 +1,12 @@
 -- The search of specs/Search.antt finds the first row that satisfies a property; the row found, of a list with one row more at its
 -- start; and the steps of a search loop.
-use Rattle.std.specs.Prelude.{◌≡◌, ◌↔◌, ℕ, zero, suc, ◌+◌, ◌≤◌, ◌<◌, Bool, true, false, cond, length}
+use Rattle.std.specs.Prelude.{◌≡◌, ◌↔◌, ℕ, zero, suc, ◌+◌, ◌≤◌, ◌<◌, Bool, true, false, cond, length, Option, Some, None}
 use Rattle.std.proofs.Math.Path.{refl}
 use Rattle.std.proofs.Common.{lt_of_not-le, add-one, arith}
 use mathlib.Core.List.{List, [], ◌∷◌}
 use Rattle.table.specs.Table.{row_count}
 use Rattle.table.specs.Rows.{row_at, rows_of, nth, rows_left, rows_left_next, length_rows, nth_row}
 use Rattle.table.specs.declared.Row.{Row}
-use Rattle.table.specs.declared.Search.{Search}
-use Rattle.table.specs.declared.Search.TheVariants.{At, NotFound}
 use Rattle.table.specs.Search.{first_from, first_row, found_row, IsFirst, NoneSatisfies, SearchInvariant}
 
 -- ---- correctness of the search
@@ -19,18 +17,18 @@ module _ (P : Row → Type 0) (test : Row → Bool) (is : (r : Row) → (test r 
   fails r e p = let t = (is r).1 p in let z : ◌≡◌ {A = ℕ} 0 1 = cc in omega arith
 
   -- What a search result means, for rows whose indices begin with i.
-  abbrev SearchMeans : ℕ → List Row → Search → Type 0
-  SearchMeans i rows (At k) = (i ≤ k) × ((j : ℕ) → i + j ≡ k → IsFirst P rows j)
-  SearchMeans i rows NotFound = NoneSatisfies P rows
+  abbrev SearchMeans : ℕ → List Row → Option ℕ → Type 0
+  SearchMeans i rows (Some k) = (i ≤ k) × ((j : ℕ) → i + j ≡ k → IsFirst P rows j)
+  SearchMeans i rows None = NoneSatisfies P rows
 
   -- If f is the right result for some rows, the search with a row r before them gives the right result.
-  search_means_cons : (i : ℕ) (r : Row) (rows : List Row) (b : Bool) → test r ≡ b → (f : Search) → SearchMeans (suc i) rows f → SearchMeans i (r ∷ rows) (cond b (At i) f)
+  search_means_cons : (i : ℕ) (r : Row) (rows : List Row) (b : Bool) → test r ≡ b → (f : Option ℕ) → SearchMeans (suc i) rows f → SearchMeans i (r ∷ rows) (cond b (Some i) f)
   search_means_cons i r rows true e f s = (omega arith, λ j q. at_first j (omega arith))
     where
       at_first : (j : ℕ) → j ≡ 0 → IsFirst P (r ∷ rows) j
       at_first zero q = record { inside = omega arith; holds = (is r).0 e; before = λ k l. absurd (omega arith) }
       at_first (suc j) q = absurd (omega arith)
-  search_means_cons i r rows false e (At k) s = (omega (arith, s.0), at)
+  search_means_cons i r rows false e (Some k) s = (omega (arith, s.0), at)
     where
       at : (j : ℕ) → i + j ≡ k → IsFirst P (r ∷ rows) j
       at zero q = absurd (omega (arith, s.0))
@@ -41,7 +39,7 @@ module _ (P : Row → Type 0) (test : Row → Bool) (is : (r : Row) → (test r 
           before : ((k : ℕ) → k < j → P (nth rows k) → ⊥) → (k : ℕ) → k < suc j → P (nth (r ∷ rows) k) → ⊥
           before b zero l = fails r e
           before b (suc k) l = b k (omega arith)
-  search_means_cons i r rows false e NotFound s = none
+  search_means_cons i r rows false e None s = none
     where
       none : NoneSatisfies P (r ∷ rows)
       none zero l = fails r e
@@ -61,31 +59,31 @@ module _ (P : Row → Type 0) (test : Row → Bool) (is : (r : Row) → (test r 
       omega arith
 
   -- A right result is `At i` exactly if row i is the first, and `NotFound` exactly if there is none.
-  search_means_iff : (rows : List Row) (f : Search) → SearchMeans 0 rows f → ((i : ℕ) → (f ≡ At i) ↔ IsFirst P rows i) × ((f ≡ NotFound) ↔ NoneSatisfies P rows)
-  search_means_iff rows (At k) s =
+  search_means_iff : (rows : List Row) (f : Option ℕ) → SearchMeans 0 rows f → ((i : ℕ) → (f ≡ Some i) ↔ IsFirst P rows i) × ((f ≡ None) ↔ NoneSatisfies P rows)
+  search_means_iff rows (Some k) s =
       let a : IsFirst P rows k = s.1 k (omega arith) in (
         λ i. (λ e. let q : k ≡ i = cc in rw q at a, λ b. let q : k ≡ i = first_unique rows k i a b in rw q),
         (λ e. let z : ◌≡◌ {A = ℕ} 0 1 = cc in absurd (omega arith), λ n. absurd (n k a.inside a.holds)),
       )
-  search_means_iff rows NotFound s = (
+  search_means_iff rows None s = (
     λ i. (λ e. let z : ◌≡◌ {A = ℕ} 0 1 = cc in absurd (omega arith), λ b. absurd (s i b.inside b.holds)),
     (λ _. s, λ _. refl),
   )
 
   -- The search finds row i exactly if row i is the first that satisfies P.
-  pub first_row_at : (rows : List Row) (i : ℕ) → (first_row test rows ≡ At i) ↔ IsFirst P rows i
+  pub first_row_at : (rows : List Row) (i : ℕ) → (first_row test rows ≡ Some i) ↔ IsFirst P rows i
   first_row_at rows = (search_means_iff rows (first_row test rows) (search_means rows 0)).0
 
   -- It finds none exactly if no row satisfies P.
-  pub first_row_none : (rows : List Row) → (first_row test rows ≡ NotFound) ↔ NoneSatisfies P rows
+  pub first_row_none : (rows : List Row) → (first_row test rows ≡ None) ↔ NoneSatisfies P rows
   first_row_none rows = (search_means_iff rows (first_row test rows) (search_means rows 0)).1
 
 -- The index that was found is in bounds.
-pub found_in_bounds : (test : Row → Bool) (rows : List Row) (i : ℕ) → first_row test rows ≡ At i → i < length rows
+pub found_in_bounds : (test : Row → Bool) (rows : List Row) (i : ℕ) → first_row test rows ≡ Some i → i < length rows
 found_in_bounds test rows i e = ((first_row_at (λ r. test r ≡ true) test (λ r. (λ t. t, λ t. t)) rows i).0 e).inside
 
 -- If a search over the rows of a table finds index i, then i is in bounds, and the row found is row i of the table.
-module _ (test : Row → Bool) (table : List ℕ) (i : ℕ) (e : first_row test (rows_of table) ≡ At i) where
+module _ (test : Row → Bool) (table : List ℕ) (i : ℕ) (e : first_row test (rows_of table) ≡ Some i) where
   pub found_in_table : i < row_count table
   found_in_table = rw (length_rows table) at (found_in_bounds test (rows_of table) i e)
 
@@ -96,9 +94,9 @@ module _ (test : Row → Bool) (table : List ℕ) (i : ℕ) (e : first_row test 
 -- ---- the row found, of a list with one row more at its start
 
 -- A result among rows, as a result among the same rows after another one.
-abbrev later : Search → Search
-later (At i) = At (suc i)
-later NotFound = NotFound
+abbrev later : Option ℕ → Option ℕ
+later (Some i) = Some (suc i)
+later None = None
 
 first_from_suc : (test : Row → Bool) (i : ℕ) (rows : List Row) → first_from test (suc i) rows ≡ later (first_from test i rows)
 unfolding first_from
@@ -106,16 +104,16 @@ first_from_suc test i [] = refl
 first_from_suc test i (r ∷ rows) = by (test r) (first_from_suc test (suc i) rows)
   where
     by : (b : Bool) → first_from test (suc (suc i)) rows ≡ later (first_from test (suc i) rows)
-        → cond b (At (suc i)) (first_from test (suc (suc i)) rows) ≡ later (cond b (At i) (first_from test (suc i) rows))
+        → cond b (Some (suc i)) (first_from test (suc (suc i)) rows) ≡ later (cond b (Some i) (first_from test (suc i) rows))
     by true e = refl
     by false e = e
 
-found_later : (r : Row) (rows : List Row) (f : Search) → found_row (r ∷ rows) (later f) ≡ found_row rows f
+found_later : (r : Row) (rows : List Row) (f : Option ℕ) → found_row (r ∷ rows) (later f) ≡ found_row rows f
 unfolding found_row
-found_later r rows (At i) = refl
-found_later r rows NotFound = refl
+found_later r rows (Some i) = refl
+found_later r rows None = refl
 
-found_head : (r : Row) (rows : List Row) → found_row (r ∷ rows) (At 0) ≡ r
+found_head : (r : Row) (rows : List Row) → found_row (r ∷ rows) (Some 0) ≡ r
 unfolding found_row
 found_head r rows = refl
 
@@ -125,7 +123,7 @@ pub found_row_cons : (test : Row → Bool) (r : Row) (rows : List Row) → found
 unfolding first_from
 found_row_cons test r rows = by (test r)
   where
-    by : (b : Bool) → found_row (r ∷ rows) (cond b (At 0) (first_from test 1 rows)) ≡ cond b r (found_row rows (first_row test rows))
+    by : (b : Bool) → found_row (r ∷ rows) (cond b (Some 0) (first_from test 1 rows)) ≡ cond b r (found_row rows (first_row test rows))
     by true = found_head r rows
     by false = rw (first_from_suc test 0 rows) (found_later r rows (first_row test rows))
 
@@ -133,12 +131,12 @@ found_row_cons test r rows = by (test r)
 
 module _ (test : Row → Bool) (table : List ℕ) (i : ℕ) where
   -- The search from index i on finds row i if it passes, else what the search from the next index on finds.
-  row_step : i < row_count table → first_from test i (rows_left table i) ≡ cond (test (row_at table i)) (At i) (first_from test (i + 1) (rows_left table (i + 1)))
+  row_step : i < row_count table → first_from test i (rows_left table i) ≡ cond (test (row_at table i)) (Some i) (first_from test (i + 1) (rows_left table (i + 1)))
   unfolding first_from
   row_step l = rw (rows_left_next table i l, add-one)
 
   -- If row i passes the test, the search over all rows finds it.
-  pub search_found : (r : Row) → SearchInvariant test table i → i < row_count table → r ≡ row_at table i → test r ≡ true → At i ≡ first_row test (rows_of table)
+  pub search_found : (r : Row) → SearchInvariant test table i → i < row_count table → r ≡ row_at table i → test r ≡ true → Some i ≡ first_row test (rows_of table)
   search_found r s l e t = cc (row_step l, s.1)
 
   -- If row i fails the test, the invariant holds for the next index.

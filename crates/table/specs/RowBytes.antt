@@ -1,14 +1,12 @@
 -- Class rows by address, and the bytes of a row, which depend on the class row of an object (docs/FORMAT.md 7.2 and 7.3). The text and
 -- the class summaries use these definitions.
 -- A reader must believe them and the record `ClassRow`.
-use Rattle.std.specs.Prelude.{◌≡◌, ◌↔◌, ℕ, ◌*◌, Bool, true, false, cond, ◌&&◌, List, eqb}
+use Rattle.std.specs.Prelude.{◌≡◌, ◌↔◌, ℕ, ◌*◌, Bool, true, false, cond, ◌&&◌, List, eqb, Option, Some, None}
 use Rattle.std.proofs.Common.{eqb-true, eq-eqb}
 use Rattle.decode.specs.Values.{and_left, and_right}
 use Rattle.table.specs.Rows.{zero_row, is_kind}
 use Rattle.table.specs.Search.{first_row, found_row}
 use Rattle.table.specs.declared.Row.{Row}
-use Rattle.table.specs.declared.Search.{Search}
-use Rattle.table.specs.declared.Search.TheVariants.{At, NotFound}
 
 -- Whether a row is a class row with the address a.
 unfoldable pub is_class_at : ℕ → Row → Bool
@@ -28,13 +26,13 @@ is_class_at_iff a r = (
 )
 
 -- The first class row with the address a.
-abbrev pub class_at : List Row → ℕ → Search
+abbrev pub class_at : List Row → ℕ → Option ℕ
 class_at rows a = first_row (is_class_at a) rows
 
 -- Whether a search found no row.
-abbrev pub is_not_found : Search → Bool
-is_not_found (At i) = false
-is_not_found NotFound = true
+abbrev pub is_not_found : Option ℕ → Bool
+is_not_found (Some i) = false
+is_not_found None = true
 
 -- The class row whose name is part of a row's type: of a class, the row itself; of an object or object array, its class. A row of
 -- zeros if there is none, as for a primitive array.

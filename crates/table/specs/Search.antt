@@ -1,29 +1,27 @@
 -- The first row that satisfies a property: the search for it by a test, and the invariant of a loop that searches. Theorems:
 -- proofs/SearchLaws.antt, as that the search finds it.
 -- A reader must believe `first_from` and the record `IsFirst`.
-use Rattle.std.specs.Prelude.{◌≡◌, ℕ, suc, ◌≤◌, ◌<◌, Bool, cond, length}
+use Rattle.std.specs.Prelude.{◌≡◌, ℕ, suc, ◌≤◌, ◌<◌, Bool, cond, length, Option, Some, None}
 use Rattle.std.proofs.Math.Path.{refl}
 use Rattle.std.proofs.Common.{arith}
 use mathlib.Core.List.{List, [], ◌∷◌}
 use Rattle.table.specs.Table.{row_count}
 use Rattle.table.specs.Rows.{zero_row, rows_of, nth, rows_left, rows_left_none}
 use Rattle.table.specs.declared.Row.{Row}
-use Rattle.table.specs.declared.Search.{Search}
-use Rattle.table.specs.declared.Search.TheVariants.{At, NotFound}
 
 -- The first row that passes a test, of rows whose indices begin with i.
-unfoldable pub first_from : (Row → Bool) → ℕ → List Row → Search
-first_from test i [] = NotFound
-first_from test i (r ∷ rows) = cond (test r) (At i) (first_from test (suc i) rows)
+unfoldable pub first_from : (Row → Bool) → ℕ → List Row → Option ℕ
+first_from test i [] = None
+first_from test i (r ∷ rows) = cond (test r) (Some i) (first_from test (suc i) rows)
 
 -- The first of all rows that passes a test.
-abbrev pub first_row : (Row → Bool) → List Row → Search
+abbrev pub first_row : (Row → Bool) → List Row → Option ℕ
 first_row test rows = first_from test 0 rows
 
 -- The row found; `zero_row` if none was.
-unfoldable pub found_row : List Row → Search → Row
-found_row rows (At i) = nth rows i
-found_row rows NotFound = zero_row
+unfoldable pub found_row : List Row → Option ℕ → Row
+found_row rows (Some i) = nth rows i
+found_row rows None = zero_row
 
 -- Row i is in bounds and satisfies P, and no row before it does.
 pub record IsFirst (P : Row → Type 0) (rows : List Row) (i : ℕ) : Type 0 where
@@ -47,6 +45,6 @@ search_start test table = (omega arith, refl)
 
 module _ (test : Row → Bool) (table : List ℕ) (i : ℕ) where
   -- If no rows are left, the search over all rows finds none.
-  pub search_done : SearchInvariant test table i → row_count table ≤ i → NotFound ≡ first_row test (rows_of table)
+  pub search_done : SearchInvariant test table i → row_count table ≤ i → None ≡ first_row test (rows_of table)
   unfolding first_from
   search_done s l = rw (rows_left_none table i l) at s.1

@@ -1,13 +1,11 @@
 -- A size query agrees with the write that follows it: it makes the same checks in the same order, except the check of the
 -- output's capacity. A reader must believe the record `QueryAgrees`. Assumes nothing.
-use Rattle.std.specs.Prelude.{◌≡◌, refl, ◌↔◌, ℕ, ◌≤◌, ◌<◌, Bool, true, false, ◌&&◌, List, length, leb}
+use Rattle.std.specs.Prelude.{◌≡◌, refl, ◌↔◌, ℕ, ◌≤◌, ◌<◌, Bool, true, false, ◌&&◌, List, length, leb, Option, Some, None}
 use Rattle.std.proofs.Common.{sym, arith, le-leb}
 use Rattle.std.proofs.Math.Path.{ap}
 use Rattle.std.proofs.Math.Decide.{dec_le}
 use Rattle.std.proofs.lemmas.Bool.{lt-leb}
 use Rattle.table.specs.CheckOrder.{WriteResult, refused, done, checked_write, checked_input, checked_input_refused}
-use Rattle.table.specs.declared.Search.{Search}
-use Rattle.table.specs.declared.Search.TheVariants.{At, NotFound}
 use Rattle.table.specs.declared.Answer.{Answer}
 
 -- The answer of a size query agrees with w, the result of writing the same rows to an output of `capacity` bytes.
@@ -62,40 +60,40 @@ capacity_agrees bytes capacity l = record {
 }
 
 -- For any checks: the write makes all checks of the query, and also checks the capacity of the output.
-pub query_agrees : (good : Bool) (bad class_missing : Search) (within : Bool) (bytes : List ℕ) (capacity : ℕ)
+pub query_agrees : (good : Bool) (bad class_missing : Option ℕ) (within : Bool) (bytes : List ℕ) (capacity : ℕ)
     → QueryAgrees (checked_write good bad class_missing within bytes).answer capacity (checked_write good bad class_missing (leb (length bytes) capacity && within) bytes)
 unfolding checked_write
 query_agrees false bad class_missing within bytes capacity = refused_agrees 15 0 capacity (λ z. omega arith)
-query_agrees true (At i) class_missing within bytes capacity = refused_agrees 16 i capacity (λ z. omega arith)
-query_agrees true NotFound (At i) within bytes capacity = refused_agrees 18 i capacity (λ z. omega arith)
-query_agrees true NotFound NotFound within bytes capacity = elim (dec_le (length bytes) capacity) [
+query_agrees true (Some i) class_missing within bytes capacity = refused_agrees 16 i capacity (λ z. omega arith)
+query_agrees true None (Some i) within bytes capacity = refused_agrees 18 i capacity (λ z. omega arith)
+query_agrees true None None within bytes capacity = elim (dec_le (length bytes) capacity) [
   | yes l ↦ rw (le-leb (length bytes) capacity l) (fitting within l)
   | no l ↦ rw (lt-leb (length bytes) capacity (omega arith)) (lacking within (omega arith))
 ]
   where
-    fitting : (b : Bool) → length bytes ≤ capacity → QueryAgrees (checked_write true NotFound NotFound b bytes).answer capacity (checked_write true NotFound NotFound b bytes)
+    fitting : (b : Bool) → length bytes ≤ capacity → QueryAgrees (checked_write true None None b bytes).answer capacity (checked_write true None None b bytes)
     fitting true l = done_agrees bytes capacity l
     fitting false l = refused_agrees 17 0 capacity (λ z. omega arith)
 
-    lacking : (b : Bool) → capacity < length bytes → QueryAgrees (checked_write true NotFound NotFound b bytes).answer capacity (refused 17 0)
+    lacking : (b : Bool) → capacity < length bytes → QueryAgrees (checked_write true None None b bytes).answer capacity (refused 17 0)
     lacking true l = capacity_agrees bytes capacity l
     lacking false l = refused_agrees 17 0 capacity (λ z. omega arith)
 
 -- ---- the answer of a size query
 
-module _ (good : Bool) (bad class_missing : Search) (within : Bool) (bytes : List ℕ) where
+module _ (good : Bool) (bad class_missing : Option ℕ) (within : Bool) (bytes : List ℕ) where
   -- If the first two checks refuse, their answer is the query's.
   pub query_refused : (w : Answer) → w ≡ checked_input good bad → (w.reply ≡ 0 → ⊥) → w ≡ (checked_write good bad class_missing within bytes).answer
   unfolding refused
   query_refused w e z = ap (λ (o : WriteResult). o.answer) (sym (checked_input_refused good bad class_missing within bytes w e z))
 
   -- If all checks pass, the answer is 0 with the number of bytes as the place.
-  pub query_size : good ≡ true → bad ≡ NotFound → class_missing ≡ NotFound → within ≡ true → record { reply = 0; place = length bytes } ≡ (checked_write good bad class_missing within bytes).answer
+  pub query_size : good ≡ true → bad ≡ None → class_missing ≡ None → within ≡ true → record { reply = 0; place = length bytes } ≡ (checked_write good bad class_missing within bytes).answer
   unfolding checked_write done
   query_size p q r s = rw (p, q, r, s)
 
   -- If the bytes exceed the size limit, the answer is 17 at place 0.
-  pub query_too_large : good ≡ true → bad ≡ NotFound → class_missing ≡ NotFound → within ≡ false → record { reply = 17; place = 0 } ≡ (checked_write good bad class_missing within bytes).answer
+  pub query_too_large : good ≡ true → bad ≡ None → class_missing ≡ None → within ≡ false → record { reply = 17; place = 0 } ≡ (checked_write good bad class_missing within bytes).answer
   unfolding checked_write refused
   query_too_large p q r s = rw (p, q, r, s)
 

@@ -7,103 +7,107 @@
 //     2    the references
 //
 // A flag is set if its number is not 0. If a number is changed twice, the last change counts.
-ghost use Rattle.std.specs.Prelude.{◌≤◌, ◌+◌, length};
-ghost use Rattle.io.specs.Counts.{IsPrefixLen};
-
-use decode::{NumberRead, StringSpan};
+use decode::StringSpan;
 use phd::Header;
 use phd_read::ReadAnswer;
-use samples_print::clamp_len;
+use samples_print::UndecodedBytes;
 
 // The number of bytes of a change.
 const CHANGE: usize = 24;
 
-// Returns where the changes begin: at the end of the file, if the dump was not read to its end tag.
-pub fn start(s: &[u8], r: ReadAnswer) -> usize
-    ensures { result ≤ length s.now }
-{
-    if r.reply != 0 {
-        return s.len();
-    }
-    clamp_len(r.place, s)
+// The tables that a change may be for.
+#[derive(Clone, Copy, Debug, PartialEq, Eq)]
+pub enum ChangedTable {
+    Header = 0,
+    Rows = 1,
+    Refs = 2,
 }
 
-// Returns the number at an offset of a file.
-fn number(s: &[u8], at: usize) -> u64
-    requires { at ≤ length s.now }
-{
-    match decode::field(s, at, 8) {
-        NumberRead::Is(n, _) => n,
-        NumberRead::Stops(_) => 0,
-    }
+// The indices in the header.
+#[derive(Clone, Copy, Debug, PartialEq, Eq)]
+pub enum HeaderIndex {
+    Bits = 0,
+    AllHashed = 1,
+    OpenJ9 = 2,
+    VmPresent = 3,
+    VmPlace = 4,
+    VmLen = 5,
+    PassedRows = 6,
+    PassedRefs = 7,
 }
 
-// Returns the new number, if the change at offset `at` is for this table and index, else the old one.
-fn apply_change(s: &[u8], at: usize, table: u64, index: u64, old: u64) -> u64
-    requires { at + 24 ≤ length s.now }
-{
-    if number(s, at) == table && number(s, at + 8) == index {
-        return number(s, at + 16);
-    }
-    old
+// A change: the table, the index in it, and the new number.
+#[derive(Clone, Copy)]
+struct Change {
+    table: u64,
+    index: u64,
+    number: u64,
 }
 
-// Returns a number after all changes from offset `from` on.
-fn apply_changes(s: &[u8], from: usize, table: u64, index: u64, old: u64) -> u64
-    requires { from ≤ length s.now }
-{
-    let mut x = old;
-    let mut at = from;
-    while CHANGE <= s.len() - at {
-        x = apply_change(s, at, table, index, x);
-        at += CHANGE;
-    }
-    x
-}
-
-// Returns a flag of the header after all changes.
-fn apply_to_flag(s: &[u8], from: usize, index: u64, old: bool) -> bool
-    requires { from ≤ length s.now }
-{
-    apply_changes(s, from, 0, index, old as u64) != 0
-}
-
-// Returns the header after all changes.
-pub fn apply_to_header(s: &[u8], from: usize, header: Header) -> Header
-    requires { from ≤ length s.now }
-{
-    let vm = header.vm;
-    Header {
-        bits: apply_changes(s, from, 0, 0, header.bits),
-        hashed: apply_to_flag(s, from, 1, header.hashed),
-        openj9: apply_to_flag(s, from, 2, header.openj9),
-        vm: StringSpan {
-            present: apply_to_flag(s, from, 3, vm.present),
-            place: apply_changes(s, from, 0, 4, vm.place as u64) as usize,
-            len: apply_changes(s, from, 0, 5, vm.len as u64) as usize,
-        },
+impl Change {
+    // Decodes a change.
+    fn decode(bytes: &[u8]) -> Change {
+        let mut bytes = UndecodedBytes(bytes);
+        Change {
+            table: bytes.number(),
+            index: bytes.number(),
+            number: bytes.number(),
+        }
     }
 }
 
-// Returns how many numbers of a table are passed to the text after all changes, at most the length of the table.
-pub fn passed_length(s: &[u8], from: usize, index: u64, old: usize, table: &[u64]) -> usize
-    requires { from ≤ length s.now }
-    ensures { IsPrefixLen result table.now }
-{
-    let n = apply_changes(s, from, 0, index, old as u64) as usize;
-    if table.len() < n {
-        return table.len();
-    }
-    n
-}
+// The changes of a file, not decoded.
+#[derive(Clone, Copy)]
+pub struct Changes<'a>(&'a [u8]);
 
-// Applies all changes to a table.
-pub fn apply_to_table(s: &[u8], from: usize, table: u64, numbers: &mut [u64])
-    requires { from ≤ length s.now }
-{
-    let mut i: usize = 0;
-    while i < numbers.len() {
-        numbers[i] = apply_changes(s, from, table, i as u64, numbers[i]);
-        i += 1;
+impl<'a> Changes<'a> {
+    // Returns the changes that a file has after its dump: none, if the dump was not read to its end tag.
+    pub fn after(file: &'a [u8], r: ReadAnswer) -> Changes<'a> {
+        if r.reply == 0 {
+            Changes(&file[r.place.min(file.len())..])
+        } else {
+            Changes(&[])
+        }
+    }
+
+    // Returns a number after all changes.
+    fn number(self, table: ChangedTable, index: u64, old: u64) -> u64 {
+        self.0
+            .chunks_exact(CHANGE)
+            .map(Change::decode)
+            .rfind(|c| c.table == table as u64 && c.index == index)
+            .map_or(old, |c| c.number)
+    }
+
+    // Returns a flag of the header after all changes.
+    fn flag(self, index: HeaderIndex, old: bool) -> bool {
+        self.number(ChangedTable::Header, index as u64, u64::from(old)) != 0
+    }
+
+    // Returns an offset or a length of the header after all changes.
+    pub fn size(self, index: HeaderIndex, old: usize) -> usize {
+        self.number(ChangedTable::Header, index as u64, old as u64) as usize
+    }
+
+    // Returns the header after all changes.
+    pub fn header(self, header: Header) -> Header {
+        let vm = header.vm;
+        Header {
+            bits: self.number(ChangedTable::Header, HeaderIndex::Bits as u64, header.bits),
+            hashed: self.flag(HeaderIndex::AllHashed, header.hashed),
+            openj9: self.flag(HeaderIndex::OpenJ9, header.openj9),
+            vm: StringSpan {
+                present: self.flag(HeaderIndex::VmPresent, vm.present),
+                place: self.size(HeaderIndex::VmPlace, vm.place),
+                len: self.size(HeaderIndex::VmLen, vm.len),
+            },
+        }
+    }
+
+    // Applies all changes to a table.
+    pub fn apply(self, table: ChangedTable, numbers: &mut [u64]) {
+        for (i, x) in numbers.iter_mut().enumerate() {
+            *x = self.number(table, i as u64, *x);
+        }
     }
 }

@@ -17,17 +17,12 @@
 
 mod tables;
 
-ghost use Rattle.std.specs.Prelude.{◌≤◌, ◌<◌, ◌≡◌, length};
-
-use phd::Header;
+use phd_check::Tables;
 use samples_print::{
-    is_unchanged, line_end, print_answer, print_failure, print_number, print_read, print_text,
-    print_unchanged, read_full, written_bytes,
+    AnswerText, Reading, UndecodedBytes, is_unchanged, print_files, unchanged_text, written_bytes,
 };
-use std::fs::File;
-use std::io::Read;
-use std::rt::Files;
-use std::{env, io};
+use std::{fmt, io};
+use tables::Head;
 
 // The number of bytes in a line.
 const LINE: usize = 32;
@@ -41,74 +36,40 @@ const BYTES: usize = 0x1_1000;
 // The value of every byte of the output before a writing.
 const UNTOUCHED: u8 = 0xA5;
 
-// Returns a buffer in which every byte is x.
-fn filled_buffer(x: u8) -> [u8; BYTES]
-    ensures { 0x11000 ≡ length result }
-{
-    [x; BYTES]
-}
+// Writes each byte after a space, as two hexadecimal digits.
+#[derive(Clone, Copy)]
+struct HexBytes<'a>(&'a [u8]);
 
-// Prints a space and a byte as two hexadecimal digits.
-fn print_byte(rt: &impl Print, x: u8) -> io::Result<()> {
-    print!(rt; " {x:02x}")
-}
-
-// Prints a line with the bytes from index `from` to before `end`.
-fn print_byte_line(rt: &impl Print, s: &[u8], from: usize, end: usize) -> io::Result<()>
-    requires { end ≤ length s.now }
-{
-    print_text(rt, b"bytes")?;
-    let mut i = from;
-    while i < end {
-        print_byte(rt, s[i])?;
-        i += 1;
-    }
-    print_text(rt, b"\n")
-}
-
-// Checks whether the line from index `at` to before `end` is a whole one and equal to the one before it.
-fn is_repeated_line(s: &[u8], at: usize, end: usize) -> bool
-    requires { (at < end) × (end ≤ length s.now) }
-{
-    if at < LINE {
-        return false;
-    }
-    if end - at < LINE {
-        return false;
-    }
-    let mut i = at;
-    while i < end {
-        if s[i] != s[i - LINE] {
-            return false;
+impl fmt::Display for HexBytes<'_> {
+    fn fmt<W: fmt::Write>(&self, f: &mut fmt::Formatter<W>) -> fmt::Result {
+        for x in self.0 {
+            write!(f, " {x:02x}")?;
         }
-        i += 1;
+        Ok(())
     }
-    true
 }
 
 // Prints how many lines are left out, if any.
 fn print_repeated(rt: &impl Print, n: usize) -> io::Result<()> {
     if 0 < n {
-        print_number(rt, b"repeated ", n as u64)?;
-        print_text(rt, b"\n")?;
+        println!(rt; "repeated {n}")?;
     }
     Ok(())
 }
 
-// Prints all bytes, in lines.
-fn print_bytes(rt: &impl Print, s: &[u8]) -> io::Result<()> {
-    let mut repeated: usize = 0;
-    let mut at: usize = 0;
-    while at < s.len() {
-        let next = line_end(at, LINE, s.len());
-        if is_repeated_line(s, at, next) {
+// Prints all bytes, in lines. Leaves out each line that is equal to the one before it.
+fn print_bytes(rt: &impl Print, bytes: &[u8]) -> io::Result<()> {
+    let mut last: &[u8] = &[];
+    let mut repeated = 0;
+    for line in bytes.chunks(LINE) {
+        if line == last {
             repeated += 1;
         } else {
             print_repeated(rt, repeated)?;
             repeated = 0;
-            print_byte_line(rt, s, at, next)?;
+            println!(rt; "bytes{}", HexBytes(line))?;
         }
-        at = next;
+        last = line;
     }
     print_repeated(rt, repeated)
 }
@@ -117,76 +78,46 @@ fn print_bytes(rt: &impl Print, s: &[u8]) -> io::Result<()> {
 fn print_read_back(rt: &impl Print, dump: &[u8]) -> io::Result<()> {
     let mut rows = [0; tables::ROWS];
     let mut refs = [0; tables::REFS];
-    let r = phd_read::read_tables(dump, &mut rows, &mut refs);
-    print_text(rt, b"read ")?;
-    print_read(rt, r, &rows, &refs)
+    let reading = Reading::of(dump, &mut rows, &mut refs);
+    print!(rt; "read {reading}")
 }
 
 // Prints the answer of a size query for tables, and the dump that is written to untouched output.
-fn print_dump_of(
-    rt: &impl Print,
-    header: Header,
-    rows: &[u64],
-    refs: &[u64],
-    names: &[u8],
-    out: &mut [u8],
-) -> io::Result<()> {
-    print_text(rt, b"size ")?;
-    print_answer(rt, phd_write::write_size(header, rows, refs, names))?;
-    print_text(rt, b"\n")?;
-    let answer = phd_write::write(header, rows, refs, names, out);
-    print_answer(rt, answer)?;
-    print_text(rt, b"\n")?;
-    let n = written_bytes(answer, out);
-    print_bytes(rt, &out[..n])?;
-    print_unchanged(rt, b"rest ", is_unchanged(out, n, UNTOUCHED))?;
-    if answer.reply == 0 {
-        print_read_back(rt, &out[..n])?;
+fn print_dump_of(rt: &impl Print, tables: Tables, out: &mut [u8]) -> io::Result<()> {
+    println!(rt; "size {}", AnswerText(phd_write::write_size(tables)))?;
+    let written = phd_write::write(tables, out);
+    println!(rt; "{}", AnswerText(written))?;
+    let (dump, rest) = out.split_at(written_bytes(written, out));
+    print_bytes(rt, dump)?;
+    println!(rt; "rest {}", unchanged_text(is_unchanged(rest, UNTOUCHED)))?;
+    if written.is_ok() {
+        print_read_back(rt, dump)?;
     }
     Ok(())
 }
 
 // Writes the tables of one file. The numbers and bytes after the references and the name bytes that are passed are valid, so a
 // writer that read too far would not be refused there.
-fn run_sample(rt: &impl Print, s: &[u8]) -> io::Result<()> {
+fn print_sample(rt: &impl Print, bytes: &[u8]) -> io::Result<()> {
+    let mut file = UndecodedBytes(bytes);
+    let head = Head::decode(&mut file);
     let mut rows = [0; tables::ROWS];
-    let n = tables::fill_numbers(s, 7, tables::HEAD, &mut rows);
     let mut refs = [4; tables::REFS];
-    let m = tables::fill_numbers(s, 8, tables::HEAD + n, &mut refs);
-    let mut names = filled_buffer(b'x');
-    let k = tables::fill_names(s, 9, 8 * (tables::HEAD + n + m), &mut names);
-    let mut out = filled_buffer(UNTOUCHED);
-    let capacity = tables::out_capacity(s, &out);
-    print_dump_of(
-        rt,
-        tables::header(s),
-        &rows[..n],
-        &refs[..m],
-        &names[..k],
-        &mut out[..capacity],
-    )
-}
-
-// Prints the name of a file and everything for its tables.
-fn run_file(rt: &impl Print, name: &str, mut file: impl Read + Drop) -> io::Result<()> {
-    let mut bytes = [0; FILE];
-    let n = read_full(&mut file, &mut bytes);
-    print_text(rt, name.as_bytes())?;
-    print_text(rt, b"\n")?;
-    run_sample(rt, &bytes[..n])
-}
-
-// Runs the file that an argument names, or tells why it cannot be opened.
-fn run_argument(rt: &(impl Files + Print + Eprint + Alloc), name: &str) -> io::Result<()> {
-    match File::open(rt, name) {
-        Ok(file) => run_file(rt, name, file),
-        Err(error) => print_failure(rt, name, error),
-    }
+    let mut names = [b'x'; BYTES];
+    let mut out = [UNTOUCHED; BYTES];
+    let rows = tables::fill(&mut rows, head.rows, || file.number());
+    let refs = tables::fill(&mut refs, head.refs, || file.number());
+    let names = tables::fill(&mut names, head.names, || file.byte_or(b'x'));
+    let capacity = head.capacity.min(BYTES);
+    let tables = Tables {
+        header: head.header,
+        rows,
+        refs,
+        names,
+    };
+    print_dump_of(rt, tables, &mut out[..capacity])
 }
 
 fn main(rt: HostRuntime) -> io::Result<()> {
-    for name in env::args(&rt)?.skip(1) {
-        run_argument(&rt, name.as_str())?;
-    }
-    Ok(())
+    print_files(&rt, &mut [0; FILE], |bytes| print_sample(&rt, bytes))
 }

@@ -9,7 +9,7 @@ use lib.Dec.{leb}
 use Rattle.decode.specs.Numbers.{sign_case, add_gap, in_range}
 use mir.Syntax.{w64}
 use mir.Facts.{to_z-of_z}
-use Rattle.decode.specs.declared.Maybe.TheVariants.{Nothing}
+use Rattle.std.specs.Prelude.{None}
 use Rattle.decode.proofs.DecodeLaws.{add_gap_nonneg, add_gap_negsuc}
 use Rattle.decode.proofs.add_gap.Statement.{statement}
 use Rattle.decode.proofs.add_gap.Tie as tie
@@ -21,7 +21,7 @@ module _ (c : tie.In-NonNeg) where
 
 module _ (c : tie.In-NegSuc) where
   down : let a = c.args in let n = c.in-NegSuc.n in
-      add_gap a.highest a.base a.gap ≡ cond (leb (4 * suc n) a.base) (in_range a.highest (a.base - 4 * suc n)) Nothing
+      add_gap a.highest a.base a.gap ≡ cond (leb (4 * suc n) a.base) (in_range a.highest (a.base - 4 * suc n)) None
   down = add_gap_negsuc _ _ _ _ (ap sign_case (sym (to_z-of_z {w = w64} c.ranges.gap)) ∙ sym c.sign_case_of.ensures ∙ c.in-NegSuc.is)
 
 sign_case_of-requires : tie.Need-sign_case_of-requires

@@ -10,7 +10,7 @@ use borrow.Author.Rules.{rules}
 use Rattle.decode.specs.Numbers.{all_within}
 use Rattle.table.specs.Rows.{row_at, refs_of, name_of, rows_of, rows_left}
 use Rattle.table.specs.Table.{row_count}
-use Rattle.table.specs.declared.Search.TheVariants.{At}
+use Rattle.std.specs.Prelude.{Some}
 use Rattle.phd_check.specs.GoodRows.{good_numbers, good_refs, good_row, first_bad_from, first_bad}
 use Rattle.phd_check.specs.WellFormed.{SpansInBounds, row_first, numbers_in_bounds}
 use Rattle.phd_check.proofs.CheckLaws.{all_true_false, good_refs_of, good_refs_false, good_refs_next, name_bytes_false, name_bytes_next, first_bad_here, first_bad_later, first_bad_end, good_row_by_parts, refs_of_slice, name_of_slice}
@@ -206,7 +206,7 @@ unfolding row_count
 returns-then-i-n c =
     let w = c.before.before in
     let a = (start w).args in
-    ap At (omega arith)
+    ap Some (omega arith)
     ∙ sym (first_bad_here a.header a.names.now a.refs.now a.rows.now w.rows.i w.rows.index (omega arith) (left_at c.before (omega arith)))
     ∙ w.rows.invariant.1
 

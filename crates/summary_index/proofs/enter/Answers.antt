@@ -1,11 +1,19 @@
-use Rattle.std.proofs.Common.{arith}
+-- The bucket is the first empty one, so the key is found there.
+use Rattle.std.proofs.Common.{◌≡◌, ℕ, false, refl, arith}
+use Rattle.std.specs.Prelude.{Option, Some, None}
+use Rattle.std.specs.Option.{is_some}
+use Rattle.summaries.specs.declared.Key.{Key}
 use Rattle.summary_index.specs.EnterKey.{key_entered}
 use Rattle.summary_index.proofs.enter.Goals as goal
 
-pub returns-then-buckets-at-eq0 : goal.returns-then-buckets-at-eq0
-returns-then-buckets-at-eq0 c =
-    let w = c.loop-at.invariant in
-    let f = c.first_bucket-at.ensures.0 in
-    let empty = rw w.same at c.if-buckets-at-eq0.true in
-    let inside = rw w.same at c.if-buckets-at.false in
-    rw (w.same, c.slot_of.ensures) (key_entered _ _ c.requires.1 _ _ empty inside w.from (omega arith) w.full)
+none_is : (o : Option Key) → is_some o ≡ false → o ≡ None
+none_is None e = refl
+none_is (Some j) e = absurd (let z : ◌≡◌ {A = ℕ} 0 1 = cc in omega arith)
+
+pub returns-then-is_none : goal.returns-then-is_none
+returns-then-is_none c =
+    let f = c.first_bucket-first.ensures.0 in
+    let e = none_is c.key.result c.if-is_none.ensures in
+    let empty = rw (c.key.ensures, c.loop-at.invariant.same) at e in
+    rw (c.loop-at.invariant.same, c.new.ensures)
+    (key_entered _ _ _ _ empty (rw (← c.loop-at.invariant.same) (omega arith)) (omega arith) (omega arith) (λ d l m. c.loop-at.invariant.full d (omega arith) m))

@@ -1,10 +1,7 @@
--- `print_bytes` is safe and terminates: each line has at least one byte, so the count of repeated lines is at most the offset.
--- Assumes nothing.
-use Rattle.std.proofs.Common.{length, ◌-◌, ◌≤◌}
+-- `print_bytes` is safe: the count of repeated lines and the lines left are together at most all lines. Assumes nothing.
+use Rattle.std.proofs.Common.{◌+◌, ◌≤◌}
 use Rattle.write_samples.proofs.print_bytes.Given as goal
 
-abbrev pub invariant-loop-at : goal.invariant-loop-at
-invariant-loop-at g l = l.repeated ≤ l.at
-
-abbrev pub decreases-loop-at : goal.decreases-loop-at
-decreases-loop-at g l = length l.s - l.at
+abbrev pub invariant-loop-line : goal.invariant-loop-line
+invariant-loop-line g l =
+    l.repeated + (goal.iterator-loop-line g).remaining l.line-iterator ≤ (goal.iterator-loop-line g).remaining l.initial.line-iterator

@@ -1,0 +1,8 @@
+-- The result is the conjunction of the tests.
+use Rattle.phd_check.specs.GoodRows.{good_object}
+use Rattle.phd_check.proofs.CheckLaws.{all_of_all_true}
+use Rattle.phd_check.proofs.numbers.object_good.Goals as goal
+
+pub returns : goal.returns
+unfolding good_object
+returns c = rw c.name_absent.ensures (all_of_all_true _ _)

@@ -1,0 +1,8 @@
+-- The result is the conjunction of the tests.
+use Rattle.phd_check.specs.GoodRows.{good_ref}
+use Rattle.phd_check.proofs.CheckLaws.{all_of_all_true}
+use Rattle.phd_check.proofs.numbers.ref_good.Goals as goal
+
+pub returns : goal.returns
+unfolding good_ref
+returns c = all_of_all_true _ _
