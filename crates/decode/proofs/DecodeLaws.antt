@@ -1,20 +1,21 @@
 -- Laws of big-endian digits, two's complement, signs and exact sums, in the form in which the functions compute them.
 use mathlib.Core.Path.{◌≡◌, refl, sym, ap, ◌∙◌}
-use mathlib.Core.Bool.{true, false, cond}
+use mathlib.Core.Bool.{true, false, cond, ◌&&◌}
 use mathlib.Core.List.{List}
 use Prim.Native.Nat.{ℕ, zero, suc, ◌+◌, ◌-◌, ◌*◌, ◌^◌, ◌≤◌, ◌<◌}
 use native.Mathlib.Nat.{pow-suc, pow-le-pow_right, mul-suc, two-pow-succ, zero-add}
 use native.Mathlib.Numerals.{add-one}
 use native.Mathlib.Omega.{arith}
-use lib.ListN.{length, drop, get_or}
+use lib.ListN.{length, take, drop, get_or}
 use lib.Seq.{drop-cons}
 use lib.Arith.{digits_lt}
 use lib.Pow.{pow-add}
 use lib.Dec.{leb, ltb}
 use lib.IntN.{ℤ, pos, negsuc, ◌-ℤ◌}
 use lib.Signed.{lt_z}
-use borrow.Author.Tests.{lt-ltb, le-ltb, ltb-true}
-use Rattle.decode.specs.Numbers.{value_after, signed, sign_case, add_gap, in_range, to_count}
+use borrow.Author.Tests.{lt-ltb, le-ltb, ltb-true, le-leb, lt-leb}
+use Rattle.decode.specs.Slices.{slice_next}
+use Rattle.decode.specs.Numbers.{value_after, signed, sign_case, add_gap, in_range, to_count, all_within}
 use Rattle.decode.specs.Values.{true_not_false}
 use Rattle.decode.specs.declared.SignCase.TheVariants.{NonNeg, NegSuc}
 use Rattle.std.specs.Prelude.{Some, None}
@@ -114,3 +115,25 @@ to_count_nonneg z n e = rw (sign_case_nonneg z n e)
 pub to_count_negsuc : (z : ℤ) (n : ℕ) → sign_case z ≡ NegSuc n → to_count z ≡ None
 unfolding to_count
 to_count_negsuc z n e = rw (sign_case_negsuc z n e)
+
+-- ---- bytes in a range
+
+module _ (s : List ℕ) (at n i low high : ℕ) (h : i < n) (in_bounds : at + n ≤ length s) where
+  -- The bytes from index i on are in range if byte i is, and those after it are.
+  all_within_step : all_within low high (take (n - i) (drop (at + i) s))
+      ≡ (leb low (get_or s (at + i) 0) && leb (get_or s (at + i) 0) high) && all_within low high (take (n - (i + 1)) (drop (at + (i + 1)) s))
+  unfolding all_within
+  all_within_step = rw (slice_next s at n i h in_bounds)
+
+  -- If byte i is below low, the bytes from index i on are not all in range.
+  pub all_within_too_low : get_or s (at + i) 0 < low → all_within low high (take (n - i) (drop (at + i) s)) ≡ false
+  all_within_too_low l = rw (all_within_step, lt-leb _ _ l)
+
+  -- If byte i is above high, the bytes from index i on are not all in range.
+  pub all_within_too_high : low ≤ get_or s (at + i) 0 → high < get_or s (at + i) 0 → all_within low high (take (n - i) (drop (at + i) s)) ≡ false
+  all_within_too_high k l = rw (all_within_step, le-leb _ _ k, lt-leb _ _ l)
+
+  -- If byte i is in range, the bytes after it decide.
+  pub all_within_next : low ≤ get_or s (at + i) 0 → get_or s (at + i) 0 ≤ high
+      → all_within low high (take (n - i) (drop (at + i) s)) ≡ all_within low high (take (n - (i + 1)) (drop (at + (i + 1)) s))
+  all_within_next k l = rw (all_within_step, le-leb _ _ k, le-leb _ _ l)

@@ -40,6 +40,10 @@ module _ {A B : Type 0} {l : Layout A} (f : A → Layout B) {d e : Decoder} wher
   pub reads_stop : {w : Stop} → Reads l d (Err w) e → Reads (l >>= f) d (Err w) e
   reads_stop p = record { same = p.same; value = rw (run_then, ← p.value) }
 
+-- Where reading stops, the decoder may be at any offset.
+pub reads_stop_at : {A : Type 0} {l : Layout A} {d e g : Decoder} {w : Stop} → Reads l d (Err w) e → g.bytes.now ≡ e.bytes.now → Reads l d (Err w) g
+reads_stop_at p h = record { same = h ∙ p.same; value = p.value }
+
 module _ {A : Type 0} where
   pub reads_yield : (a : A) (d : Decoder) → Reads (yield a) d (Ok a) d
   reads_yield a d = record { same = refl; value = sym (run_yield a d.bytes.now d.at) }

@@ -37,6 +37,10 @@ module _ {A B C : Type 0} {l : Layout A} (g : B → C) (f : A → Layout B) {d e
   reads_as_stop p = record { same = p.same; value = rw (run_then, ← p.value) }
 
 module _ {A B : Type 0} (g : A → B) where
+  -- Where reading stops, the decoder may be at any offset.
+  pub reads_as_stop_at : {l : Layout A} {d e h : Decoder} {w : Stop} → ReadsAs g l d (Err w) e → h.bytes.now ≡ e.bytes.now → ReadsAs g l d (Err w) h
+  reads_as_stop_at p q = record { same = q ∙ p.same; value = p.value }
+
   pub reads_as_yield : (a : A) (d : Decoder) → ReadsAs g (yield a) d (Ok (g a)) d
   reads_as_yield a d = record { same = refl; value = rw run_yield }
 

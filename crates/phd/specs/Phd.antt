@@ -95,7 +95,7 @@ empty_header = record { bits = 0; hashed = false; openj9 = false; vm = no_string
 -- ---- the class cache: four slots, filled in the order 0, 1, 2, 3, 0 .. (docs/FORMAT.md 3.5; scope paper's terms: cache, slot)
 
 -- The content of slot i after pushing the class words ws (the last one first): the last word whose push number, counted from 0,
--- is i modulo 4, or Nothing. The cache below agrees with it (`ClassCache.slot_push_all`), in every reading (phd_read,
+-- is i modulo 4, or `None`. The cache below agrees with it (`ClassCache.slot_push_all`), in every reading (phd_read,
 -- `ReadTheorems.slots_before_row`).
 unfoldable pub slot_after : List ℕ → ℕ → Option ℕ
 slot_after [] i = None
@@ -116,7 +116,7 @@ slot c i = cond (ltb i c.pushes) (Some (get_or c.classes i 0)) None
 
 -- ---- tags and flag bytes
 
--- The form that a tag begins (docs/FORMAT.md 3.1); `Other` for the end tag and for tags that are refused.
+-- The form that a tag begins (docs/FORMAT.md 3.1); `None` for the end tag and for tags that are refused.
 unfoldable pub tag_form : ℕ → Option Form
 tag_form t =
     cond (leb 0x80 t) (Some Short)

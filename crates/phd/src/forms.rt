@@ -1,5 +1,5 @@
 // Tags, flag bytes and shapes of records.
-ghost use Rattle.std.specs.Prelude.{◌≡◌, cond, ◌<◌, ◌≤◌};
+ghost use Rattle.std.specs.Prelude.{◌≡◌, cond, ◌<◌, ◌≤◌, OnErr};
 ghost use Rattle.decode.specs.Reads.{Reads};
 ghost use Rattle.phd.specs.Phd.{bit as bit_of, width, max_address, tag_form, slot_class, moved_bit, hashed_bit, flags_allowed, flag_byte, hash_kind, hash_bytes, shape, field_or};
 ghost use Rattle.phd.specs.Shapes.{ValidBits};
@@ -91,12 +91,16 @@ pub fn flags_allowed(header: Header, tag: u64, flags: u64) -> bool
     !(header.hashed && (is_moved(tag, flags) || is_hashed(tag, flags)))
 }
 
-// Decodes the flag byte, or returns 0 if the form has none. In an all-hashed dump a moved or hashed bit is refused with 11.
+// Decodes the flag byte, or returns 0 if the form has none. In an all-hashed dump a moved or hashed bit is refused with 11. A refusal
+// leaves the decoder's offset as it was.
 pub fn read_flag_byte(d: &mut Decoder, header: Header, tag: u64) -> Result<u64, Stop>
-    ensures { Reads (flag_byte header tag) d.old result d.new }
+    ensures reads { Reads (flag_byte header tag) d.old result d.new }
+    ensures kept { OnErr result (d.new.at ≡ d.old.at) }
 {
+    let at = d.at;
     let flags = d.field(usize::from(tag < 0x20))?;
     if !flags_allowed(header, tag, flags) {
+        d.at = at;
         return Err(Stop::Refused(11));
     }
     Ok(flags)

@@ -2,7 +2,7 @@
 // Each function reads the layout of its name in the definition of the format (crates/phd/specs/Phd.antt).
 #![tactic(auto)]
 
-ghost use Rattle.std.specs.Prelude.{◌≡◌};
+ghost use Rattle.std.specs.Prelude.{◌≡◌, OnErr};
 ghost use Rattle.decode.specs.Reads.{Reads};
 ghost use Rattle.phd.specs.Phd.{magic_bytes, preamble as preamble_of, after_vm, header_records, make_header, header};
 
@@ -12,12 +12,15 @@ use phd::Header;
 use phd::forms::bit;
 use phd::magic::is_magic;
 
-// Decodes the bytes of the opening string, after its length.
+// Decodes the bytes of the opening string, after its length. A refusal leaves the decoder's offset as it was.
 pub fn magic_bytes(d: &mut Decoder) -> Result<(), Stop>
-    ensures { Reads magic_bytes d.old result d.new }
+    ensures reads { Reads magic_bytes d.old result d.new }
+    ensures kept { OnErr result (d.new.at ≡ d.old.at) }
 {
+    let at = d.at;
     let text = d.raw(18)?;
     if !is_magic(text) {
+        d.at = at;
         return Err(Stop::Refused(3));
     }
     Ok(())
@@ -77,12 +80,27 @@ fn make_header(flags: u64, vm: StringSpan) -> Header
     }
 }
 
-// Decodes the whole header, up to the byte 2 that starts the body.
-pub fn read_header(d: &mut Decoder) -> Result<Header, Stop>
+// Decodes the preamble, the header records and the byte 2 that starts the body.
+fn whole_header(d: &mut Decoder) -> Result<Header, Stop>
     ensures { Reads header d.old result d.new }
 {
     let flags = preamble(d)?;
     let vm = header_records(d)?;
     d.exactly(1, 2, 6)?;
     Ok(make_header(flags, vm))
+}
+
+// Decodes the whole header, up to the byte 2 that starts the body. A refusal leaves the decoder's offset as it was.
+pub fn read_header(d: &mut Decoder) -> Result<Header, Stop>
+    ensures reads { Reads header d.old result d.new }
+    ensures kept { OnErr result (d.new.at ≡ d.old.at) }
+{
+    let at = d.at;
+    match whole_header(d) {
+        Ok(header) => Ok(header),
+        Err(stop) => {
+            d.at = at;
+            Err(stop)
+        }
+    }
 }

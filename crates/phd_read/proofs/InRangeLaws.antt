@@ -1,12 +1,14 @@
 -- If a record's address is so far from 0 and from the highest address that no reference can leave the range, all its references
 -- are valid, and each is its `target`.
 use mathlib.Core.Path.{◌≡◌, ap, ◌∙◌}
-use mathlib.Core.Bool.{true}
+use mathlib.Core.Bool.{Bool, true, ◌&&◌, and-eq-true_iff}
 use mathlib.Core.List.{List, ◌∷◌}
 use Prim.Native.Nat.{ℕ, zero, suc, ◌+◌, ◌-◌, ◌*◌, ◌≤◌, ◌<◌}
-use native.Mathlib.Nat.{suc-mul}
+use native.Mathlib.Nat.{suc-mul, mul-le-mul}
 use native.Mathlib.Omega.{arith}
+use lib.Dec.{leb, ltb}
 use lib.ListN.{length, take, drop}
+use borrow.Author.Tests.{leb-true, ltb-true}
 use Rattle.decode.specs.Numbers.{value}
 use Rattle.decode.specs.Layout.{Outcome, whole, stops, run}
 use Rattle.decode_fast.specs.RefsInRange.{refs_in_range, target}
@@ -14,6 +16,17 @@ use Rattle.phd.specs.Phd.{ref_list}
 use Rattle.phd.specs.RefList.{prepend, ref_list_none, ref_list_next}
 use Rattle.phd_read.specs.StoredRefs.{RefsAllRead, values_of, values_next}
 use Rattle.decode_fast.specs.RefsInRange.{run_ref_in_range}
+
+-- The tests of the fast path as inequalities.
+pub fast_path_tests : (w count : ℕ) (b : Bool) → leb 1 w && ltb count 0x10000000 && b ≡ true → (1 ≤ w) × (count < 0x10000000) × (b ≡ true)
+fast_path_tests w count b e =
+    let h = (and-eq-true_iff (leb 1 w && ltb count 0x10000000) b).0 e in
+    let l = (and-eq-true_iff (leb 1 w) (ltb count 0x10000000)).0 h.0 in
+    (leb-true _ _ l.0, ltb-true _ _ l.1, h.1)
+
+-- Fewer than 2^28 fields of at most 8 bytes have at most 2^31 bytes.
+pub refs_bytes_le : (w count : ℕ) → w ≤ 8 → count < 0x10000000 → count * w ≤ 0x80000000
+refs_bytes_le w count h l = let m : count ≤ 0x10000000 = omega arith in mul-le-mul m h
 
 -- The bytes of n fields are those of n - 1 fields and of one.
 pub mul_pred : (n w : ℕ) → 0 < n → n * w ≡ (n - 1) * w + w

@@ -142,9 +142,15 @@ pub fn read_up_to(
     requires { CursorInBounds s.now rows.old refs.old k.old × ValidBits header.bits × (length s.now ≤ limit) }
     ensures { UpToContract header s.now k.old rows.old refs.old upto rows.new refs.new k.new result }
 {
-    while k.rows < upto {
-        step(s, header, rows, refs, k)?;
+    // Its own cursor: passed on as it is, the caller's could not be kept in registers.
+    let mut cursor = *k;
+    while cursor.rows < upto {
+        if let Err(end) = step(s, header, rows, refs, &mut cursor) {
+            *k = cursor;
+            return Err(end);
+        }
     }
+    *k = cursor;
     Ok(())
 }
 

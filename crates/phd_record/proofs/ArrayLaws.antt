@@ -66,6 +66,23 @@ array_flags : (h : Header) (s : List ℕ) (at f : ℕ) → at + 1 ≤ length s �
 unfolding flag_byte
 array_flags h s at f l e k = rw (run_then, run_field 1 s at l, ← e, run_then, run_check, k, run_yield)
 
+-- The flag byte of an object array takes one byte.
+pub flag_byte_end : (h : Header) (s : List ℕ) (at f p : ℕ) → at + 1 ≤ length s → run (flag_byte h 8) s at ≡ whole f p → p ≡ at + 1
+unfolding flag_byte
+flag_byte_end h s at f p l e = by (flags_allowed h 8 x) refl
+  where
+    x : ℕ
+    x = value (take 1 (drop at s))
+
+    by : (b : Bool) → flags_allowed h 8 x ≡ b → p ≡ at + 1
+    by true k =
+        let g : run (flag_byte h 8) s at ≡ whole x (at + 1) = rw (run_then, run_field 1 s at l, run_then, run_check, k, run_yield) in
+        cc
+    by false k =
+        let g : run (flag_byte h 8) s at ≡ stops (Refused 11) = rw (run_then, run_field 1 s at l, run_then, run_check, k) in
+        let z : ◌≡◌ {A = ℕ} 0 1 = cc in
+        absurd (omega arith)
+
 module _ (w t f : ℕ) where
   -- An object array has the shape `ArrayShape`, a class word of w bytes, and no array length field.
   array_shape : ArrayShape (shape w ObjectArray t f)

@@ -53,6 +53,11 @@ module _ (s : List ℕ) (at n : ℕ) where
   unfolding count
   run_count k h e = rw (run_then, run_field n s at h, run_need, e)
 
+-- The value of no bytes is 0.
+pub value_no_bytes : (s : List ℕ) (n : ℕ) → n ≡ 0 → 0 ≡ value (take n s)
+unfolding value_after
+value_no_bytes s n e = sym (ap (λ (k : ℕ). value (take k s)) e)
+
 -- A field that a form lacks (n is 0) takes no bytes.
 module _ (s : List ℕ) (at n : ℕ) (no : n ≡ 0) where
   pub absent_field : at ≤ length s → run (field n) s at ≡ whole 0 at

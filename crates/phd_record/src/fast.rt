@@ -31,6 +31,15 @@ const NO_NAME: StringSpan = StringSpan {
     len: 0,
 };
 
+// Returns the address by a gap of at most 2 bytes, if it is in range.
+fn address_by_small_gap(s: &[u8], at: usize, n: usize, base: u64, top: u64) -> Option<u64>
+    requires { (n ≤ 2) × (at + 2 ≤ length s.now) }
+    ensures { result ≡ add_gap top base (signed_of n (value (take n (drop at s.now)))) }
+{
+    let raw = decode_fast::be_upto2(s, at, n);
+    decode::add_gap(base, decode::signed(raw, n), top)
+}
+
 // Returns the address by a gap of at most 4 bytes, if it is in range.
 fn address_by_gap(s: &[u8], at: usize, n: usize, base: u64, top: u64) -> Option<u64>
     requires { (n ≤ 4) × (at + 4 ≤ length s.now) }
@@ -61,6 +70,17 @@ fn class_word(s: &[u8], at: usize, w: usize) -> u64
     }
 }
 
+// Returns a hash of n bytes, or 0 if there is none (n is 0).
+fn hash_at(s: &[u8], at: usize, n: usize) -> u64
+    requires { (n ≤ 4) × (at + 4 ≤ length s.now) }
+    ensures { result ≡ value (take n (drop at s.now)) }
+{
+    match n {
+        0 => 0,
+        _ => decode_fast::be_upto4(s, at, n),
+    }
+}
+
 // Returns the numbers of a record that has no instance size and no superclass word: its hash of n bytes, 0 if n is 0.
 fn hash_alone(s: &[u8], at: usize, n: usize) -> Middle
     requires { (n ≤ 4) × (at + 4 ≤ length s.now) }
@@ -68,9 +88,21 @@ fn hash_alone(s: &[u8], at: usize, n: usize) -> Middle
 {
     Middle {
         inst: 0,
-        hash: decode_fast::be_upto4(s, at, n),
+        hash: hash_at(s, at, n),
         superclass: 0,
     }
+}
+
+// Returns the form of an object without a flag byte, by its tag.
+fn object_form(tag: u64) -> Form
+    requires { 0x40 ≤ tag }
+    ensures form { tag_form tag ≡ Some result }
+    ensures object { ObjectForm result }
+{
+    if 0x80 <= tag {
+        return Form::Short;
+    }
+    Form::Medium
 }
 
 // Decodes a short or medium object after its tag.
@@ -89,7 +121,7 @@ fn read_object(
     let known = phd::forms::slot_class_of(before.cache, tag)?;
     let head = Head::new(header, before.cache, origin, known, form, tag, 0);
     let sh = head.shape;
-    let address = address_by_gap(s, at, sh.gap, before.address, head.top)?;
+    let address = address_by_small_gap(s, at, sh.gap, before.address, head.top)?;
     if !decode_fast::refs_in_range(sh.refwidth, address, head.top) {
         return None;
     }
@@ -248,13 +280,17 @@ fn read_after_tag(
     requires { (at + 90 ≤ length s.now) × ValidBits header.bits }
     ensures { HitAgrees (run (record_body header before.address before.cache origin tag) s.now at) result }
 {
-    let form = phd::forms::tag_form(tag)?;
-    match form {
-        Form::Short | Form::Medium => read_object(s, at, header, before, origin, form, tag),
-        Form::Primitive => read_primitive(s, at, header, before, origin, tag),
-        Form::ObjectArray => read_array(s, at, header, before, origin, tag),
-        _ => None,
+    if 0x40 <= tag {
+        let form = object_form(tag);
+        return read_object(s, at, header, before, origin, form, tag);
     }
+    if 0x20 <= tag {
+        return read_primitive(s, at, header, before, origin, tag);
+    }
+    if tag == 8 {
+        return read_array(s, at, header, before, origin, tag);
+    }
+    None
 }
 
 // Decodes a record of a common form, if at least 100 bytes are left. A hit moves the decoder to the end of the record, a miss leaves
@@ -275,7 +311,11 @@ pub fn read_fast(
     }
     let tag = decode_fast::be_upto4(s, at, 1);
     let origin = Origin { offset: at, index };
-    let hit = read_after_tag(s, at + 1, header, before, origin, tag)?;
-    d.at = hit.next;
-    Some(hit.record)
+    match read_after_tag(s, at + 1, header, before, origin, tag) {
+        Some(hit) => {
+            d.at = hit.next;
+            Some(hit.record)
+        }
+        None => None,
+    }
 }

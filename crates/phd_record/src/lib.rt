@@ -3,7 +3,7 @@
 // path the equation holds if there is a hit.
 #![tactic(auto)]
 
-ghost use Rattle.std.specs.Prelude.{◌≡◌};
+ghost use Rattle.std.specs.Prelude.{◌≡◌, OnErr};
 ghost use Rattle.decode.specs.ReadsAs.{ReadsAs};
 ghost use Rattle.phd.specs.Phd.{entry, record_body};
 ghost use Rattle.phd.specs.Shapes.{ValidBits};
@@ -46,9 +46,8 @@ fn read_body(
     head.read_fields(d, before.address)
 }
 
-// Decodes the end tag or a whole record, on the general path. `before` is the context of the records before it, `index` the number
-// of their references.
-pub fn read_general(
+// Decodes the end tag or a whole record, field by field.
+fn read_entry(
     d: &mut Decoder,
     header: Header,
     before: RecordContext,
@@ -69,7 +68,30 @@ pub fn read_general(
     Ok(Some(record))
 }
 
-// Decodes the end tag or a whole record: on the fast path, or, if that declines, on the general path.
+// Decodes the end tag or a whole record, on the general path. `before` is the context of the records before it, `index` the number
+// of their references. A refusal leaves the decoder's offset as it was.
+pub fn read_general(
+    d: &mut Decoder,
+    header: Header,
+    before: RecordContext,
+    index: u64,
+) -> Result<Option<Record>, Stop>
+    requires { ValidBits header.bits }
+    ensures reads { ReadsAs record_of (entry header before.address before.cache index) d.old result d.new }
+    ensures kept { OnErr result (d.new.at ≡ d.old.at) }
+{
+    // With a decoder of its own, whose offset can be kept in a register.
+    let mut own = Decoder {
+        bytes: d.bytes,
+        at: d.at,
+    };
+    let found = read_entry(&mut own, header, before, index)?;
+    d.at = own.at;
+    Ok(found)
+}
+
+// Decodes the end tag or a whole record: on the fast path, or, if that declines, on the general path. A refusal leaves the
+// decoder's offset as it was.
 pub fn read_record(
     d: &mut Decoder,
     header: Header,
@@ -77,7 +99,8 @@ pub fn read_record(
     index: u64,
 ) -> Result<Option<Record>, Stop>
     requires { ValidBits header.bits }
-    ensures { ReadsAs record_of (entry header before.address before.cache index) d.old result d.new }
+    ensures reads { ReadsAs record_of (entry header before.address before.cache index) d.old result d.new }
+    ensures kept { OnErr result (d.new.at ≡ d.old.at) }
 {
     if let Some(record) = fast::read_fast(d, header, before, index) {
         return Ok(Some(record));

@@ -10,13 +10,13 @@ returns-in_err-field c = rw (stopped c.from_residual.ensures) (reads_stop _ c.in
 pub returns-in_err-vm-in-4 : goal.returns-in_err-vm-in-4
 unfolding header_records
 returns-in_err-vm-in-4 c =
-    rw (stopped c.from_residual-in_err-vm-in-4.ensures) (reads_then _ c.in_ok-field.ensures.reads (rw c.in-4.is (reads_stop _ c.in_err-vm-in-4.ensures)))
+    rw (stopped c.from_residual-in_err-vm-in-4.ensures) (reads_then _ c.in_ok-field.ensures.reads (rw c.in-4.is (reads_stop _ c.in_err-vm-in-4.ensures.reads)))
 
 pub returns-in_err-after_vm-in-4 : goal.returns-in_err-after_vm-in-4
 unfolding header_records
 returns-in_err-after_vm-in-4 c =
     rw (stopped c.from_residual-in_err-after_vm-in-4.ensures)
-    (reads_then _ c.in_ok-field.ensures.reads (rw c.in-4.is (reads_then _ c.in_ok-vm-in-4.ensures (reads_stop _ c.in_err-after_vm-in-4.ensures))))
+    (reads_then _ c.in_ok-field.ensures.reads (rw c.in-4.is (reads_then _ c.in_ok-vm-in-4.ensures.reads (reads_stop _ c.in_err-after_vm-in-4.ensures))))
 
 pub returns-in-2 : goal.returns-in-2
 unfolding header_records
@@ -25,7 +25,7 @@ returns-in-2 c = reads_then _ c.in_ok-field.ensures.reads (rw c.in-2.is (reads_y
 pub returns-in_ok-after_vm-in-4 : goal.returns-in_ok-after_vm-in-4
 unfolding header_records
 returns-in_ok-after_vm-in-4 c =
-    reads_then _ c.in_ok-field.ensures.reads (rw c.in-4.is (reads_then _ c.in_ok-vm-in-4.ensures (reads_then _ c.in_ok-after_vm-in-4.ensures (reads_yield _ _))))
+    reads_then _ c.in_ok-field.ensures.reads (rw c.in-4.is (reads_then _ c.in_ok-vm-in-4.ensures.reads (reads_then _ c.in_ok-after_vm-in-4.ensures (reads_yield _ _))))
 
 pub returns-in_default : goal.returns-in_default
 unfolding header_records

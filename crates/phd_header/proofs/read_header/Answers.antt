@@ -1,23 +1,6 @@
-use Rattle.decode.specs.Reads.{stopped, reads_then, reads_stop, reads_yield}
-use Rattle.phd.specs.Phd.{header}
+use Rattle.std.proofs.Common.{refl}
+use Rattle.decode.specs.Reads.{reads_stop_at}
 use Rattle.phd_header.proofs.read_header.Goals as goal
 
-pub returns-in_err-flags : goal.returns-in_err-flags
-unfolding header
-returns-in_err-flags c = rw (stopped c.from_residual.ensures) (reads_stop _ c.in_err-flags.ensures)
-
-pub returns-in_err-vm : goal.returns-in_err-vm
-unfolding header
-returns-in_err-vm c = rw (stopped c.from_residual-in_err-vm.ensures) (reads_then _ c.in_ok-flags.ensures (reads_stop _ c.in_err-vm.ensures))
-
-pub returns-in_err-exactly : goal.returns-in_err-exactly
-unfolding header
-returns-in_err-exactly c =
-    rw (stopped c.from_residual-in_err-exactly.ensures)
-    (reads_then _ c.in_ok-flags.ensures (reads_then _ c.in_ok-vm.ensures (reads_stop _ c.in_err-exactly.ensures)))
-
-pub returns : goal.returns
-unfolding header
-returns c =
-    rw c.make_header.ensures
-    (reads_then _ c.in_ok-flags.ensures (reads_then _ c.in_ok-vm.ensures (reads_then _ c.in_ok-exactly.ensures (reads_yield _ _))))
+pub returns-in-Err-clause-reads : goal.returns-in-Err-clause-reads
+returns-in-Err-clause-reads c = reads_stop_at c.in-Err.ensures refl

@@ -18,19 +18,19 @@ returns-then-dump-gt-LIMIT c =
 pub read_records-requires : goal.read_records-requires
 unfolding limit
 read_records-requires c =
-    let read = c.in-Ok.ensures in
+    let read = c.in-Ok.ensures.reads in
     (rw read.same at c.read_header.new.d.inside, c.if-dump-gt-LIMIT.false, header_bits _ _ _ (sym read.value))
 
 pub returns-in-Ok : goal.returns-in-Ok
 unfolding limit
 returns-in-Ok c =
     let a = c.args in
-    rw (read_header_whole phd a.dump.now (capacity (length a.rows.now) (length a.refs.now)) _ _ c.if-dump-gt-LIMIT.false (sym c.in-Ok.ensures.value))
+    rw (read_header_whole phd a.dump.now (capacity (length a.rows.now) (length a.refs.now)) _ _ c.if-dump-gt-LIMIT.false (sym c.in-Ok.ensures.reads.value))
     c.read_records.ensures
 
 pub returns-in-Err : goal.returns-in-Err
 unfolding limit read_answer no_records_of overwrite row_count
 returns-in-Err c =
     let a = c.args in
-    rw (read_header_stops phd a.dump.now (capacity (length a.rows.now) (length a.refs.now)) _ c.if-dump-gt-LIMIT.false (sym c.in-Err.ensures.value), c.no_records-in-Err.ensures, c.reply_of.ensures, c.missing_of.ensures)
+    rw (read_header_stops phd a.dump.now (capacity (length a.rows.now) (length a.refs.now)) _ c.if-dump-gt-LIMIT.false (sym c.in-Err.ensures.reads.value), c.no_records-in-Err.ensures, c.reply_of.ensures, c.missing_of.ensures)
     (record { is = refl; rows = refl; refs = refl })

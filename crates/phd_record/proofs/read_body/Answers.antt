@@ -24,7 +24,7 @@ returns-in_err-flags c =
     let form = rw c.tag_form.ensures at c.in_ok-form.ensures.value in
     let known = rw c.slot_class_of.ensures at c.in_ok-known.ensures.value in
     rw (stopped c.from_residual-in_err-flags.ensures)
-    (reads_as_then record_of _ (reads_form _ _ form) (reads_as_then record_of _ (reads_known _ _ _ known) (reads_as_stop record_of _ c.in_err-flags.ensures)))
+    (reads_as_then record_of _ (reads_form _ _ form) (reads_as_then record_of _ (reads_known _ _ _ known) (reads_as_stop record_of _ c.in_err-flags.ensures.reads)))
 
 pub returns : goal.returns
 unfolding record_body
@@ -33,4 +33,4 @@ returns c =
     let known = rw c.slot_class_of.ensures at c.in_ok-known.ensures.value in
     let i = c.new-head.ensures in
     let fields = rw (i.top, i.cache, i.origin, i.known, i.hash_kind, i.shape) at c.read_fields.ensures in
-    reads_as_then record_of _ (reads_form _ _ form) (reads_as_then record_of _ (reads_known _ _ _ known) (reads_as_then record_of _ c.in_ok-flags.ensures fields))
+    reads_as_then record_of _ (reads_form _ _ form) (reads_as_then record_of _ (reads_known _ _ _ known) (reads_as_then record_of _ c.in_ok-flags.ensures.reads fields))

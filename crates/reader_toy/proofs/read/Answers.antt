@@ -14,18 +14,18 @@ returns-then-dump-gt-LIMIT c =
 
 pub read_records-requires : goal.read_records-requires
 unfolding limit
-read_records-requires c = (rw c.in-Ok.ensures.same at c.exactly.new.self.inside, c.if-dump-gt-LIMIT.false)
+read_records-requires c = (rw c.in-Ok.ensures.reads.same at c.exactly.new.self.inside, c.if-dump-gt-LIMIT.false)
 
 pub returns-in-Ok : goal.returns-in-Ok
 unfolding limit
 returns-in-Ok c =
     let a = c.args in
-    rw (read_header_whole toy a.dump.now (capacity (length a.rows.now) (length a.refs.now)) _ _ c.if-dump-gt-LIMIT.false (sym c.in-Ok.ensures.value))
+    rw (read_header_whole toy a.dump.now (capacity (length a.rows.now) (length a.refs.now)) _ _ c.if-dump-gt-LIMIT.false (sym c.in-Ok.ensures.reads.value))
     c.read_records.ensures
 
 pub returns-in-Err : goal.returns-in-Err
 unfolding limit no_records_of overwrite
 returns-in-Err c =
     let a = c.args in
-    rw (read_header_stops toy a.dump.now (capacity (length a.rows.now) (length a.refs.now)) _ c.if-dump-gt-LIMIT.false (sym c.in-Err.ensures.value), ← c.reply_of.ensures, ← c.missing_of.ensures)
+    rw (read_header_stops toy a.dump.now (capacity (length a.rows.now) (length a.refs.now)) _ c.if-dump-gt-LIMIT.false (sym c.in-Err.ensures.reads.value), ← c.reply_of.ensures, ← c.missing_of.ensures)
     (record { is = c.no_records-in-Err.ensures; rows = refl; refs = refl })

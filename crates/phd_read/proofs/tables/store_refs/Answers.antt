@@ -10,7 +10,7 @@ use Rattle.phd_read.proofs.tables.store_refs.Goals as goal
 pub unwrap-requires : goal.unwrap-requires
 unwrap-requires c =
     let a = c.args in
-    let v = rw c.loop-r.invariant.0 at c.ref_field.ensures.value in
+    let v = rw c.loop-r.invariant.0 at c.ref_field.ensures.reads.value in
     is_read c.ref_field.result _ (λ x e. no_ref_stops a.w a.base a.top a.s.now c.loop-r.d.at (length c.loop-r.refs - c.loop-r.r-index) (omega arith) c.loop-r.invariant.1 x (sym v ∙ e))
 
 pub loop-r-preserved : goal.loop-r-preserved
@@ -19,10 +19,10 @@ loop-r-preserved c =
     let refs = c.loop-r.refs in
     let i = c.loop-r.r-index in
     let left = length refs - i in
-    let is : whole c.unwrap.result c.ref_field.new.self.at ≡ run (ref_field a.w a.base a.top) a.s.now c.loop-r.d.at = rw (c.unwrap.ensures, c.loop-r.invariant.0) at c.ref_field.ensures.value in
+    let is : whole c.unwrap.result c.ref_field.new.self.at ≡ run (ref_field a.w a.base a.top) a.s.now c.loop-r.d.at = rw (c.unwrap.ensures, c.loop-r.invariant.0) at c.ref_field.ensures.reads.value in
     let v = values_next a.w a.base a.top a.s.now c.loop-r.d.at left (omega arith) c.loop-r.invariant.1 _ _ (sym is) in
     let d : length refs - (i + 1) ≡ left - 1 = omega arith in (
-      c.ref_field.ensures.same ∙ c.loop-r.invariant.0,
+      c.ref_field.ensures.reads.same ∙ c.loop-r.invariant.0,
       rw (length-set, d) v.0,
       stored_next refs i (λ (n : ℕ). values_of (run (ref_list a.w a.base a.top n) a.s.now c.ref_field.new.self.at))
           (λ (n : ℕ). values_of (run (ref_list a.w a.base a.top n) a.s.now a.at)) _ (omega arith) (rw v.1 at c.loop-r.invariant.2),

@@ -5,9 +5,9 @@ use Rattle.phd_record.proofs.fast.read_fast.Goals as goal
 pub invariant_of-d : goal.invariant_of-d
 invariant_of-d c =
     let i = c.args.d.now.inside in
-    record { inside = (hit_reads _ _ _ _ _ _ _ _ _ (omega arith) c.be_upto4-tag.ensures.is c.in_ok-hit.ensures).1 }
+    record { inside = (hit_reads _ _ _ _ _ _ _ _ _ (omega arith) c.be_upto4-tag.ensures.is c.in-Some.ensures).1 }
 
-pub returns : goal.returns
-returns c =
+pub returns-in-Some : goal.returns-in-Some
+returns-in-Some c =
     let i = c.args.d.now.inside in
-    record { same = refl; value = sym (hit_reads _ _ _ _ _ _ _ _ _ (omega arith) c.be_upto4-tag.ensures.is c.in_ok-hit.ensures).0 }
+    record { same = refl; value = sym (hit_reads _ _ _ _ _ _ _ _ _ (omega arith) c.be_upto4-tag.ensures.is c.in-Some.ensures).0 }

@@ -4,8 +4,8 @@ use Rattle.phd_record.specs.FastPath.{ClassWidth}
 use Rattle.phd_record.proofs.FastRecordLaws.{ObjectShape, head_object_shape, head_class_width, class_width_le_8, object_tag, object_record}
 use Rattle.phd_record.proofs.fast.read_object.Goals as goal
 
-pub address_by_gap-requires : goal.address_by_gap-requires
-address_by_gap-requires c =
+pub address_by_small_gap-requires : goal.address_by_small_gap-requires
+address_by_small_gap-requires c =
     let o : ObjectShape c.new-head.result.shape = head_object_shape c.new-head.ensures c.requires.1 c.requires.3 in
     omega arith
 

@@ -9,4 +9,4 @@ returns-then-n-eq0 c = rw (eq-eqb _ _ c.if-n-eq0.true) (reads_yield _ _)
 
 pub returns : goal.returns
 unfolding class_name
-returns c = rw (ne_eqb _ _ c.if-n-eq0.false) c.string.ensures
+returns c = rw (ne_eqb _ _ c.if-n-eq0.false) c.string.ensures.reads

@@ -9,4 +9,4 @@ returns-then-n-eq0 c = rw (eq-eqb _ _ c.if-n-eq0.true) (reads_yield _ _)
 
 pub returns : goal.returns
 unfolding ref_count
-returns c = rw (ne_eqb _ _ c.if-n-eq0.false) c.count.ensures
+returns c = rw (ne_eqb _ _ c.if-n-eq0.false) c.count.ensures.reads

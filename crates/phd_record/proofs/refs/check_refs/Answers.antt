@@ -9,10 +9,10 @@ loop-init c = let all : c.args.count - 0 ≡ c.args.count = omega arith in λ r 
 pub returns-in_err-ref_field : goal.returns-in_err-ref_field
 returns-in_err-ref_field c =
     let some : 0 < c.args.count - c.loop.counter = omega arith in
-    rw (stopped c.from_residual.ensures) (c.loop.invariant _ _ (refs_stop _ _ _ some c.in_err-ref_field.ensures))
+    rw (stopped c.from_residual.ensures) (c.loop.invariant _ _ (refs_stop _ _ _ some c.in_err-ref_field.ensures.reads))
 
 pub loop-preserved : goal.loop-preserved
-loop-preserved c = λ r e p. c.loop.invariant r e (refs_next _ _ _ (omega arith) c.in_ok-ref_field.ensures p)
+loop-preserved c = λ r e p. c.loop.invariant r e (refs_next _ _ _ (omega arith) c.in_ok-ref_field.ensures.reads p)
 
 pub returns : goal.returns
 returns c = c.loop.invariant _ _ (refs_none _ _ _ _ (omega arith))

@@ -1,31 +1,34 @@
-use Rattle.std.proofs.Common.{rules, sym}
+use Rattle.std.proofs.Common.{refl, rules, sym}
 use Rattle.decode.specs.Fields.{string}
-use Rattle.decode.specs.Reads.{stopped, reads_then, reads_stop, reads_checked, reads_refused, reads_yield, reads_position}
+use Rattle.decode.specs.Reads.{stopped, reads_then, reads_stop, reads_stop_at, reads_checked, reads_refused, reads_yield, reads_position}
 use Rattle.decode.proofs.decoder.Decoder.string.Goals as goal
 
-pub returns-in_err-len : goal.returns-in_err-len
+pub returns-in_err-len-clause-reads : goal.returns-in_err-len-clause-reads
 unfolding string
-returns-in_err-len c = rw (stopped c.from_residual.ensures) (reads_stop _ c.in_err-len.ensures.reads)
+returns-in_err-len-clause-reads c = rw (stopped c.from_residual.ensures) (reads_stop _ c.in_err-len.ensures.reads)
 
-pub returns-then-len-least : goal.returns-then-len-least
+pub returns-then-len-least-clause-reads : goal.returns-then-len-least-clause-reads
 unfolding string
-returns-then-len-least c = reads_then _ c.in_ok-len.ensures.reads (reads_refused _ _ (search rules))
+returns-then-len-least-clause-reads c = reads_stop_at (reads_then _ c.in_ok-len.ensures.reads (reads_refused _ _ (search rules))) refl
 
-pub returns-in_err-text : goal.returns-in_err-text
+pub returns-in-Err-clause-reads : goal.returns-in-Err-clause-reads
 unfolding string
-returns-in_err-text c =
-    rw (stopped c.from_residual-in_err-text.ensures)
-    (reads_then _ c.in_ok-len.ensures.reads (reads_checked _ _ (search rules) (reads_position _ (reads_stop _ c.in_err-text.ensures.reads))))
+returns-in-Err-clause-reads c =
+    reads_stop_at
+    (reads_then _ c.in_ok-len.ensures.reads (reads_checked _ _ (search rules) (reads_position _ (reads_stop _ c.in-Err.ensures.reads))))
+    refl
 
-pub returns-then-not-bytes_within : goal.returns-then-not-bytes_within
+pub returns-then-not-bytes_within-clause-reads : goal.returns-then-not-bytes_within-clause-reads
 unfolding string
-returns-then-not-bytes_within c =
-    reads_then _ c.in_ok-len.ensures.reads
-    (reads_checked _ _ (search rules) (reads_position _ (reads_then _ c.in_ok-text.ensures.reads (reads_refused _ _ (sym c.if-not-bytes_within.ensures)))))
-
-pub returns : goal.returns
-unfolding string
-returns c =
-    rw c.in_ok-text.ensures.long
+returns-then-not-bytes_within-clause-reads c =
+    reads_stop_at
     (reads_then _ c.in_ok-len.ensures.reads
-    (reads_checked _ _ (search rules) (reads_position _ (reads_then _ c.in_ok-text.ensures.reads (reads_checked _ _ (sym c.if-not-bytes_within.ensures) (reads_yield _ _))))))
+    (reads_checked _ _ (search rules) (reads_position _ (reads_then _ c.in-Ok.ensures.reads (reads_refused _ _ (sym c.if-not-bytes_within.ensures))))))
+    refl
+
+pub returns-clause-reads : goal.returns-clause-reads
+unfolding string
+returns-clause-reads c =
+    rw c.in-Ok.ensures.long
+    (reads_then _ c.in_ok-len.ensures.reads
+    (reads_checked _ _ (search rules) (reads_position _ (reads_then _ c.in-Ok.ensures.reads (reads_checked _ _ (sym c.if-not-bytes_within.ensures) (reads_yield _ _))))))

@@ -3,7 +3,7 @@ use Rattle.decode.specs.Reads.{stopped}
 use Rattle.decode.specs.ReadsAs.{reads_as_then, reads_as_stop, reads_as_yield, reads_as_position}
 use Rattle.phd.specs.Phd.{end_item, from_tag, entry}
 use Rattle.phd_record.specs.RecordReads.{record_of}
-use Rattle.phd_record.proofs.read_general.Goals as goal
+use Rattle.phd_record.proofs.read_entry.Goals as goal
 
 pub returns-in_err-tag : goal.returns-in_err-tag
 unfolding entry from_tag

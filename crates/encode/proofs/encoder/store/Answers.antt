@@ -1,6 +1,0 @@
-use Rattle.std.proofs.Common.{arith}
-use Rattle.encode.proofs.Stores.{put_mid_sets}
-use Rattle.encode.proofs.encoder.store.Goals as goal
-
-pub returns : goal.returns
-returns c = let a = c.args in rw c.copy_from_slice.ensures.after (put_mid_sets a.out.now a.bytes.now a.at _ c.requires (omega arith))

@@ -1,8 +1,0 @@
--- A reading that ends before the first record leaves tables and list as they are.
-use Rattle.phd_classes.proofs.ReadStages.{refused_finished}
-use Rattle.phd_classes.proofs.read.Goals as goal
-
-pub returns-in-Err : goal.returns-in-Err
-returns-in-Err c =
-    let f = refused_finished c.in-Err.ensures c.args.rows.now c.args.refs.now c.args.classes.now in
-    (f.answer, f.row_table, f.ref_table, f.list)

@@ -1,0 +1,2 @@
+-- Comparing two byte lists one byte at a time.
+pub mod BytesEqual

@@ -1,8 +1,0 @@
--- From each place that the search passes it ends at the index at which the whole search ends.
-use Rattle.std.proofs.Common.{◌≡◌, ◌-◌}
-use Rattle.summaries.specs.EntrySteps.{numbers}
-use Rattle.summary_list.specs.EntryList.{find_entry}
-use Rattle.summary_list.proofs.find_entry.Given as goal
-
-abbrev pub invariant-loop-at : goal.invariant-loop-at
-invariant-loop-at l = find_entry l.classes (numbers l.key) l.at (l.used - l.at) ≡ find_entry l.classes (numbers l.key) l.from (l.used - l.from)
