@@ -26,7 +26,7 @@ use Rattle.classes_read.specs.declared.ClassesAnswer.{ClassesAnswer}
 use Rattle.classes_read.specs.ClassesRead.{classes_result, classes_answer}
 use Rattle.classes_read.specs.RowLists.{rows_of_take}
 use Rattle.phd_classes.specs.declared.batches.Progress.{Progress}
-use Rattle.phd_classes.specs.ReadState.{Opened, Started, Refused, FittingRecord, EntryNeeded, AdvanceRequires, Advanced, full, reads, Finished}
+use Rattle.phd_classes.specs.ReadState.{Opened, Started, Refused, refused_answer, refused_rows, refused_refs, FittingRecord, EntryNeeded, AdvanceRequires, Advanced, full, reads, Finished}
 use Rattle.phd_classes.specs.PassRows.{tally_kept, list_kept}
 use Rattle.phd_classes.specs.EndResults.{in_table, end_result, full_result}
 use Rattle.phd_classes.specs.BatchRows.{rows_few, rows_small, rows_kept, batch_keys, overwrite_first}
@@ -265,7 +265,7 @@ module _ (dump rows₀ refs₀ : List ℕ) (classes₀ : List Summary) where
 -- A reading that ends before the first record leaves tables and list as they are.
 pub refused_finished : {dump : List ℕ} {a : ClassesAnswer} → Refused dump a → (rows refs : List ℕ) (classes : List Summary) → Finished dump rows refs classes a rows refs classes
 unfolding overwrite rows_of rows_from row_count summaries keys keys_from
-refused_finished {dump} r rows refs classes =
-    let x = r.no_rows (length rows) (length refs) (length classes) in
-    let y = r.no_refs (length rows) (length refs) (length classes) in
-    record { answer = r.answer _ _ _; row_table = rw x; ref_table = rw y; list = rw x }
+refused_finished r rows refs classes =
+    let x = refused_rows r (length rows) (length refs) (length classes) in
+    let y = refused_refs r (length rows) (length refs) (length classes) in
+    record { answer = refused_answer r _ _ _; row_table = rw x; ref_table = rw y; list = rw x }

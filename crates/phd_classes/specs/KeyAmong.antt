@@ -2,13 +2,13 @@
 -- Assumes nothing.
 use Rattle.std.proofs.Math.Path.{◌≡◌, refl, sym}
 use Rattle.std.proofs.Common.{◌∙◌, add-one, take-suc, take-add}
-use Rattle.std.specs.Prelude.{ℕ, suc, ◌+◌, ◌-◌, ◌≤◌, ◌<◌, Bool, ◌||◌, take, drop, Option, Some, None}
+use Rattle.std.specs.Prelude.{ℕ, suc, ◌+◌, ◌-◌, ◌≤◌, ◌<◌, Bool, ◌&&◌, ◌||◌, eqb, take, drop, Option, Some, None}
 use native.Mathlib.Omega.{arith}
 use Rattle.std.proofs.Math.Bool.{true, false, cond}
 use mathlib.Core.List.{List, [], ◌∷◌, ◌++◌}
 use Rattle.std.proofs.Math.Dec.{ltb}
 use Rattle.std.proofs.Math.ListN.{length, length-append}
-use borrow.Author.Tests.{lt-ltb, le-ltb, ltb-true, ltb-false}
+use borrow.Author.Tests.{lt-ltb, le-ltb, ltb-true, ltb-false, eq-eqb, ne_eqb}
 use Rattle.table.specs.Table.{row_count}
 use Rattle.table.specs.Rows.{is_kind, row_at, rows_of, zero_row, length_rows, nth_row}
 use Rattle.table.specs.declared.Row.{Row}
@@ -17,12 +17,42 @@ use Rattle.summaries.specs.declared.Key.{Key as CodeKey}
 use Rattle.summaries.specs.EntrySteps.{numbers, key_of_row, no_key, some_key, numbers_differ}
 use Rattle.summaries.specs.SummaryKeys.{same_self, same_turn, mem, with_other, keyed_has}
 use Rattle.summary_index.specs.declared.Bucket.{Bucket}
-use Rattle.summary_index.specs.SummaryIndex.{find, IndexHolds, found, not_found}
+use Rattle.summary_index.specs.SummaryIndex.{make_key, find, IndexHolds, found, not_found}
 use Rattle.summary_pass.specs.PassState.{place_of}
 use Rattle.summary_pass.specs.KeyPlaces.{place_key, place_before, with_same, with_new}
 use Rattle.phd_classes.specs.ReadState.{among, key_among}
 
 -- ---- one row
+
+-- Whether a row is counted under a key, by its kind.
+module _ (r : Row) (class mark : ℕ) where
+  pub class_has : r.kind ≡ 1 → has (make_key class mark) r ≡ false
+  unfolding has
+  class_has e = rw (eq-eqb r.kind 1 e)
+
+  turned : (a b : Bool) → a && b ≡ b && a
+  turned true true = refl
+  turned true false = refl
+  turned false true = refl
+  turned false false = refl
+
+  pub primitive_has : r.kind ≡ 4 → has (make_key class mark) r ≡ eqb r.prim class && eqb 1 mark
+  unfolding has key_of same_key
+  primitive_has e = rw (ne_eqb r.kind 1 (λ f. omega arith), eq-eqb r.kind 4 e) (turned (eqb 1 mark) (eqb r.prim class))
+
+  pub object_has : (r.kind ≡ 1 → ⊥) → (r.kind ≡ 4 → ⊥) → has (make_key class mark) r ≡ eqb r.class class && eqb 0 mark
+  unfolding has key_of same_key
+  object_has e f = rw (ne_eqb r.kind 1 e, ne_eqb r.kind 4 f) (turned (eqb 0 mark) (eqb r.class class))
+
+-- The key of a row that is not a class row, by its kind.
+module _ (r : Row) where
+  pub primitive_key : r.kind ≡ 4 → key_of r ≡ make_key r.prim 1
+  unfolding key_of
+  primitive_key e = rw (eq-eqb r.kind 4 e)
+
+  pub object_key : (r.kind ≡ 4 → ⊥) → key_of r ≡ make_key r.class 0
+  unfolding key_of
+  object_key e = rw (ne_eqb r.kind 4 e)
 
 -- A row is counted under its key, and under no other.
 module _ (r : Row) (key : CodeKey) where

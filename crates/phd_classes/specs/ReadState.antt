@@ -1,6 +1,7 @@
 -- What holds between two batches of a reading with class summaries, and what each of its functions does.
 -- A reader need not believe it: `Finished` is stated by the definitions of ClassesRead.
 use Rattle.std.specs.Prelude.{◌≡◌, ◌⊎◌, ℕ, ◌+◌, ◌*◌, ◌≤◌, ◌<◌, Bool, true, false, cond, List, [], ◌∷◌, length, take, Result, Ok, Err}
+use Rattle.std.proofs.Common.{sym, ap, ◌∙◌}
 use Rattle.decode.specs.ByteValues.{AllBytes}
 use Rattle.decode.specs.Layout.{whole, run}
 use Rattle.table.specs.Buffer.{overwrite}
@@ -11,9 +12,10 @@ use Rattle.summaries.specs.Summaries.{Key, has, keyed, summaries}
 use Rattle.summaries.specs.declared.Summary.{Summary}
 use Rattle.summary_index.specs.declared.Bucket.{Bucket}
 use Rattle.summary_pass.specs.PassState.{first_tally, TallyHolds, keys_counted}
-use Rattle.phd.specs.Phd.{limit, header, entry, item}
+use Rattle.phd.specs.Phd.{limit, header, entry, item, no_records, Result as PhdResult}
 use Rattle.phd.specs.Shapes.{ValidBits}
 use Rattle.phd.specs.declared.Header.{Header}
+use Rattle.reader.specs.Reader.{no_records as no_records_of}
 use Rattle.reader.specs.declared.End.{End}
 use Rattle.phd_read.specs.PhdSteps.{CursorInBounds, UpToContract, initial_cursor}
 use Rattle.phd_read.specs.declared.records.Cursor.{Cursor}
@@ -31,17 +33,36 @@ pub record Opened (dump : List ℕ) (h : Header) (at : ℕ) : Type 0 where
   pub bits : ValidBits h.bits
   pub bytes : AllBytes dump
 
+-- `open`: the header was read, or the reading ends before the first record, whatever tables and list.
+abbrev pub OpenedOrRefused : (dump : List ℕ) → Result (Header × ℕ) (ℕ × ℕ) → Type 0
+OpenedOrRefused dump (Ok (h, at)) = Opened dump h at
+OpenedOrRefused dump (Err (reply, missing)) = (R F C : ℕ) → classes_result dump R F C ≡ no_records reply missing
+
 -- The state before the first record.
 pub record Started (dump : List ℕ) (s : Progress) : Type 0 where
   pub opened : Opened dump s.header s.cursor.at
   pub cursor : s.cursor ≡ initial_cursor s.cursor.at
   pub tally : s.tally ≡ first_tally
 
--- The reading ends before the first record, with this answer and whatever tables and list.
+-- The reading ends before the first record, whatever tables and list: its result, and so the answer, has place 0, no rows and an empty header.
 pub record Refused (dump : List ℕ) (a : ClassesAnswer) : Type 0 where
-  pub answer : (R F C : ℕ) → a ≡ classes_answer (classes_result dump R F C)
-  pub no_rows : (R F C : ℕ) → (classes_result dump R F C).rows ≡ []
-  pub no_refs : (R F C : ℕ) → (classes_result dump R F C).refs ≡ []
+  pub reply : ℕ
+  pub missing : ℕ
+  pub is : a ≡ classes_answer (no_records reply missing)
+  pub result : (R F C : ℕ) → classes_result dump R F C ≡ no_records reply missing
+
+-- So the answer is that of the definition, and nothing is stored.
+module _ {dump : List ℕ} {a : ClassesAnswer} (r : Refused dump a) (R F C : ℕ) where
+  pub refused_answer : a ≡ classes_answer (classes_result dump R F C)
+  refused_answer = r.is ∙ ap classes_answer (sym (r.result R F C))
+
+  pub refused_rows : (classes_result dump R F C).rows ≡ []
+  unfolding no_records_of
+  refused_rows = ap (λ (x : PhdResult). x.rows) (r.result R F C)
+
+  pub refused_refs : (classes_result dump R F C).refs ≡ []
+  unfolding no_records_of
+  refused_refs = ap (λ (x : PhdResult). x.refs) (r.result R F C)
 
 -- `begin`.
 abbrev pub Begun : (dump : List ℕ) → Result Progress ClassesAnswer → Type 0

@@ -2,7 +2,7 @@
 ghost use Rattle.std.specs.Prelude.{◌≡◌};
 ghost use Rattle.phd.specs.Phd.{no_records};
 ghost use Rattle.classes_read.specs.ClassesRead.{classes_answer};
-ghost use Rattle.phd_classes.specs.ReadState.{Begun};
+ghost use Rattle.phd_classes.specs.ReadState.{OpenedOrRefused, Begun};
 
 use super::batches::Progress;
 use classes_read::ClassesAnswer;
@@ -39,20 +39,32 @@ fn no_records(reply: u64, missing: usize) -> ClassesAnswer
     }
 }
 
-// Reads the header of a dump. Returns the state before the first record, or the answer of a reading that ends before it.
-pub fn begin(dump: &[u8]) -> Result<Progress, ClassesAnswer>
-    ensures { Begun dump.now result }
+// Reads the header of a dump. Returns it with the offset of the first record, or the reply and the missing bytes of a reading that ends
+// before it.
+fn open(dump: &[u8]) -> Result<(Header, usize), (u64, usize)>
+    ensures { OpenedOrRefused dump.now result }
 {
     if reader::LIMIT < dump.len() {
-        return Err(no_records(2, 0));
+        return Err((2, 0));
     }
     let mut d = Decoder { bytes: dump, at: 0 };
     match phd_header::read_header(&mut d) {
-        Ok(header) => Ok(Progress {
+        Ok(header) => Ok((header, d.at)),
+        Err(w) => Err((decode::reply_of(w), decode::missing_of(w))),
+    }
+}
+
+// Reads the header of a dump. Returns the state before the first record, or the answer of a reading that ends before it.
+#[tactic(auto, using(crate::proofs::Beginning::started))]
+pub fn begin(dump: &[u8]) -> Result<Progress, ClassesAnswer>
+    ensures { Begun dump.now result }
+{
+    match open(dump) {
+        Ok((header, at)) => Ok(Progress {
             header,
-            cursor: Cursor::first(d.at),
+            cursor: Cursor::first(at),
             tally: Tally::new(),
         }),
-        Err(w) => Err(no_records(decode::reply_of(w), decode::missing_of(w))),
+        Err((reply, missing)) => Err(no_records(reply, missing)),
     }
 }

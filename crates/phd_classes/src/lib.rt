@@ -55,6 +55,23 @@ pub fn read_from(
     }
 }
 
+// Reads a dump, with a summary index that is empty.
+pub fn read_with(
+    dump: &[u8],
+    rows: &mut [u64],
+    refs: &mut [u64],
+    buckets: &mut [Bucket],
+    classes: &mut [Summary],
+) -> ClassesAnswer
+    requires { buckets.old ≡ replicate 32832 empty }
+    ensures { Finished dump.now rows.old refs.old classes.old result rows.new refs.new classes.new }
+{
+    match begin::begin(dump) {
+        Ok(start) => read_from(dump, rows, refs, buckets, classes, start),
+        Err(answer) => answer,
+    }
+}
+
 // Reads a dump. Stores its rows at the start of `rows`, `table::ROW_WIDTH` numbers each, its references at the start of `refs`, and the
 // class summaries of the rows stored at the start of `classes`; the rest of all three is unchanged.
 pub fn read(
@@ -69,8 +86,5 @@ pub fn read(
         × (classes.new ≡ overwrite classes.old (summaries (rows_of (classes_result dump.now (length rows.old) (length refs.old) (length classes.old)).rows))) }
 {
     let mut buckets = [Bucket::EMPTY; summary_index::LEN];
-    match begin::begin(dump) {
-        Ok(start) => read_from(dump, rows, refs, &mut buckets, classes, start),
-        Err(answer) => answer,
-    }
+    read_with(dump, rows, refs, &mut buckets, classes)
 }

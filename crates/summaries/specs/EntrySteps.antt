@@ -18,6 +18,17 @@ numbers (Primitive prim) = record { mark = 1; class = prim }
 abbrev pub key_of_row : Row → Option Key
 key_of_row r = cond (is_kind 1 r) None (cond (is_kind 4 r) (Some (Primitive r.prim)) (Some (Class r.class)))
 
+-- An entry with one more instance, which adds so many bytes, references and objects that wait.
+abbrev pub with_amounts : Summary → (bytes refs waiting : ℕ) → Summary
+with_amounts s bytes refs waiting = record {
+  class = s.class;
+  mark = s.mark;
+  instances = (s.instances + 1) % 2 ^ 64;
+  bytes = (s.bytes + bytes) % 2 ^ 64;
+  refs = (s.refs + refs) % 2 ^ 64;
+  waiting = (s.waiting + waiting) % 2 ^ 64;
+}
+
 -- An entry with one more row.
 abbrev pub with_row : Summary → Row → Summary
 with_row s r = record {

@@ -4,7 +4,7 @@
 
 ghost use Rattle.std.specs.Prelude.{◌≡◌};
 ghost use Rattle.summaries.specs.Summaries.{same_key, its_key, fresh};
-ghost use Rattle.summaries.specs.EntrySteps.{numbers, key_of_row, with_row, with_sizes, product};
+ghost use Rattle.summaries.specs.EntrySteps.{numbers, key_of_row, with_amounts, with_row, with_sizes, product};
 
 use table::Row;
 
@@ -78,12 +78,32 @@ impl Summary {
         }
     }
 
-    // Checks whether the entry is of a key.
+    // Checks whether the entry has this class word or primitive type, and this mark.
     #[tactic(auto, unfolding(crate::specs::Summaries::same_key))]
+    pub fn has_numbers(self, class: u64, mark: u64) -> bool
+        ensures { result ≡ same_key (record { mark = mark; class = class }) (its_key self) }
+    {
+        mark == self.mark && class == self.class
+    }
+
+    // Checks whether the entry is of a key.
     pub fn is_of(self, key: Key) -> bool
         ensures { result ≡ same_key (numbers key) (its_key self) }
     {
-        key.mark() == self.mark && key.class() == self.class
+        self.has_numbers(key.class(), key.mark())
+    }
+
+    // Returns the entry with one more instance, which adds so many bytes, references and objects that wait. The sums wrap around.
+    pub fn with_amounts(self, bytes: u64, refs: u64, waiting: u64) -> Summary
+        ensures { result ≡ with_amounts self bytes refs waiting }
+    {
+        Summary {
+            instances: self.instances.wrapping_add(1),
+            bytes: self.bytes.wrapping_add(bytes),
+            refs: self.refs.wrapping_add(refs),
+            waiting: self.waiting.wrapping_add(waiting),
+            ..self
+        }
     }
 
     // Returns the entry with one more row, which is not a class row. An object waits for its class row; an array has its bytes.
@@ -92,13 +112,7 @@ impl Summary {
     {
         let waits = row.kind == 2;
         let bytes = if waits { 0 } else { row.size.wrapping_mul(4) };
-        Summary {
-            instances: self.instances.wrapping_add(1),
-            bytes: self.bytes.wrapping_add(bytes),
-            refs: self.refs.wrapping_add(row.count),
-            waiting: self.waiting.wrapping_add(u64::from(waits)),
-            ..self
-        }
+        self.with_amounts(bytes, row.count, u64::from(waits))
     }
 
     // Returns the entry when the class row of its objects is found: each of those that wait has so many bytes.

@@ -1,8 +1,10 @@
--- The search for a key, bucket by bucket, as the loop of `find` goes.
+-- The search for a key, bucket by bucket, as the loop of `find` goes; and that no bucket has a key whose mark is neither 0 nor 1.
 -- Assumes nothing.
-use Rattle.std.proofs.Common.{◌≡◌, ℕ, suc, ◌+◌, ◌-◌, ◌≤◌, ◌<◌, List, sym, ◌∙◌, arith}
-use Rattle.std.specs.Prelude.{Some, None}
+use Rattle.std.proofs.Common.{◌≡◌, ℕ, zero, suc, ◌+◌, ◌-◌, ◌≤◌, ◌<◌, false, List, refl, sym, ◌∙◌, arith, ne_eqb}
+use Rattle.std.specs.Prelude.{Option, Some, None}
 use Rattle.summaries.specs.declared.Key.{Key}
+use Rattle.summaries.specs.declared.Key.TheVariants.{Class, Primitive}
+use Rattle.summaries.specs.Summaries.{Key as DefinedKey, same_key}
 use Rattle.summaries.specs.SummaryKeys.{same_self}
 use Rattle.summaries.specs.EntrySteps.{numbers, numbers_differ}
 use Rattle.summary_index.specs.declared.Bucket.{Bucket}
@@ -42,3 +44,23 @@ module _ (buckets : List Bucket) (k : Key) where
         -- Any other bucket is passed over.
         pub find_next : (j ≡ k → ⊥) → FindLeft (at + 1)
         find_next n = record { same = rw (step, is, numbers_differ j k n) }
+
+-- A key whose mark is neither 0 nor 1 is in no bucket.
+module _ (buckets : List Bucket) (k : DefinedKey) (other : 1 < k.mark) where
+  differs : (j : Key) → same_key (numbers j) k ≡ false
+  unfolding same_key
+  differs (Class class) = rw (ne_eqb 0 k.mark (λ e. omega arith))
+  differs (Primitive prim) = rw (ne_eqb 1 k.mark (λ e. omega arith))
+
+  none_from : (b n : ℕ) → find_from buckets k b n ≡ None
+  unfolding find_from
+  none_from b zero = refl
+  none_from b (suc n) = by (bucket_key (bucket_at buckets b)) (none_from (b + 1) n)
+    where
+      by : (o : Option Key) → find_from buckets k (b + 1) n ≡ None → search_step k o (bucket_at buckets b).entry (find_from buckets k (b + 1) n) ≡ None
+      by None h = refl
+      by (Some j) h = rw (differs j) h
+
+  pub find_nothing : find buckets k ≡ None
+  unfolding find
+  find_nothing = none_from (first_bucket k) 64

@@ -6,7 +6,7 @@
 
 ghost use Rattle.std.specs.Prelude.{◌≡◌, ◌^◌, ◌<◌};
 ghost use Rattle.summaries.specs.EntrySteps.{numbers};
-ghost use Rattle.summary_index.specs.SummaryIndex.{first_bucket, bucket_key, bucket_of, bucket_at, find};
+ghost use Rattle.summary_index.specs.SummaryIndex.{make_key, first_bucket, bucket_key, bucket_of, bucket_at, find};
 ghost use Rattle.summary_index.specs.EnterKey.{EntersKey};
 
 use summaries::Key;
@@ -99,6 +99,18 @@ pub fn find(buckets: &[Bucket], key: Key) -> Option<usize>
         }
     }
     None
+}
+
+// Returns the index of the entry of a key with this class word or primitive type and this mark, whatever the buckets hold. No bucket has a
+// key whose mark is neither 0 nor 1.
+pub fn find_numbers(buckets: &[Bucket], class: u64, mark: u64) -> Option<usize>
+    ensures { result ≡ find buckets.now (make_key class mark) }
+{
+    match mark {
+        0 => find(buckets, Key::Class(class)),
+        1 => find(buckets, Key::Primitive(class)),
+        _ => None,
+    }
 }
 
 // Enters the key of an entry in the first empty bucket of those that its search looks at. Returns whether there was one.

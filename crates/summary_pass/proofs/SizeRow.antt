@@ -2,6 +2,7 @@
 -- Assumes nothing.
 use Rattle.std.proofs.Common.{◌≡◌, ℕ, zero, suc, ◌+◌, ◌-◌, ◌≤◌, ◌<◌, Bool, true, false, cond, List, [], ◌∷◌, ◌++◌, length, take, map, refl, sym, ◌∙◌, append-nil, arith, take-suc}
 use Rattle.std.proofs.Math.ListN.{length-set}
+use Rattle.table.specs.Table.{row_count}
 use Rattle.table.specs.Rows.{zero_row, is_kind, row_at, rows_of, nth, length_rows, nth_row}
 use Rattle.table.specs.declared.Row.{Row}
 use Rattle.summaries.specs.declared.Summary.{Summary}
@@ -10,7 +11,7 @@ use Rattle.summaries.specs.ClassRowsLast.{class_rows, class_rows_append, entries
 use Rattle.summaries.specs.EntryBounds.{SmallRow}
 use Rattle.summary_index.specs.declared.Bucket.{Bucket}
 use Rattle.summary_pass.specs.declared.Tally.{Tally}
-use Rattle.summary_pass.specs.PassState.{place_of, keys_counted, TallyHolds, ListHolds, Sized, SizedAll}
+use Rattle.summary_pass.specs.PassState.{place_of, keys_counted, TallyHolds, ListHolds, CanSize, Sized, SizedAll}
 use Rattle.summary_pass.specs.PassSteps.{entries_keys, entries_length, sized_list, sized_there, sized_nowhere}
 
 -- No class row among n rows from row i on.
@@ -54,20 +55,30 @@ module _ {rows : List ℕ} {buckets : List Bucket} {t : Tally} (w : TallyHolds r
       let e = none_between rs t.above (t.counted - t.above) (omega arith) (λ j x y k. let m = w.class_rows j (omega arith) k in omega (arith, m.1)) in
       rw (← (rw z at e)) (entries_done rs t.counted)
 
-  pub sizes_start : {classes : List Summary} → ListHolds rows classes t 0 → Sized rows classes t t.lowest classes
-  sizes_start v = record { list = record { entries = v.entries ∙ sym sized_lowest; used_in = v.used_in }; rest = refl }
+  pub list_lowest : {classes : List Summary} → ListHolds rows classes t 0 → ListHolds rows classes t t.lowest
+  list_lowest v = record { entries = v.entries ∙ sym sized_lowest; used_in = v.used_in }
 
   pub sizes_end : {classes classes' : List Summary} → Sized rows classes t t.above classes' → SizedAll rows classes t classes'
   sizes_end s = record { entries = s.list.entries ∙ sized_above; rest = s.rest }
 
+  -- The class rows among the rows counted can be gone over.
+  pub can_size_counted : CanSize rows t.above
+  can_size_counted = record {
+    to_in = omega (arith, w.counted_in, w.class_rows_in);
+    small = λ i l. w.small i (omega (arith, w.class_rows_in));
+  }
+
   -- One more row.
-  module _ {classes : List Summary} {i : ℕ} (v : ListHolds rows classes t i) (l : i < t.counted) where
+  module _ {classes : List Summary} {i : ℕ} (v : ListHolds rows classes t i) (can : CanSize rows (i + 1)) where
+    row_in : i < row_count rows
+    row_in = omega (arith, can.to_in)
+
     row_in_list : i < length rs
-    row_in_list = let c = counted_length in omega arith
+    row_in_list = rw (length_rows rows) row_in
 
     -- The row read is this one.
     pub row_is : {row : Row} → row ≡ row_at rows i → row ≡ nth rs i
-    row_is e = e ∙ sym (nth_row rows i (omega (arith, w.counted_in)))
+    row_is e = e ∙ sym (nth_row rows i row_in)
 
     next_row : i + 1 ≡ suc i
     next_row = omega arith
@@ -91,7 +102,7 @@ module _ {rows : List ℕ} {buckets : List Bucket} {t : Tally} (w : TallyHolds r
       first = rw (entries_used i) v.entries
 
       small_rows : (n : ℕ) → n < length rs → n < suc i → SmallRow (nth rs n)
-      small_rows n a b = w.small n (omega arith)
+      small_rows n a b = can.small n (omega arith)
 
       -- Its objects have no entry.
       pub class_nowhere : t.used ≤ at → Sized rows classes t (i + 1) classes
@@ -106,3 +117,13 @@ module _ {rows : List ℕ} {buckets : List Bucket} {t : Tally} (w : TallyHolds r
             list = record { entries = rw next_row (rw (entries_used (suc i)) at s.entries); used_in = rw (length-set classes at _) v.used_in };
             rest = rw (entries_used (suc i)) at s.rest;
           }
+
+-- ---- several rows
+
+-- No row gone over.
+pub sized_none : {rows : List ℕ} {classes : List Summary} {t : Tally} {i : ℕ} → ListHolds rows classes t i → Sized rows classes t i classes
+sized_none v = record { list = v; rest = refl }
+
+-- Rows before others that can be gone over can be.
+pub can_size_sooner : {rows : List ℕ} {to : ℕ} → CanSize rows to → (n : ℕ) → n ≤ to → CanSize rows n
+can_size_sooner can n l = record { to_in = omega (arith, can.to_in); small = λ i m. can.small i (omega arith) }

@@ -68,6 +68,11 @@ pub record Counted (rows : List ℕ) (classes : List Summary) (t : Tally) (end :
   pub used_le : t.used ≤ t'.used
   pub rest : drop t'.used classes' ≡ drop t'.used classes
 
+-- The objects that wait can be given their bytes by the class rows before row `to`: there are so many rows, and their numbers are small.
+pub record CanSize (rows : List ℕ) (to : ℕ) : Type 0 where
+  pub to_in : to ≤ row_count rows
+  pub small : (i : ℕ) → i < to → SmallRow (nth (rows_of rows) i)
+
 -- The class rows among the first z rows have sized the entries in use, and no other entry has changed.
 pub record Sized (rows : List ℕ) (classes : List Summary) (t : Tally) (z : ℕ) (classes' : List Summary) : Type 0 where
   pub list : ListHolds rows classes' t z

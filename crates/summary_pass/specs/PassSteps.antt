@@ -89,9 +89,13 @@ module _ (rs : List Row) (i : ℕ) (l : i < length rs) (ys : List Summary) (smal
     seek_at : seek (key_of r) ss ≡ at
     seek_at = seek_place (key_of r) ss
 
+    -- If its key has an entry, the entries after the row are those before it, with the row in that one.
+    pub counted_entries : at < length ss → next ≡ set ss at (f (get_or ss at blank))
+    counted_entries m = count_other rs i l e ∙ (add_at (key_of r) blank f ss (rw seek_at m) ∙ rw seek_at)
+
     pub counted_there : at < length ss → (length next ≡ length ss) × ListStep ys (counted_list ys at (length ss) (key_of r) r) next
     counted_there m =
-        let q : next ≡ set ss at (f (get_or ss at blank)) = count_other rs i l e ∙ (add_at (key_of r) blank f ss (rw seek_at m) ∙ rw seek_at) in
+        let q : next ≡ set ss at (f (get_or ss at blank)) = counted_entries m in
         let n : length next ≡ length ss = ap length q ∙ length-set ss at _ in
         let g : get_or next at blank ≡ f (get_or ss at blank) = ap (λ (zs : List Summary). get_or zs at blank) q ∙ get_or-set_same ss at _ blank m in
         let s : SmallEntry (f (get_or ss at blank)) = rw g at (next_small at (rw n m)) in

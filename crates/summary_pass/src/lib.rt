@@ -3,9 +3,9 @@
 // be summed up last (`class_rows_last` in crates/summaries/specs/ClassRowsLast.antt).
 #![tactic(auto)]
 
-ghost use Rattle.std.specs.Prelude.{◌≡◌, ◌+◌, ◌≤◌, ◌<◌};
+ghost use Rattle.std.specs.Prelude.{◌≡◌, ◌+◌, ◌≤◌};
 ghost use Rattle.summaries.specs.EntrySteps.{numbers};
-ghost use Rattle.summary_pass.specs.PassState.{first_tally, FromBefore, TallyHolds, ListHolds, CanCount, Counted, Sized, SizedAll};
+ghost use Rattle.summary_pass.specs.PassState.{first_tally, FromBefore, TallyHolds, ListHolds, CanCount, CanSize, Counted, Sized, SizedAll};
 
 use summaries::{Key, Summary};
 use summary_index::Bucket;
@@ -116,7 +116,7 @@ impl Tally {
 
     // Gives the objects that wait for row i their bytes, if it is a class row.
     fn size_row(self, rows: &[u64], buckets: &[Bucket], classes: &mut [Summary], i: usize)
-        requires { TallyHolds rows.now buckets.now self × ListHolds rows.now classes.old self i × (i < self.counted) }
+        requires { TallyHolds rows.now buckets.now self × ListHolds rows.now classes.old self i × CanSize rows.now (i + 1) }
         ensures { Sized rows.now classes.old self (i + 1) classes.new }
     {
         let row = table::row_at(rows, i);
@@ -130,13 +130,29 @@ impl Tally {
         }
     }
 
+    // Gives the objects that wait their bytes, by the class rows from row `from` up to row `to`. The class rows before row `from` have been
+    // gone over.
+    pub fn size_rows_between(
+        self,
+        rows: &[u64],
+        buckets: &[Bucket],
+        classes: &mut [Summary],
+        from: usize,
+        to: usize,
+    )
+        requires { TallyHolds rows.now buckets.now self × ListHolds rows.now classes.old self from × (from ≤ to) × CanSize rows.now to }
+        ensures { Sized rows.now classes.old self to classes.new }
+    {
+        for i in from..to {
+            self.size_row(rows, buckets, classes, i);
+        }
+    }
+
     // Gives the objects that wait their bytes, by the class rows.
     pub fn size_rows(self, rows: &[u64], buckets: &[Bucket], classes: &mut [Summary])
         requires { TallyHolds rows.now buckets.now self × ListHolds rows.now classes.old self 0 }
         ensures { SizedAll rows.now classes.old self classes.new }
     {
-        for i in self.lowest..self.above {
-            self.size_row(rows, buckets, classes, i);
-        }
+        self.size_rows_between(rows, buckets, classes, self.lowest, self.above);
     }
 }

@@ -69,34 +69,34 @@ module _ (s : Progress) (dump rows refs : List ℕ) (f : Record) (n : ℕ) (is :
 
 pub returns-in-Ok-None : goal.returns-in-Ok-None
 returns-in-Ok-None c row g =
-    let read = rw c.in-Ok-None.field-0-is at c.in-Ok-None.ensures in
+    let read = rw c.in-Ok-None.field-0-is at c.in-Ok-None.ensures.reads in
     let e = rw g.is at read.value in
     let z : ◌≡◌ {A = ℕ} 0 1 = cc in
     absurd (omega arith)
 
 pub returns-in-Err : goal.returns-in-Err
 returns-in-Err c row g =
-    let e = rw g.is at c.in-Err.ensures.value in
+    let e = rw g.is at c.in-Err.ensures.reads.value in
     let z : ◌≡◌ {A = ℕ} 0 1 = cc in
     absurd (omega arith)
 
 pub returns-then-left-found : goal.returns-then-left-found
 returns-then-left-found c row g =
     let a = c.args in
-    let read = c.in-Ok-Some.ensures in
+    let read = c.in-Ok-Some.ensures.reads in
     let e = fitting_count a.s a.dump.now a.rows.now a.refs.now c.in-Ok-Some.found _ (sym (rw c.in-Ok-Some.field-0-is at read.value)) row g in
     absurd (omega (arith, g.refs_fit))
 
 pub row_at-requires : goal.row_at-requires
 row_at-requires c =
     let a = c.args in
-    let read = rw c.in-Ok-Some.field-0-is at c.in-Ok-Some.ensures in
+    let read = rw c.in-Ok-Some.field-0-is at c.in-Ok-Some.ensures.reads in
     row_whole a.s a.dump.now a.rows.now a.refs.now c.in-Ok-Some.found _ (sym read.value)
 
 pub returns-in-Some : goal.returns-in-Some
 returns-in-Some c =
     let a = c.args in
-    let read = rw c.in-Ok-Some.field-0-is at c.in-Ok-Some.ensures in
+    let read = rw c.in-Ok-Some.field-0-is at c.in-Ok-Some.ensures.reads in
     let key = rw c.row_at.ensures at (sym c.of_row.ensures ∙ c.in-Some.is) in
     needed a.s a.dump.now a.rows.now a.refs.now c.in-Ok-Some.found _ (sym read.value)
     (omega (arith, c.requires.0.rows_in, c.if-rows-k-lt-ROW_WIDTH.false)) (omega (arith, c.requires.0.refs_in, c.if-left-found.false)) c.in-Some.key key c.has_entry.result c.has_entry.ensures
@@ -104,6 +104,6 @@ returns-in-Some c =
 pub returns-in-None : goal.returns-in-None
 returns-in-None c =
     let a = c.args in
-    let read = rw c.in-Ok-Some.field-0-is at c.in-Ok-Some.ensures in
+    let read = rw c.in-Ok-Some.field-0-is at c.in-Ok-Some.ensures.reads in
     let none = rw c.row_at.ensures at (sym c.of_row.ensures ∙ c.in-None.is) in
     class_needs_none a.s a.dump.now a.rows.now a.refs.now c.in-Ok-Some.found _ (sym read.value) none

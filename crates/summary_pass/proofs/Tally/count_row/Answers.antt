@@ -1,7 +1,7 @@
 -- A class row widens the range of class rows; the entry of any other row is at the place of its key.
 use Rattle.std.proofs.Common.{sym, ◌∙◌, arith}
 use Rattle.summary_pass.proofs.FromEntry.{found_place}
-use Rattle.summary_pass.proofs.CountRow.{no_key_next, some_key_next, class_counted, old_counted, new_counted, at_in, at_few}
+use Rattle.summary_pass.proofs.CountRow.{no_key_next, some_key_next, class_counted, old_counted, new_counted, at_few}
 use Rattle.summary_pass.proofs.Tally.count_row.Goals as goal
 
 pub returns-then-self-eq0 : goal.returns-then-self-eq0
@@ -13,12 +13,6 @@ pub returns-else-self-eq0 : goal.returns-else-self-eq0
 returns-else-self-eq0 c =
     let r = c.requires in
     class_counted r.0 r.1 r.2 (no_key_next r.0 r.1 r.2 c.row_at-row.ensures (sym c.of_row.ensures ∙ c.in_default.is)) _ (omega (arith, r.0.lowest_in)) (λ n. omega arith)
-
-pub count_row-requires : goal.count_row-requires
-count_row-requires c =
-    let r = c.requires in
-    let k = some_key_next r.0 r.1 r.2 c.row_at-row.ensures c.in-Some.key (sym c.of_row.ensures ∙ c.in-Some.is) in
-    at_in r.0 r.1 r.2 c.in-Some.key k.0 k.1 _ (c.find_entry-at.ensures ∙ found_place r.0 r.1 _ _ c.seek_from-from.ensures)
 
 pub returns-then-at-self : goal.returns-then-at-self
 returns-then-at-self c =

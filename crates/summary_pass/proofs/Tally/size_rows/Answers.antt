@@ -1,12 +1,9 @@
 -- The pass begins before the first class row and ends after the last.
-use Rattle.std.proofs.Common.{◌≡◌, arith}
-use Rattle.summary_pass.proofs.SizeRow.{sizes_start, sizes_end}
+use Rattle.summary_pass.proofs.SizeRow.{list_lowest, can_size_counted, sizes_end}
 use Rattle.summary_pass.proofs.Tally.size_rows.Goals as goal
 
-pub loop-i-init : goal.loop-i-init
-loop-i-init c = sizes_start c.requires.0 c.requires.1
+pub size_rows_between-requires : goal.size_rows_between-requires
+size_rows_between-requires c = let w = c.requires.0 in (w, list_lowest w c.requires.1, w.range_in, can_size_counted w)
 
 pub returns : goal.returns
-returns c =
-    let e : c.loop-i.i ≡ c.args.self.above = omega (arith, c.requires.0.range_in) in
-    sizes_end c.requires.0 (rw e at c.loop-i.invariant)
+returns c = sizes_end c.requires.0 c.size_rows_between.ensures
