@@ -14,7 +14,7 @@ use Rattle.table.specs.Table.{row_count}
 use Rattle.table.specs.Rows.{row_at, rows_of, length_rows, nth_row, nth, is_kind}
 use Rattle.table.specs.declared.Row.{Row}
 use Rattle.std.specs.Prelude.{Option, Some, None}
-use Rattle.class_index.specs.ClassIndex.{search_buckets, at_or_before, row_certified, CertifiedFrom, IndexHolds}
+use Rattle.class_index.specs.ClassIndex.{search_buckets, at_or_before, row_certified, CertifiedFrom, BucketsHold, IndexHolds}
 use Rattle.class_index.proofs.Certified.{certified_finds}
 use Rattle.class_index.specs.Entering.{KeepsFound}
 
@@ -65,9 +65,13 @@ module _ (table : List ℕ) where
       each : certified ≡ true → CertifiedFrom (rows_of table) buckets (i - 1)
       each t k l n = ⊎_elim (λ q. rw (← q) (here t)) (λ q. z.each t k (omega arith) n) (eq-or-lt_of_le l)
 
-  -- At the start of the table, certified buckets make a certified class index.
-  pub entered_end : (buckets : Bor (List ℕ)) (i : ℕ) → i ≡ 0 → EnteredFrom (rows_of table) buckets.now i true → IndexHolds (rows_of table) (Some buckets)
-  entered_end buckets i e z = record { finds = λ b q a. let s : buckets ≡ b = cc in rw (← s) (certified_finds (rows_of table) buckets.now (rw e at (z.each refl)) a) }
+  -- At the start of the table, certified buckets find every class row.
+  pub entered_end : (buckets : List ℕ) (i : ℕ) (certified : Bool) → i ≡ 0 → EnteredFrom (rows_of table) buckets i certified → BucketsHold (rows_of table) buckets certified
+  entered_end buckets i certified e z = record { finds = λ t. certified_finds (rows_of table) buckets (rw e at (z.each t)) }
+
+-- Buckets that are certified make a class index.
+pub certified_index : (rows : List Row) (buckets : Bor (List ℕ)) (certified : Bool) → BucketsHold rows buckets.now certified → certified ≡ true → IndexHolds rows (Some buckets)
+certified_index rows buckets certified h t = record { finds = λ b q a. let s : buckets ≡ b = cc in rw (← s) (h.finds t a) }
 
 -- Without buckets there is no class index.
 pub no_index : (rows : List Row) → IndexHolds rows None

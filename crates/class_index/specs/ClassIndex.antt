@@ -43,6 +43,10 @@ row_certified rows buckets i = cond (is_kind 1 (nth rows i)) (at_or_before i (se
 abbrev pub CertifiedFrom : List Row → (buckets : List ℕ) → ℕ → Type 0
 CertifiedFrom rows buckets i = (k : ℕ) → i ≤ k → k < length rows → row_certified rows buckets k ≡ true
 
+-- If the buckets are certified, searching them for any address is the class search.
+pub record BucketsHold (rows : List Row) (buckets : List ℕ) (certified : Bool) : Type 0 where
+  pub finds : certified ≡ true → (a : ℕ) → search_buckets rows buckets a ≡ class_at rows a
+
 -- Searching the buckets, where there are certified ones, for any address is the class search.
 pub record IndexHolds (rows : List Row) (certified : Option (Bor (List ℕ))) : Type 0 where
   pub finds : (buckets : Bor (List ℕ)) → certified ≡ Some buckets → (a : ℕ) → search_buckets rows buckets.now a ≡ class_at rows a

@@ -1,5 +1,5 @@
 // Finds class rows: by the class index if it is certified, else row by row.
-ghost use Rattle.std.specs.Prelude.{◌≡◌, ◌↔◌, ℕ, ◌^◌, ◌<◌, IsTrue, IsSome, Some};
+ghost use Rattle.std.specs.Prelude.{◌≡◌, ◌↔◌, ℕ, ◌^◌, ◌<◌, IsTrue, IsSome, Some, None};
 ghost use Rattle.table.specs.Table.{row_count};
 ghost use Rattle.table.specs.Rows.{rows_of};
 ghost use Rattle.table.specs.RowBytes.{class_at};
@@ -7,8 +7,9 @@ ghost use Rattle.classic.specs.ClassicText.{class_of};
 ghost use Rattle.classic.specs.PrimitiveClasses.{PrimitiveClasses};
 ghost use Rattle.classic.specs.RowBounds.{AllNumbersInBounds, all_numbers_prop};
 ghost use Rattle.class_index.specs.ClassIndex.{IndexHolds};
-ghost use Rattle.class_index.specs.LastSearch.{LastSearchHolds};
+ghost use Rattle.class_index.specs.LastSearch.{LastSearchHolds, search_for};
 
+use super::Classes;
 use table::Row;
 
 // A search that found a class row: the class word that was searched for, and the index of the row.
@@ -37,23 +38,17 @@ impl<'a> ClassFinder<'a> {
     ghost use Rattle.class_index.specs.Tables.{SameTables};
 
     // Enters all class rows into the buckets, whose index is searched only if that makes it certified, and finds the class words of
-    // primitive arrays: the address of the first class row with the name of the type, 0 if there is none. One pass, from the last row
-    // to the first: of several class rows with one address or one name, the first is entered last.
+    // primitive arrays (`enter_classes`).
     pub fn new(names: &'a [u8], rows: &'a [u64], buckets: &'a mut [u32]) -> ClassFinder<'a>
         requires rows_bound { row_count rows.now < 2 ^ 31 }
         requires all_numbers_in_bounds { AllNumbersInBounds names.now (rows_of rows.now) }
         ensures names { result.names.now ≡ names.now }
         ensures rows { result.rows.now ≡ rows.now }
     {
-        let mut certified = true;
-        let mut primitives = [0; 8];
-        for i in (0..rows.len() / table::ROW_WIDTH).rev() {
-            let row = table::row_at(rows, i);
-            if certified && row.kind == 1 {
-                certified = super::enter_and_check(rows, buckets, i, row.address);
-            }
-            classic::primitives::enter_row(names, row, &mut primitives);
-        }
+        let Classes {
+            certified,
+            primitives,
+        } = super::enter_classes(names, rows, buckets);
         let buckets: Option<&[u32]> = if certified { Some(buckets) } else { None };
         ClassFinder {
             names,
@@ -71,14 +66,12 @@ impl<'a> ClassFinder<'a> {
         self.buckets.is_some()
     }
 
-    // Returns the first class row with this address: by the class index if it is certified, else row by row.
-    fn search(&self, class: u64) -> Option<usize>
-        ensures { result ≡ class_at (rows_of self.now.rows.now) class }
+    // Returns the search for a class word, or `None` if no class row has it. Looks at a last search first.
+    pub fn search(&self, class: u64, last: Option<LastSearch>) -> Option<LastSearch>
+        requires { LastSearchHolds (rows_of self.now.rows.now) last }
+        ensures { result ≡ search_for (rows_of self.now.rows.now) class }
     {
-        match self.buckets {
-            Some(buckets) => super::search_buckets(self.rows, buckets, class),
-            None => classic::class_at(self.rows, class),
-        }
+        super::search_class(self.rows, self.buckets, class, last)
     }
 
     // Returns the class row of a class word: the first class row with this address. Looks at the last search first: if it was for the
@@ -86,17 +79,13 @@ impl<'a> ClassFinder<'a> {
     pub fn find(&mut self, class: u64) -> Option<usize>
         ensures found { result ≡ class_at (rows_of self.old.rows.now) class }
         ensures kept { (i : ℕ) → result ≡ Some i → self.new.last ≡ Some (record { class = class; row = i }) }
+        ensures left { result ≡ None → self.new.last ≡ self.old.last }
         ensures tables { SameTables self.old self.new }
         ensures index { (self.new.buckets ≡ self.old.buckets) × (self.new.primitives ≡ self.old.primitives) }
     {
-        if let Some(last) = self.last {
-            if last.class == class {
-                return Some(last.row);
-            }
-        }
-        let row = self.search(class)?;
-        self.last = Some(LastSearch { class, row });
-        Some(row)
+        let search = self.search(class, self.last)?;
+        self.last = Some(search);
+        Some(search.row)
     }
 
     // Returns the class word that a row's second line shows.
@@ -104,10 +93,6 @@ impl<'a> ClassFinder<'a> {
         requires { row.prim < 8 }
         ensures { result ≡ class_of self.now.names.now (rows_of self.now.rows.now) row }
     {
-        if row.kind == 4 {
-            self.primitives[row.prim as usize]
-        } else {
-            row.class
-        }
+        classic::primitives::class_of(&self.primitives, row)
     }
 }

@@ -1,14 +1,21 @@
 // The class index: a hash table of the class rows by address, in memory that the caller passes. A bucket of it holds 0 or one more than
-// the index of a row. Nothing is believed of the hash: `ClassFinder::new` enters each class row and then checks that the search for its
+// the index of a row. Nothing is believed of the hash: `enter_classes` enters each class row and then checks that the search for its
 // address finds it. Only if every class row passes this test, which makes the class index certified, is it searched; otherwise a class
 // is searched for row by row.
 // Defined in specs/ClassIndex.antt; proofs/Certified.antt has the theorem that a search by a certified class index is the class search.
 #![tactic(auto)]
 
 ghost use Rattle.std.specs.Prelude.{◌≡◌, true, ◌+◌, ◌^◌, ◌<◌, length, take, drop};
+ghost use Rattle.table.specs.Table.{row_count};
 ghost use Rattle.table.specs.Rows.{rows_of};
-ghost use Rattle.class_index.specs.ClassIndex.{first_bucket, is_class_row, search_buckets, at_or_before};
+ghost use Rattle.table.specs.RowBytes.{class_at};
+ghost use Rattle.classic.specs.PrimitiveClasses.{PrimitiveClasses};
+ghost use Rattle.classic.specs.RowBounds.{AllNumbersInBounds};
+ghost use Rattle.class_index.specs.ClassIndex.{first_bucket, is_class_row, search_buckets, at_or_before, BucketsHold, IndexHolds};
 ghost use Rattle.class_index.specs.Entering.{KeepsFound};
+ghost use Rattle.class_index.specs.LastSearch.{LastSearchHolds, search_for};
+
+use finder::LastSearch;
 
 pub mod finder;
 
@@ -20,6 +27,14 @@ const PROBES: usize = 64;
 pub const SMALL: usize = 0x4000 + PROBES;
 
 pub const LARGE: usize = 0x2_0000 + PROBES;
+
+// What a pass that enters the class rows finds, beside the buckets: whether these are certified, and the class words of primitive
+// arrays, by type.
+#[derive(Clone, Copy)]
+pub struct Classes {
+    pub certified: bool,
+    pub primitives: [u64; 8],
+}
 
 // Returns the bucket, of n, at which the search for an address begins.
 #[tactic(auto, unfolding(crate::specs::ClassIndex::first_bucket))]
@@ -101,4 +116,60 @@ fn enter_and_check(rows: &[u64], buckets: &mut [u32], i: usize, address: u64) ->
 {
     enter_class(rows, buckets, i, address);
     search_buckets(rows, buckets, address).is_some_and(|j| j <= i)
+}
+
+// Enters all class rows into the buckets, and returns whether that made a certified class index, and the class words of primitive
+// arrays, by type: the address of the first class row with the name of the type, 0 if there is none. One pass, from the last row to the
+// first: of several class rows with one address or one name, the first is entered last.
+pub fn enter_classes(names: &[u8], rows: &[u64], buckets: &mut [u32]) -> Classes
+    requires rows_bound { row_count rows.now < 2 ^ 31 }
+    requires all_numbers_in_bounds { AllNumbersInBounds names.now (rows_of rows.now) }
+    ensures primitives { PrimitiveClasses names.now (rows_of rows.now) result.primitives }
+    ensures buckets { BucketsHold (rows_of rows.now) buckets.new result.certified }
+{
+    let mut certified = true;
+    let mut primitives = [0; 8];
+    for i in (0..rows.len() / table::ROW_WIDTH).rev() {
+        let row = table::row_at(rows, i);
+        if certified && row.kind == 1 {
+            certified = enter_and_check(rows, buckets, i, row.address);
+        }
+        classic::primitives::enter_row(names, row, &mut primitives);
+    }
+    Classes {
+        certified,
+        primitives,
+    }
+}
+
+// Returns the first class row with this address: by the buckets if there are certified ones, else row by row.
+fn find_class(rows: &[u64], certified: Option<&[u32]>, address: u64) -> Option<usize>
+    requires { IndexHolds (rows_of rows.now) certified }
+    ensures { result ≡ class_at (rows_of rows.now) address }
+{
+    match certified {
+        Some(buckets) => search_buckets(rows, buckets, address),
+        None => classic::class_at(rows, address),
+    }
+}
+
+// Returns the search for a class word, or `None` if no class row has it. Looks at the last search first: if it was for the same class
+// word, it is that search.
+pub fn search_class(
+    rows: &[u64],
+    certified: Option<&[u32]>,
+    class: u64,
+    last: Option<LastSearch>,
+) -> Option<LastSearch>
+    requires index_holds { IndexHolds (rows_of rows.now) certified }
+    requires last_search_holds { LastSearchHolds (rows_of rows.now) last }
+    ensures { result ≡ search_for (rows_of rows.now) class }
+{
+    if let Some(search) = last {
+        if search.class == class {
+            return last;
+        }
+    }
+    let row = find_class(rows, certified, class)?;
+    Some(LastSearch { class, row })
 }

@@ -1,7 +1,7 @@
 // The class words of primitive arrays: for each type the address of the first class row that is named as the type, such as `[C`.
 ghost use Rattle.std.specs.Prelude.{◌≡◌, ◌+◌, ◌≤◌, ◌<◌, ◌==◌, length, get_or, position};
 ghost use Rattle.classic.specs.ClassicText.{letters};
-ghost use Rattle.classic.specs.PrimitiveClasses.{NamesPrim, Entered};
+ghost use Rattle.classic.specs.PrimitiveClasses.{NamesPrim, Entered, class_from};
 
 use table::Row;
 
@@ -45,5 +45,17 @@ pub fn enter_row(names: &[u8], row: Row, classes: &mut [u64; 8])
         if let Some(prim) = prim_named(super::name_of(names, row)) {
             classes[prim] = row.address;
         }
+    }
+}
+
+// Returns the class word that a row's second line shows. `classes` are the class words of primitive arrays, by type.
+pub fn class_of(classes: &[u64; 8], row: Row) -> u64
+    requires { row.prim < 8 }
+    ensures { result ≡ class_from classes.now row }
+{
+    if row.kind == 4 {
+        classes[row.prim as usize]
+    } else {
+        row.class
     }
 }

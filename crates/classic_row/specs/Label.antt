@@ -49,8 +49,9 @@ module _ (names : List ℕ) (rows : List Row) (r : Row) where
     primitive_label k b n = (rw k, record { bytes = b ∙ rw k; type_is = n ∙ rw k; letter = letter })
 
   module _ (k : KnownKind r) (not_class : r.kind ≡ 1 → ⊥) (not_primitive : r.kind ≡ 4 → ⊥) where
-    needs : needs_class r ≡ true
-    needs = by (eqb r.kind 2) refl
+    -- Such a row needs a class row.
+    pub needs_class_row : needs_class r ≡ true
+    needs_class_row = by (eqb r.kind 2) refl
       where
         by : (b : Bool) → eqb r.kind 2 ≡ b → b || eqb r.kind 3 ≡ true
         by true e = refl
@@ -59,20 +60,20 @@ module _ (names : List ℕ) (rows : List Row) (r : Row) where
     -- An object or object array whose class row is missing has none.
     pub no_label : class_at rows r.class ≡ None → FoundLabel names rows r None
     unfolding class_missing
-    no_label f = rw (needs, f)
+    no_label f = rw (needs_class_row, f)
 
     module _ (label : Label) (letter : HasLetter label.type_name) (i : ℕ) (f : class_at rows r.class ≡ Some i) where
       -- The label of an object, from its class row.
       pub object_label : r.kind ≡ 2 → label.bytes ≡ (nth rows i).size → type_text label.type_name ≡ name_of names (nth rows i) → FoundLabel names rows r (Some label)
       unfolding class_missing bytes_of type_of naming_class found_row
-      object_label o b n = (rw (needs, f), record { bytes = rw (b, o, f); type_is = rw (n, o, f); letter = letter })
+      object_label o b n = (rw (needs_class_row, f), record { bytes = rw (b, o, f); type_is = rw (n, o, f); letter = letter })
 
       -- The label of an object array.
       pub array_label : (r.kind ≡ 2 → ⊥) → label.bytes ≡ 4 * r.size → type_text label.type_name ≡ object_array_type (name_of names (nth rows i)) → FoundLabel names rows r (Some label)
       unfolding class_missing bytes_of type_of naming_class found_row
       array_label o b n =
           let t : r.kind ≡ 3 = let a = k.least in let b = k.most in omega arith in
-          (rw (needs, f), record { bytes = b ∙ rw t; type_is = rw (n, t, f); letter = letter })
+          (rw (needs_class_row, f), record { bytes = b ∙ rw t; type_is = rw (n, t, f); letter = letter })
 
 -- The label that was found is the row's.
 pub label_found : {names : List ℕ} {rows : List Row} {r : Row} {found : Option Label} {label : Label} → found ≡ Some label → FoundLabel names rows r found → IsLabel names rows r label

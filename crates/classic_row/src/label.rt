@@ -3,11 +3,10 @@ ghost use Rattle.std.specs.Prelude.{◌≡◌, ◌<◌, eqb, get_or, length};
 ghost use Rattle.encode.specs.Wrote.{Wrote, HasRoom};
 ghost use Rattle.table.specs.Rows.{rows_of};
 ghost use Rattle.classic.specs.ClassicText.{primitive_array_type, object_array_type};
-ghost use Rattle.classic.specs.RowBounds.{RowNumbersInBounds, KnownKind};
-ghost use Rattle.class_index.specs.Tables.{SameTables};
+ghost use Rattle.classic.specs.RowBounds.{RowNumbersInBounds, KnownKind, AllNumbersInBounds};
+ghost use Rattle.class_index.specs.LastSearch.{ClassFound};
 ghost use Rattle.classic_row.specs.Label.{type_text, HasLetter, FoundLabel};
 
-use class_index::finder::ClassFinder;
 use encode::encoder::Encoder;
 use table::Row;
 
@@ -89,17 +88,19 @@ impl<'a> TypeName<'a> {
 }
 
 impl<'a> Label<'a> {
-    // Returns the label of a row, or `None` for an object or object array whose class row is missing.
-    pub fn of(finder: &mut ClassFinder<'a>, row: Row) -> Option<Label<'a>>
-        requires row_numbers_in_bounds { RowNumbersInBounds finder.old.names.now row }
+    // Returns the label of a row, or `None` for an object or object array whose class row is missing. `found` is the result of the
+    // search for the row's class word.
+    pub fn of(names: &'a [u8], rows: &[u64], row: Row, found: Option<usize>) -> Option<Label<'a>>
+        requires all_numbers_in_bounds { AllNumbersInBounds names.now (rows_of rows.now) }
+        requires row_numbers_in_bounds { RowNumbersInBounds names.now row }
         requires known_kind { KnownKind row }
-        ensures label { FoundLabel finder.old.names.now (rows_of finder.old.rows.now) row result }
-        ensures tables { SameTables finder.old finder.new }
+        requires class_found { ClassFound (rows_of rows.now) row found }
+        ensures { FoundLabel names.now (rows_of rows.now) row result }
     {
         if row.kind == 1 {
             return Some(Label {
                 bytes: 0,
-                type_name: TypeName::Name(classic::name_of(finder.names, row)),
+                type_name: TypeName::Name(classic::name_of(names, row)),
             });
         }
         let array_bytes = 4 * row.size;
@@ -109,12 +110,11 @@ impl<'a> Label<'a> {
                 type_name: TypeName::PrimitiveArray(row.prim),
             });
         }
-        let rows = finder.rows;
-        let Some(i) = finder.find(row.class) else {
+        let Some(i) = found else {
             return None;
         };
         let class = table::row_at(rows, i);
-        let name = classic::name_of(finder.names, class);
+        let name = classic::name_of(names, class);
         if row.kind == 2 {
             Some(Label {
                 bytes: class.size,

@@ -1,10 +1,10 @@
 // Encodes numbers as digits. The bytes that each function encodes are a definition of specs/Digits.antt.
 #![tactic(auto)]
 
-ghost use Rattle.std.specs.Prelude.{◌≡◌, ◌+◌, ◌≤◌, ◌++◌, length};
-ghost use Rattle.std.proofs.lemmas.List.Edits.{sets};
+ghost use Rattle.std.specs.Prelude.{◌≡◌, ◌++◌};
 ghost use Rattle.io.specs.Digits.{last_digits};
 ghost use Rattle.encode.specs.Encode.{be};
+ghost use Rattle.encode.specs.Writes.{Writes, HasCapacity};
 ghost use Rattle.encode.specs.Wrote.{Wrote, HasRoom};
 ghost use Rattle.digits.specs.Digits.{upper_digits, digit_count, decimal};
 
@@ -30,16 +30,18 @@ pub fn encode_hex8(e: &mut Encoder, n: u64)
     e.be(8, hex8_characters(n));
 }
 
-// Stores the last k digits of a number in base ten at an offset.
-fn store_digits(out: &mut [u8], at: usize, k: usize, n: u64)
-    requires { at + k ≤ length out.old }
-    ensures { out.new ≡ sets out.old at (last_digits 10 k n) }
+// Stores the last k digits of a number in base ten at an offset, and returns the offset after them.
+#[tactic(auto, using(crate::specs::DigitLengths::length_digits))]
+fn store_digits(out: &mut [u8], at: usize, k: usize, n: u64) -> usize
+    requires { HasCapacity out.old at (last_digits 10 k n) }
+    ensures { Writes out.old at (last_digits 10 k n) out.new result }
 {
     let mut rest = n;
     for i in (0..k).rev() {
         out[at + i] = b'0' + (rest % 10) as u8;
         rest /= 10;
     }
+    at + k
 }
 
 // Returns how many digits a number has in base ten.
@@ -62,8 +64,7 @@ pub fn encode_decimal(e: &mut Encoder, n: u64)
     ensures { Wrote e.old e.new (decimal n) }
 {
     let k = digit_count(n);
-    store_digits(e.out, e.at, k, n);
-    e.at += k;
+    e.at = store_digits(e.out, e.at, k, n);
 }
 
 // Encodes a text, then a number in base ten.

@@ -1,10 +1,11 @@
 // An encoder: an output and the offset of the next byte. Each method writes bytes at that offset, changes nothing else, and moves
 // the offset past them.
-ghost use Rattle.std.specs.Prelude.{◌≡◌, ◌+◌, ◌≤◌, [], ◌∷◌, length};
-ghost use Rattle.std.proofs.lemmas.List.Edits.{sets};
+ghost use Rattle.std.specs.Prelude.{◌≤◌, [], ◌∷◌};
 ghost use Rattle.encode.specs.Writes.{Writes, HasCapacity};
 ghost use Rattle.encode.specs.Wrote.{Wrote, HasRoom};
 ghost use Rattle.encode.specs.Encode.{be, encode_ref_list};
+
+use super::slices;
 
 // An output, and the offset of the next byte to write.
 #[derive(Drop)]
@@ -23,13 +24,13 @@ impl Encoder<'_> {
         self.at += 1;
     }
 
-    // Writes the given bytes.
+    // Writes the given bytes. It is always inlined, as `ref_list` is: an encoder that a call is given by reference lies in memory.
+    #[inline(always)]
     pub fn bytes(&mut self, bytes: &[u8])
         requires { HasRoom self.old bytes.now }
         ensures { Wrote self.old self.new bytes.now }
     {
-        store(self.out, self.at, bytes);
-        self.at += bytes.len();
+        self.at = slices::store_bytes(self.out, self.at, bytes);
     }
 
     // Writes the lowest n bytes of a number, the highest first.
@@ -43,6 +44,7 @@ impl Encoder<'_> {
     }
 
     // Writes references, w bytes each, for a record at address a.
+    #[inline(always)]
     pub fn ref_list(&mut self, w: usize, a: u64, refs: &[u64])
         requires { HasRoom self.old (encode_ref_list w a refs.now) }
         ensures { Wrote self.old self.new (encode_ref_list w a refs.now) }
@@ -64,53 +66,49 @@ fn write_refs(out: &mut [u8], at: usize, w: usize, a: u64, refs: &[u64]) -> usiz
     e.at
 }
 
-// Stores bytes at an offset.
-fn store(out: &mut [u8], at: usize, bytes: &[u8])
-    requires { at + length bytes.now ≤ length out.old }
-    ensures { out.new ≡ sets out.old at bytes.now }
-{
-    out[at..at + bytes.len()].copy_from_slice(bytes);
-}
-
-// Stores the lowest N bytes of a number, the highest first.
-fn store_be<const N: usize>(out: &mut [u8], at: usize, value: u64)
+// Stores the lowest N bytes of a number, the highest first, and returns the offset after them, as the functions below do.
+fn store_be<const N: usize>(out: &mut [u8], at: usize, value: u64) -> usize
     requires has_bytes { N ≤ 8 }
-    requires in_bounds { at + N ≤ length out.old }
-    ensures { out.new ≡ sets out.old at (be N value) }
+    requires has_capacity { HasCapacity out.old at (be N value) }
+    ensures { Writes out.old at (be N value) out.new result }
 {
-    store(out, at, &value.to_be_bytes()[8 - N..]);
+    slices::store(out, at, &value.to_be_bytes()[8 - N..])
 }
 
 // Stores the lowest n bytes of a number for any n, byte by byte from the last to the first. It copies no slice: a call of memcpy
 // here, on the path that no dump needs, keeps the registers of the fast paths from the loop around them.
-fn store_any_width(out: &mut [u8], at: usize, n: usize, value: u64)
-    requires { at + n ≤ length out.old }
-    ensures { out.new ≡ sets out.old at (be n value) }
+#[tactic(auto, using(crate::specs::NumberRoundTrip::length_be))]
+fn store_any_width(out: &mut [u8], at: usize, n: usize, value: u64) -> usize
+    requires { HasCapacity out.old at (be n value) }
+    ensures { Writes out.old at (be n value) out.new result }
 {
     let mut rest = value;
     for i in (0..n).rev() {
         out[at + i] = (rest % 256) as u8;
         rest /= 256;
     }
+    at + n
 }
 
 // Stores the lowest n bytes of a number, the highest first, with fast paths for 1, 2, 4 and 8 bytes. They are no `match`, which is
 // compiled to a jump table: with it, writing a dump takes a third longer.
-fn store_number(out: &mut [u8], at: usize, n: usize, value: u64)
-    requires { at + n ≤ length out.old }
-    ensures { out.new ≡ sets out.old at (be n value) }
+fn store_number(out: &mut [u8], at: usize, n: usize, value: u64) -> usize
+    requires { HasCapacity out.old at (be n value) }
+    ensures { Writes out.old at (be n value) out.new result }
 {
     if n < 2 {
         if n == 1 {
-            store_be::<1>(out, at, value);
+            store_be::<1>(out, at, value)
+        } else {
+            at
         }
     } else if n == 2 {
-        store_be::<2>(out, at, value);
+        store_be::<2>(out, at, value)
     } else if n == 4 {
-        store_be::<4>(out, at, value);
+        store_be::<4>(out, at, value)
     } else if n == 8 {
-        store_be::<8>(out, at, value);
+        store_be::<8>(out, at, value)
     } else {
-        store_any_width(out, at, n, value);
+        store_any_width(out, at, n, value)
     }
 }

@@ -6,6 +6,7 @@ ghost use Rattle.std.specs.Prelude.{◌≡◌, cond, pos, negsuc, leb};
 ghost use Rattle.encode.specs.Encode.{gap, twos_complement, width_code, refs_code};
 
 pub mod encoder;
+mod slices;
 
 // Returns the distance from one address to another, in units of 4 bytes: n for a gap of n, and for a gap of -1 - n.
 #[tactic(auto, unfolding(crate::specs::Encode::gap))]

@@ -51,6 +51,7 @@ fn encode_dump(good: GoodTables, out: &mut [u8]) -> usize
 
 // Writes the whole rows of a table and their references as a dump at the start of the output, and returns its length. Output
 // bytes after the dump are unchanged; a refusal changes no byte.
+#[tactic(auto, using(crate::proofs::CheckedFirst::checks_first))]
 pub fn write(tables: Tables, out: &mut [u8]) -> Result<usize, Refusal>
     ensures is { answer_of result ≡ (write_of tables.entry (length out.old)).answer }
     ensures out { out.new ≡ overwrite out.old (write_of tables.entry (length out.old)).bytes }

@@ -2,7 +2,6 @@
 use Rattle.std.proofs.Common.{ℕ, ◌+◌, ◌^◌, ◌<◌, ◌≤◌, arith}
 use Rattle.digits.specs.Digits.{digit_count}
 use Rattle.digits.specs.DigitLengths.{digit_count_le_20}
-use Rattle.phd_counts.specs.declared.Tally.{Tally}
 use Rattle.classic_write.specs.TextSizes.{length_trailers}
 use Rattle.classic_write.proofs.trailers.trailers_size.Goals as goal
 

@@ -1,5 +1,6 @@
 use Rattle.std.proofs.Common.{◌≡◌, ◌∙◌, sym, arith}
 use Rattle.encode.specs.Encode.{be}
+use Rattle.encode.specs.NumberRoundTrip.{length_be}
 use Rattle.encode.proofs.EncodeLaws.{be_step}
 use Rattle.encode.proofs.encoder.store_any_width.Goals as goal
 
@@ -10,4 +11,6 @@ loop-i-preserved c =
 
 pub returns : goal.returns
 unfolding be
-returns c = let e : c.loop-i.i ≡ 0 = omega arith in rw e at c.loop-i.invariant
+returns c =
+    let e : c.loop-i.i ≡ 0 = omega arith in
+    record { out = rw e at c.loop-i.invariant; place = omega (arith, length_be c.args.n c.args.value) }

@@ -43,11 +43,11 @@ encode_trailers-requires-clause-has_room c =
     let t = s.good.tables in
     let l = text_room t.header t.names.now t.refs.now (rows_of t.rows.now) _ c.requires.checked.tally_is in
     let room = c.requires.has_room in
-    let p = rw (s.names, s.rows) at c.encode_rows_text.ensures.text.place in
+    let p = rw (s.names, s.rows) at c.encode_rows_text.ensures.place in
     omega arith
 
 pub returns : goal.returns
 returns c =
     let s = c.args.self.now in
     let t = s.good.tables in
-    text_encoded t.header t.names.now t.refs.now (rows_of t.rows.now) _ c.requires.checked.tally_is c.encode_version.ensures (rw (s.names, s.rows) at c.encode_rows_text.ensures.text) c.encode_trailers.ensures
+    text_encoded t.header t.names.now t.refs.now (rows_of t.rows.now) _ c.requires.checked.tally_is c.encode_version.ensures (rw (s.names, s.rows) at c.encode_rows_text.ensures) c.encode_trailers.ensures

@@ -23,28 +23,28 @@ rows_text_size-requires-clause-rows_bound c =
 pub rows_text_size-requires-clause-count_bounds : goal.rows_text_size-requires-clause-count_bounds
 rows_text_size-requires-clause-count_bounds c = let s = c.args.self.now in rw s.rows (exact_counts _ _ _ _ s.good.good).few
 
-pub returns-in_err-bytes-clause-size : goal.returns-in_err-bytes-clause-size
-returns-in_err-bytes-clause-size c =
+pub returns-in_err-bytes : goal.returns-in_err-bytes
+returns-in_err-bytes c =
     let s = c.args.self.now in
-    rw (passed_on c.from_residual.ensures) (class_refusal _ _ _ _ s.good.good _ _ _ (rw (s.names, s.rows) at c.in_err-bytes.ensures.size))
+    rw (passed_on c.from_residual.ensures) (class_refusal _ _ _ _ s.good.good _ _ _ (rw (s.names, s.rows) at c.in_err-bytes.ensures))
 
 pub trailers_size-requires : goal.trailers_size-requires
 trailers_size-requires c =
     let s = c.args.self.now in
-    let k = size_has_classes _ _ _ _ (rw (s.names, s.rows) at c.in_ok-bytes.ensures.size) in
+    let k = size_has_classes _ _ _ _ (rw (s.names, s.rows) at c.in_ok-bytes.ensures) in
     tally_bound_of _ _ _ _ _ k.2 s.good.good
 
 pub overflow_add-result : goal.overflow_add-result
 overflow_add-result c =
     let s = c.args.self.now in
-    let k = size_has_classes _ _ _ _ (rw (s.names, s.rows) at c.in_ok-bytes.ensures.size) in
+    let k = size_has_classes _ _ _ _ (rw (s.names, s.rows) at c.in_ok-bytes.ensures) in
     let z = size_lt _ _ _ _ _ k.2 s.good.good _ _ _ c.version_size-first.ensures k.1 c.trailers_size.ensures in
     omega arith
 
-pub returns-clause-size : goal.returns-clause-size
-returns-clause-size c =
+pub returns : goal.returns
+returns c =
     let s = c.args.self.now in
-    let k = size_has_classes _ _ _ _ (rw (s.names, s.rows) at c.in_ok-bytes.ensures.size) in record {
+    let k = size_has_classes _ _ _ _ (rw (s.names, s.rows) at c.in_ok-bytes.ensures) in record {
       classes = k.0;
       size_is = size_is _ _ _ _ _ k.2 s.good.good _ _ _ c.version_size-first.ensures k.1 c.trailers_size.ensures;
       tally_is = k.2;
