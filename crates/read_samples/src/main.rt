@@ -14,9 +14,7 @@
 // For a file of 4,096 bytes or more, the size of the buffer, it prints `too large` instead.
 #![tactic(auto)]
 
-ghost use Rattle.std.specs.Prelude.{◌<◌, length};
-
-use samples_print::{Numbers, ReadAnswerText, Reading, print_files, unchanged_text};
+use samples_print::{ReadAnswerText, Reading, print_files, unchanged_text};
 use std::io;
 
 // The length of the row table: 48 rows and five numbers, too few for another row.
@@ -28,30 +26,51 @@ const REFS: usize = 70;
 // The capacity for a file.
 const BYTES: usize = 4096;
 
-// Reads every cut of a dump, from 0 bytes on, and stores the missing bytes of each. Prints an answer if it differs from the one
-// before in more than the missing bytes. Returns whether all of the readings left the rest of the tables unchanged.
-fn print_cuts(rt: &impl Print, dump: &[u8], missing: &mut [usize]) -> io::Result<bool>
-    requires { length dump.now < length missing.old }
-{
-    let mut rows = [0; ROWS];
-    let mut refs = [0; REFS];
+// Reads every cut of a dump, from 0 bytes on, into the tables. Prints an answer if it differs from the one before in more than the
+// missing bytes. Returns whether all of the readings left the rest of the tables unchanged.
+fn print_cuts(
+    rt: &impl Print,
+    dump: &[u8],
+    rows: &mut [u64],
+    refs: &mut [u64],
+) -> io::Result<bool> {
     let mut last = None;
     let mut unchanged = true;
     for n in 0..=dump.len() {
-        let cut = Reading::of(&dump[..n], &mut rows, &mut refs);
+        let cut = Reading::of(&dump[..n], rows, refs);
         let r = cut.answer;
         let printed = Some((r.reply, r.place, r.rows, r.refs, r.header.bits));
         if printed != last {
             println!(rt; "cut {n} {}", ReadAnswerText(r))?;
         }
         last = printed;
-        missing[n] = r.missing;
         unchanged = unchanged && cut.unchanged;
     }
     Ok(unchanged)
 }
 
-// Prints everything for one dump.
+// Reads every cut of a dump again, and prints the missing bytes of each.
+fn print_missing(
+    rt: &impl Print,
+    dump: &[u8],
+    rows: &mut [u64],
+    refs: &mut [u64],
+) -> io::Result<()> {
+    for n in 0..=dump.len() {
+        let cut = Reading::of(&dump[..n], rows, refs);
+        if n % 32 == 0 {
+            print!(rt; "missing")?;
+        }
+        print!(rt; " {}", cut.answer.missing)?;
+        if n % 32 == 31 || n == dump.len() {
+            println!(rt; "")?;
+        }
+    }
+    Ok(())
+}
+
+// Prints everything for one dump. All readings have the same tables: the missing bytes of the cuts are not kept but read again, so
+// that the stack holds no more than these.
 fn print_sample(rt: &impl Print, dump: &[u8]) -> io::Result<()> {
     if BYTES <= dump.len() {
         return println!(rt; "too large");
@@ -60,11 +79,9 @@ fn print_sample(rt: &impl Print, dump: &[u8]) -> io::Result<()> {
     let mut refs = [0; REFS];
     let whole = Reading::of(dump, &mut rows, &mut refs);
     print!(rt; "{whole}")?;
-    let mut missing = [0; BYTES];
-    let unchanged = print_cuts(rt, dump, &mut missing)? && whole.unchanged;
-    for line in missing[..=dump.len()].chunks(32) {
-        println!(rt; "missing{}", Numbers(line))?;
-    }
+    let first_unchanged = whole.unchanged;
+    let unchanged = print_cuts(rt, dump, &mut rows, &mut refs)? && first_unchanged;
+    print_missing(rt, dump, &mut rows, &mut refs)?;
     println!(rt; "rest {}", unchanged_text(unchanged))
 }
 

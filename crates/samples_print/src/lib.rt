@@ -130,7 +130,7 @@ impl UndecodedBytes<'_> {
 }
 
 // Returns how many numbers n elements of `width` numbers take, at most the length of the table.
-fn used_numbers(table: &[u64], n: usize, width: usize) -> usize
+pub fn used_numbers(table: &[u64], n: usize, width: usize) -> usize
     ensures { result ≡ min (n * width) (length table.now) }
 {
     n.saturating_mul(width).min(table.len())
@@ -212,10 +212,13 @@ impl fmt::Display for AnswerText {
 }
 
 // Returns how many bytes a writer wrote: 0 if it refused, and at most the length of the output.
-pub fn written_bytes(written: Result<usize, Refusal>, out: &[u8]) -> usize
+pub fn written_bytes(answer: Answer, out: &[u8]) -> usize
     ensures { IsPrefixLen result out.now }
 {
-    written.unwrap_or(0).min(out.len())
+    if answer.reply != 0 {
+        return 0;
+    }
+    answer.place.min(out.len())
 }
 
 // Prints, for each file that the program's arguments name, its name, and then what `print` prints for its bytes, as many as the
@@ -241,7 +244,7 @@ pub fn print_files<R: Env + Files + Print + Eprint + Alloc, F: Fn(&[u8]) -> io::
 }
 
 // Prints a line to standard error: the name of a file, a colon, and the system's text for why it cannot be opened.
-fn print_failure(rt: &(impl Eprint + Alloc), name: &str, error: io::Error) -> io::Result<()> {
+pub fn print_failure(rt: &(impl Eprint + Alloc), name: &str, error: io::Error) -> io::Result<()> {
     let text = error.to_string(rt.alloc())?;
     let text = text.as_str();
     let reason = text
@@ -252,7 +255,7 @@ fn print_failure(rt: &(impl Eprint + Alloc), name: &str, error: io::Error) -> io
 
 // Reads until the buffer is full, the file ends or a read fails, and returns how many bytes it put at the start of the buffer.
 // The programs need this loop: `read_exact` and `read_to_end` of the library read again after a read that a signal interrupted.
-fn read_full(file: &mut impl Read, buffer: &mut [u8]) -> usize
+pub fn read_full(file: &mut impl Read, buffer: &mut [u8]) -> usize
     ensures { IsPrefixLen result buffer.new }
 {
     let mut done = 0;

@@ -21,6 +21,7 @@ use samples_print::{
     AnswerText, ReadAnswerText, Reading, is_unchanged, print_files, unchanged_text, written_bytes,
 };
 use std::io;
+use table::Answer;
 
 // The length of the row table: 128 rows, and one number too few for another.
 const ROWS: usize = 129 * table::ROW_WIDTH - 1;
@@ -48,7 +49,7 @@ fn print_with_capacity(
     let written = classic_write::text(tables, out);
     let outcome = if written.is_err() {
         unchanged_text(is_unchanged(out, UNTOUCHED))
-    } else if &out[..written_bytes(written, out)] == text {
+    } else if &out[..written_bytes(Answer::from(written), out)] == text {
         "same"
     } else {
         "other"
@@ -62,13 +63,16 @@ fn print_text_of(rt: &impl Print, tables: Tables, out: &mut [u8]) -> io::Result<
     println!(rt; "size {}", AnswerText(classic_write::text_size(tables)))?;
     let written = classic_write::text(tables, out);
     println!(rt; "text {}", AnswerText(written))?;
-    let (text, rest) = out.split_at(written_bytes(written, out));
+    let (text, rest) = out.split_at(written_bytes(Answer::from(written), out));
     rt.write_all(text)?;
     println!(rt; "rest {}", unchanged_text(is_unchanged(rest, UNTOUCHED)))?;
     let n = text.len();
-    print_with_capacity(rt, tables, text, n, &mut [UNTOUCHED; BYTES])?;
+    // One output for both: two of them would take that much more stack.
+    let mut again = [UNTOUCHED; BYTES];
+    print_with_capacity(rt, tables, text, n, &mut again)?;
     if 0 < n {
-        print_with_capacity(rt, tables, text, n - 1, &mut [UNTOUCHED; BYTES])?;
+        again.fill(UNTOUCHED);
+        print_with_capacity(rt, tables, text, n - 1, &mut again)?;
     }
     Ok(())
 }

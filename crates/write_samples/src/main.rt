@@ -22,6 +22,7 @@ use samples_print::{
     AnswerText, Reading, UndecodedBytes, is_unchanged, print_files, unchanged_text, written_bytes,
 };
 use std::{fmt, io};
+use table::Answer;
 use tables::Head;
 
 // The number of bytes in a line.
@@ -87,7 +88,7 @@ fn print_dump_of(rt: &impl Print, tables: Tables, out: &mut [u8]) -> io::Result<
     println!(rt; "size {}", AnswerText(phd_write::write_size(tables)))?;
     let written = phd_write::write(tables, out);
     println!(rt; "{}", AnswerText(written))?;
-    let (dump, rest) = out.split_at(written_bytes(written, out));
+    let (dump, rest) = out.split_at(written_bytes(Answer::from(written), out));
     print_bytes(rt, dump)?;
     println!(rt; "rest {}", unchanged_text(is_unchanged(rest, UNTOUCHED)))?;
     if written.is_ok() {
