@@ -78,12 +78,12 @@ search_after_holds rows r last next h e = rw e (by (needs_class r))
     by false = h
 
 -- The same class word gives the same row: a last search for a class word is the search for it among all rows.
-pub same_class_same_row : (rows : List Row) (last : Option LastSearch) (search : LastSearch) (class : ℕ) → LastSearchHolds rows last → last ≡ Some search → search.class ≡ class → Some search.row ≡ class_at rows class
-same_class_same_row rows last search class h e f = rw (← f) (sym (h.found search e))
+pub same_class_same_row : (rows : List Row) (last : Option LastSearch) (search : LastSearch) (class : ℕ) → LastSearchHolds rows last → last ≡ Some search → search.class ≡ class → last ≡ search_for rows class
+same_class_same_row rows last search class h e f = rw (e, ← f, h.found search e)
 
--- The same, of the searches.
-pub same_class_same_search : (rows : List Row) (last : Option LastSearch) (search : LastSearch) (class : ℕ) → LastSearchHolds rows last → last ≡ Some search → search.class ≡ class → last ≡ search_for rows class
-same_class_same_search rows last search class h e f = rw (e, ← f, h.found search e)
+-- Its row is the class row of the class word.
+pub last_row_is_class_row : (rows : List Row) (last : Option LastSearch) (search : LastSearch) (class : ℕ) → LastSearchHolds rows last → last ≡ Some search → search.class ≡ class → Some search.row ≡ class_at rows class
+last_row_is_class_row rows last search class h e f = rw (← f) (sym (h.found search e))
 
 -- The result of the class search that a row's lines need: of an object or object array, that for its class word; of another row
 -- nothing.

@@ -155,6 +155,7 @@ fn find_class(rows: &[u64], certified: Option<&[u32]>, address: u64) -> Option<u
 
 // Returns the search for a class word, or `None` if no class row has it. Looks at the last search first: if it was for the same class
 // word, it is that search.
+#[tactic(auto, using(crate::specs::LastSearch::same_class_same_row))]
 pub fn search_class(
     rows: &[u64],
     certified: Option<&[u32]>,
