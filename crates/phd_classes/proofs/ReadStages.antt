@@ -1,6 +1,6 @@
 -- A reading with class summaries, batch by batch, as the loop of `read_from` goes.
 -- Assumes nothing.
-use Rattle.std.proofs.Common.{◌≡◌, ◌⊎◌, ℕ, ◌+◌, ◌-◌, ◌*◌, ◌≤◌, false, List, length, take, drop, inl, inr, refl, sym, ap, subst, ◌∙◌, arith}
+use Rattle.std.proofs.Common.{◌≡◌, ◌⊎◌, ℕ, ◌+◌, ◌-◌, ◌*◌, ◌≤◌, false, List, [], length, take, drop, inl, inr, refl, sym, ap, subst, ◌∙◌, arith}
 use Rattle.std.specs.Prelude.{replicate, Result as Res, Ok, Err}
 use Rattle.std.proofs.Math.Seq.{length-take-le, drop-drop}
 use Rattle.table.specs.Buffer.{overwrite}
@@ -262,10 +262,12 @@ module _ (dump rows₀ refs₀ : List ℕ) (classes₀ : List Summary) where
         list = rw (← entries_are) (overwrite_first classes' classes₀ s.tally.used used_classes (z.rest ∙ st.rest));
       }
 
--- A reading that ends before the first record leaves tables and list as they are.
-pub refused_finished : {dump : List ℕ} {a : ClassesAnswer} → Refused dump a → (rows refs : List ℕ) (classes : List Summary) → Finished dump rows refs classes a rows refs classes
+-- A reading without rows and references leaves tables and list as they are.
+pub no_rows_finished : {dump : List ℕ} {a : ClassesAnswer} (rows refs : List ℕ) (classes : List Summary) → let result = classes_result dump (length rows) (length refs) (length classes) in
+    a ≡ classes_answer result → result.rows ≡ [] → result.refs ≡ [] → Finished dump rows refs classes a rows refs classes
 unfolding overwrite rows_of rows_from row_count summaries keys keys_from
-refused_finished r rows refs classes =
-    let x = refused_rows r (length rows) (length refs) (length classes) in
-    let y = refused_refs r (length rows) (length refs) (length classes) in
-    record { answer = refused_answer r _ _ _; row_table = rw x; ref_table = rw y; list = rw x }
+no_rows_finished rows refs classes is no_rows no_refs = record { answer = is; row_table = rw no_rows; ref_table = rw no_refs; list = rw no_rows }
+
+-- So does a reading that ends before the first record.
+pub refused_finished : {dump : List ℕ} {a : ClassesAnswer} → Refused dump a → (rows refs : List ℕ) (classes : List Summary) → Finished dump rows refs classes a rows refs classes
+refused_finished r rows refs classes = no_rows_finished rows refs classes (refused_answer r _ _ _) (refused_rows r _ _ _) (refused_refs r _ _ _)
